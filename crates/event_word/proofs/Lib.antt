@@ -1,0 +1,11 @@
+pub mod Lists
+pub mod Keeps
+pub mod Sizes
+pub mod Histories
+pub mod Frames
+pub mod Owing
+pub mod Rooms
+pub mod Stored
+pub mod Playing
+pub mod Following
+pub mod Counts

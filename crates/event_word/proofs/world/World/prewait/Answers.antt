@@ -1,0 +1,56 @@
+use Rattle.std.proofs.Common.{arith, refl, length-set}
+use Rattle.event_word.specs.Step.{Possible}
+use Rattle.event_word.specs.Stored.{world_view}
+use Rattle.event_word.specs.declared.event.Event.TheVariants.{Prewait}
+use Rattle.event_word.proofs.Stored.{stored_step, nobody_announces, room_to_prewait, prewait_view, stepped, free_same}
+use Rattle.event_word.proofs.world.World.prewait.Goals as goal
+
+pub push_reserved-requires : goal.push_reserved-requires
+push_reserved-requires g c =
+    let i = c.self.inside in let s = c.self.invariant in
+    let p : Possible (world_view i) (Prewait c.args.seat) = (
+      omega (arith, i.phases.ok.0),
+      (
+        free_same _ _ _ _ c.self.view_is c.from.ensures
+            (c.is_free.ensures.0 c.if-not-is_free.false),
+        nobody_announces i s c.args.seat,
+      ),
+    ) in
+    room_to_prewait i s c.args.seat p
+
+pub invariant_of-self : goal.invariant_of-self
+invariant_of-self g c =
+    let i = c.self.inside in let s = c.self.invariant in
+    let p : Possible (world_view i) (Prewait c.args.seat) = (
+      omega (arith, i.phases.ok.0),
+      (
+        free_same _ _ _ _ c.self.view_is c.from.ensures
+            (c.is_free.ensures.0 c.if-not-is_free.false),
+        nobody_announces i s c.args.seat,
+      ),
+    ) in
+    stored_step i s _ (Prewait c.args.seat) p
+    (prewait_view i s c.args.seat _ _ c.from-place.ensures c.push_reserved.ensures.items)
+    (record {
+      workers = length-set i.phases.items _ _;
+      notifiers = refl;
+      pre = omega (arith, c.push_reserved.ensures.capacity);
+      stack = omega arith;
+      owed = omega arith;
+      known = s.known;
+      stop = refl;
+    })
+
+pub returns : goal.returns
+returns g c =
+    let i = c.self.inside in let s = c.self.invariant in
+    let p : Possible (world_view i) (Prewait c.args.seat) = (
+      omega (arith, i.phases.ok.0),
+      (
+        free_same _ _ _ _ c.self.view_is c.from.ensures
+            (c.is_free.ensures.0 c.if-not-is_free.false),
+        nobody_announces i s c.args.seat,
+      ),
+    ) in
+    stepped i _ _ (Prewait c.args.seat) c.self.view_is tt p
+    (prewait_view i s c.args.seat _ _ c.from-place.ensures c.push_reserved.ensures.items)

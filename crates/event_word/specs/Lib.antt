@@ -1,0 +1,12 @@
+pub mod Fields
+pub mod Word
+pub mod Lists
+pub mod World
+pub mod Step
+pub mod Lawful
+pub mod Runs
+pub mod Frame
+pub mod Debts
+pub mod Stored
+pub mod Play
+pub mod Shown

@@ -1,0 +1,22 @@
+-- Sums over lists, and numbers in lists.
+use Rattle.std.specs.Prelude.{ℕ, ◌+◌, ◌==◌, if◌then◌else◌, Bool, true, false, List, [], ◌∷◌}
+
+-- 1 where the test holds, and else 0
+abbrev pub one_if : Bool → ℕ
+one_if true = 1
+one_if false = 0
+
+-- f of each element, added up
+abbrev pub total : {A : Type 0} → (A → ℕ) → List A → ℕ
+total f [] = 0
+total f (x ∷ xs) = f x + total f xs
+
+-- how often n stands in the list
+abbrev pub times : ℕ → List ℕ → ℕ
+times n [] = 0
+times n (x ∷ xs) = one_if (x == n) + times n xs
+
+-- the list without the first n
+abbrev pub without : ℕ → List ℕ → List ℕ
+without n [] = []
+without n (x ∷ xs) = if x == n then xs else x ∷ without n xs

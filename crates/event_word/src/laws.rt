@@ -1,0 +1,19 @@
+// Facts about the event model alone. Each function does nothing, and its contract is the fact.
+ghost use Rattle.event_word.specs.Frame.{EventsLeaveAlone};
+ghost use Rattle.event_word.specs.Runs.{RunsAreLawful};
+ghost use Rattle.event_word.specs.Shown.{WordFollowsWorld};
+
+/// Every list of events leads from an opening World to a lawful one.
+pub fn runs_are_lawful()
+    ensures { RunsAreLawful }
+{}
+
+/// An event changes nothing that is another actor's, but that it may give a seat its token.
+pub fn events_leave_others_alone()
+    ensures { EventsLeaveAlone }
+{}
+
+/// What the steps make of a word's fields is what the events make of the World that they show.
+pub fn word_follows_world()
+    ensures { WordFollowsWorld }
+{}

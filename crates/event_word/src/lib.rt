@@ -1,0 +1,22 @@
+//! The packed word of an event count, and the event model that proofs about waiting and waking
+//! stand on. The word's layout and its steps follow Eigen's EventCount.h, with 14-bit counts.
+#![tactic(auto)]
+
+mod after;
+mod event;
+mod laws;
+mod phase;
+#[cfg(test)]
+mod refusing;
+mod word;
+mod world;
+
+pub use after::{
+    AfterCommit, AfterNotify, AfterNotifyAll, after_cancel, after_commit, after_notify,
+    after_notify_all, after_pop, after_prewait,
+};
+pub use event::Event;
+pub use laws::{events_leave_others_alone, runs_are_lawful, word_follows_world};
+pub use phase::Phase;
+pub use word::{Fields, pack, unpack};
+pub use world::World;

@@ -1,0 +1,139 @@
+ghost use Rattle.std.specs.Prelude.{◌≡◌, ◌+◌, ◌<◌, ◌≤◌, IfOk, length, replicate, slice_get, slice_index, vec_len, vec_capacity};
+ghost use Rattle.event_word.specs.World.{phase_of, owed_by, has_token, length_of, opening_world};
+
+mod debts;
+mod step;
+#[cfg(test)]
+mod tests;
+
+use crate::phase::Phase;
+use debts::{Debt, nth_owed};
+use std::alloc::{AllocError, Allocator, Global};
+use std::marker::Model;
+
+/// An event count without threads: a pure machine whose steps are events. It takes all its memory
+/// when it is made.
+#[derive(Drop)]
+pub struct World<A: Allocator = Global> {
+    // Of each worker: its phase, whether it has passed the stop flag, and whether it has a token.
+    phases: Vec<Phase, A>,
+    flags: Vec<bool, A>,
+    tokens: Vec<bool, A>,
+    // The pre-waiters in order of arrival, and how many of them are answered.
+    pre: Vec<u16, A>,
+    signals: u64,
+    // The parked seats, top first.
+    stack: Vec<u16, A>,
+    owed: Vec<Debt, A>,
+    lengths: Vec<u64, A>,
+    notifiers: u16,
+    stop: u8,
+}
+
+impl<A: Allocator> Model for World<A> {
+    ghost use Rattle.event_word.specs.World.{World as PlainWorld};
+
+    ghost Value = { PlainWorld };
+
+    ghost use Rattle.event_word.specs.Stored.{world_view, IsStored};
+
+    ghost view = { world_view };
+
+    ghost invariant = { IsStored };
+}
+
+impl<A: Allocator> World<A> {
+    /// A World of this many workers, which all run, and this many notifiers. There are no rows yet.
+    pub fn new(alloc: A, workers: u16, notifiers: u16, rows: u16) -> Result<World<A>, AllocError>
+    where
+        A: Clone,
+        requires some { 1 ≤ workers }
+        requires few { workers ≤ 16382 }
+        requires no_rows { rows ≡ 0 }
+        ensures { IfOk result (λ w. w ≡ opening_world workers notifiers rows) }
+    {
+        let seats = usize::from(workers);
+        Ok(World {
+            phases: filled(alloc.clone()?, seats, Phase::Running)?,
+            flags: filled(alloc.clone()?, seats, false)?,
+            tokens: filled(alloc.clone()?, seats, false)?,
+            pre: Vec::with_capacity(alloc.clone()?, seats)?,
+            signals: 0,
+            stack: Vec::with_capacity(alloc.clone()?, seats)?,
+            owed: Vec::with_capacity(alloc.clone()?, seats)?,
+            lengths: filled(alloc, usize::from(rows), 0)?,
+            notifiers,
+            stop: 0,
+        })
+    }
+
+    /// The pre-waiting seats in order of arrival.
+    pub fn pre(&self) -> &[u16]
+        ensures { result.now ≡ self.now.pre }
+    {
+        &self.pre
+    }
+
+    /// How many pre-waiters are answered.
+    pub fn signals(&self) -> u64
+        ensures { result ≡ self.now.signals }
+    {
+        self.signals
+    }
+
+    /// The parked seats, top first.
+    pub fn stack(&self) -> &[u16]
+        ensures { result.now ≡ self.now.stack }
+    {
+        &self.stack
+    }
+
+    /// The seat at this place among those that the actor has popped and not unparked, the next
+    /// one at place 0.
+    pub fn owed(&self, actor: u32, place: usize) -> Option<u16>
+        requires { actor < length self.now.owed }
+        ensures { result ≡ slice_get (owed_by self.now actor) place }
+    {
+        nth_owed(&self.owed, actor, place)
+    }
+
+    /// The phase of a seat.
+    pub fn phase(&self, seat: u16) -> Phase
+        requires { seat < length self.now.phases }
+        ensures { result ≡ phase_of self.now seat }
+    {
+        self.phases[usize::from(seat)]
+    }
+
+    /// Whether a seat is unparked and has not taken its token.
+    pub fn token(&self, seat: u16) -> bool
+        requires { seat < length self.now.phases }
+        ensures { result ≡ has_token self.now seat }
+    {
+        self.tokens[usize::from(seat)]
+    }
+
+    /// How many jobs a row has.
+    pub fn length(&self, row: u16) -> u64
+        requires { row < length self.now.lengths }
+        ensures { result ≡ length_of self.now row }
+    {
+        self.lengths[usize::from(row)]
+    }
+
+    /// 0 at first, 1 where the workers are to end, and 2 once all of them were notified of that.
+    pub fn stop(&self) -> u8
+        ensures { result ≡ self.now.stop }
+    {
+        self.stop
+    }
+}
+
+/// A list of so many copies of the value.
+fn filled<T: Copy, A: Allocator>(alloc: A, len: usize, value: T) -> Result<Vec<T, A>, AllocError>
+    ensures { IfOk result (λ list. list.items ≡ replicate len value) }
+{
+    let mut list = Vec::with_capacity(alloc, len)?;
+    list.resize(len, value)?;
+    Ok(list)
+}

@@ -1,0 +1,208 @@
+// The events, one function each.
+ghost use Rattle.std.specs.Prelude.{◌≡◌, ◌<◌, ◌↔◌, ◌==◌, IsTrue, length, position, slice_index_or, vec_capacity};
+ghost use Rattle.event_word.specs.Lists.{without};
+ghost use Rattle.event_word.specs.Step.{IsFree};
+ghost use Rattle.event_word.specs.Play.{IsStep, Plays, SameSizes};
+
+use super::World;
+use super::debts::{Debt, first_owed, owe_all};
+use crate::event::Event;
+use crate::phase::Phase;
+use std::alloc::Allocator;
+
+impl<A: Allocator> World<A> {
+    /// Takes a step. False: the event isn't possible now, and nothing changed.
+    pub fn step(&mut self, event: Event) -> bool
+        ensures step { IsStep self.old event result self.new }
+        ensures sizes { SameSizes self.old self.new }
+    {
+        self.take_step(event)
+    }
+
+    /// Takes the events in turn, and answers how many were possible.
+    pub fn play(&mut self, events: &[Event]) -> u64
+        ensures plays { Plays self.old events.now result self.new }
+        ensures sizes { SameSizes self.old self.new }
+    {
+        let mut taken = 0;
+        for event in events {
+            if self.step(*event) {
+                taken += 1;
+            }
+        }
+        taken
+    }
+
+    fn take_step(&mut self, event: Event) -> bool
+        ensures { IsStep self.old event result self.new }
+    {
+        match event {
+            Event::Prewait { seat } => self.prewait(seat),
+            Event::PassFlag { seat } => self.pass_flag(seat),
+            Event::Cancel { seat } => self.cancel(seat),
+            Event::Commit { seat } => self.commit(seat),
+            Event::Notify { actor } => self.notify(actor),
+            Event::NotifyAll { actor } => self.notify_all(actor),
+            Event::Unpark { actor } => self.unpark(actor),
+            Event::Wake { seat } => self.wake(seat),
+            // These need rows or a stop, and there are none yet.
+            Event::Publish { actor: _, row: _ } => false,
+            Event::Pass { seat: _, row: _ } => false,
+            Event::Take { actor: _, row: _ } => false,
+            Event::Stop { actor: _ } => false,
+            Event::End { seat: _ } => false,
+        }
+    }
+
+    // Whether the actor owes nothing, and runs if it is a worker.
+    fn is_free(&self, actor: u32) -> bool
+        ensures { IsTrue result ↔ IsFree self.now actor }
+    {
+        let place = actor as usize;
+        if place >= self.phases.len() + usize::from(self.notifiers) {
+            return false;
+        }
+        if !runs_if_worker(&self.phases, place) {
+            return false;
+        }
+        first_owed(&self.owed, actor).is_none()
+    }
+
+    fn prewait(&mut self, seat: u16) -> bool
+        ensures { IsStep self.old (Event.Prewait seat) result self.new }
+    {
+        let place = usize::from(seat);
+        if place >= self.phases.len() || !self.is_free(u32::from(seat)) {
+            return false;
+        }
+        self.phases[place] = Phase::Pre;
+        self.flags[place] = false;
+        self.pre.push_reserved(seat);
+        true
+    }
+
+    fn pass_flag(&mut self, seat: u16) -> bool
+        ensures { IsStep self.old (Event.PassFlag seat) result self.new }
+    {
+        let place = usize::from(seat);
+        if !is_in(&self.phases, place, Phase::Pre) {
+            return false;
+        }
+        self.flags[place] = true;
+        true
+    }
+
+    fn cancel(&mut self, seat: u16) -> bool
+        ensures { IsStep self.old (Event.Cancel seat) result self.new }
+    {
+        let place = usize::from(seat);
+        if !is_in(&self.phases, place, Phase::Pre) {
+            return false;
+        }
+        // Each pre-waiter but this one can keep its signal.
+        self.signals = self.signals.min(self.pre.len() as u64 - 1);
+        self.phases[place] = Phase::Running;
+        take_out(&mut self.pre, seat);
+        true
+    }
+
+    fn commit(&mut self, seat: u16) -> bool
+        ensures { IsStep self.old (Event.Commit seat) result self.new }
+    {
+        let place = usize::from(seat);
+        if !is_in(&self.phases, place, Phase::Pre) || !self.flags[place] {
+            return false;
+        }
+        take_out(&mut self.pre, seat);
+        if self.signals > 0 {
+            self.signals -= 1;
+            self.phases[place] = Phase::Running;
+        } else {
+            self.phases[place] = Phase::Stacked;
+            self.stack.insert(0, seat).unwrap();
+        }
+        true
+    }
+
+    fn notify(&mut self, actor: u32) -> bool
+        ensures { IsStep self.old (Event.Notify actor) result self.new }
+    {
+        if !self.is_free(actor) {
+            return false;
+        }
+        if self.signals < self.pre.len() as u64 {
+            self.signals += 1;
+        } else if !self.stack.is_empty() {
+            let seat = self.stack.remove(0);
+            self.owed.push_reserved(Debt { actor, seat });
+        }
+        true
+    }
+
+    fn notify_all(&mut self, actor: u32) -> bool
+        ensures { IsStep self.old (Event.NotifyAll actor) result self.new }
+    {
+        if !self.is_free(actor) {
+            return false;
+        }
+        self.signals = self.pre.len() as u64;
+        owe_all(&mut self.owed, actor, &self.stack);
+        self.stack.clear();
+        true
+    }
+
+    fn unpark(&mut self, actor: u32) -> bool
+        ensures { IsStep self.old (Event.Unpark actor) result self.new }
+    {
+        let Some(place) = first_owed(&self.owed, actor) else {
+            return false;
+        };
+        let debt = self.owed.remove(place);
+        self.tokens[usize::from(debt.seat)] = true;
+        true
+    }
+
+    fn wake(&mut self, seat: u16) -> bool
+        ensures { IsStep self.old (Event.Wake seat) result self.new }
+    {
+        let place = usize::from(seat);
+        if place >= self.phases.len() || !self.tokens[place] {
+            return false;
+        }
+        self.tokens[place] = false;
+        self.phases[place] = Phase::Running;
+        true
+    }
+}
+
+// Whether the seat at this place is in the phase. A place that no worker has counts as ended.
+fn is_in(phases: &[Phase], place: usize, phase: Phase) -> bool
+    ensures { IsTrue result ↔ (slice_index_or phases.now place Phase.Ended ≡ phase) }
+{
+    phases.get(place).copied().unwrap_or(Phase::Ended) == phase
+}
+
+// Whether the actor at this place runs, if it is a worker.
+fn runs_if_worker(phases: &[Phase], place: usize) -> bool
+    ensures { IsTrue result
+        ↔ (place < length phases.now → slice_index_or phases.now place Phase.Ended ≡ Phase.Running) }
+{
+    place >= phases.len() || is_in(phases, place, Phase::Running)
+}
+
+// Where the seat stands in the list.
+fn place_of(list: &[u16], seat: u16) -> Option<usize>
+    ensures { result ≡ position (λ other. other == seat) list.now }
+{
+    list.iter().position(|other| *other == seat)
+}
+
+// Takes the seat out of the list.
+fn take_out<A: Allocator>(list: &mut Vec<u16, A>, seat: u16)
+    ensures items { list.new.items ≡ without seat list.old.items }
+    ensures capacity { vec_capacity list.new ≡ vec_capacity list.old }
+{
+    if let Some(place) = place_of(list, seat) {
+        list.remove(place);
+    }
+}

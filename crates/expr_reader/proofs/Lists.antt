@@ -1,0 +1,47 @@
+-- Lists of values, item by item.
+use Rattle.std.proofs.Common.{◌≡◌, ℕ, ◌<◌, List, [], ◌∷◌, ◌++◌, length, Option, Some, None, option_map, option_and_then, refl, ap, sym, ◌∙◌, arith, ℤ, suc, ◌==◌, if◌then◌else◌}
+use Rattle.std.proofs.lemmas.Bool.{ne_eqb, lt-leb}
+use Rattle.tensor_ops.specs.Legal.{are_legal}
+use Rattle.serde_json.specs.Data.{Data, Items, no_items, item}
+use Rattle.serde_json.specs.Events.{items_len}
+use Rattle.serde_json.specs.Find.{as_array}
+use Rattle.expr_reader.specs.Fields.{whole_of, signed_of, each_of, cons_of}
+use Rattle.expr_reader.specs.Tensors.{dims_in, values_in}
+
+-- what was taken, before the rest
+abbrev pub after : {A : Type 0} → List A → Option (List A) → Option (List A)
+after done rest = option_map (λ more. done ++ more) rest
+
+-- a head and a rest have one item more than the rest
+length-cons_of : {A : Type 0} (head : Option A) (rest : Option (List A)) (xs : List A) → cons_of head rest ≡ Some xs
+    → (more : List A) × (rest ≡ Some more) × (length xs ≡ suc (length more))
+length-cons_of None rest xs h = (cc)
+length-cons_of (Some x) None xs h = (cc)
+length-cons_of (Some x) (Some more) xs h = let same : x ∷ more ≡ xs = cc in (more, refl, ap length (sym same))
+
+-- as many answers as items
+pub length-each_of : {A : Type 0} (f : Data → Option A) (ds : Items) (xs : List A) → each_of f ds ≡ Some xs → length xs ≡ items_len ds
+length-each_of f no_items xs h = let same : [] ≡ xs = cc in ap length (sym same)
+length-each_of f (item d ds) xs h =
+    let parts = length-cons_of (f d) (each_of f ds) xs h in
+    parts.2 ∙ ap suc (length-each_of f ds parts.0 parts.1)
+
+-- a list of another length has no such values
+pub values_in-other : (size : ℕ) (d : Data) (ds : Items) → as_array d ≡ Some ds → (items_len ds ≡ size → ⊥) → values_in size d ≡ None
+values_in-other size d ds is other = rw is (none (each_of signed_of ds) (length-each_of signed_of ds))
+  where
+    none : (values : Option (List ℤ)) → ((xs : List ℤ) → values ≡ Some xs → length xs ≡ items_len ds)
+        → option_and_then (λ xs. if length xs == size then Some xs else None) values ≡ None
+    none None long = refl
+    none (Some xs) long =
+        let differs : length xs ≡ size → ⊥ = λ h. other (sym (long xs refl) ∙ h) in
+        rw (ne_eqb (length xs) size differs) refl
+
+-- too long a list is no legal dims
+pub dims_in-long : (rank : ℕ) (d : Data) (ds : Items) → as_array d ≡ Some ds → rank < items_len ds → dims_in rank d ≡ None
+dims_in-long rank d ds is long = rw is (none (each_of whole_of ds) (length-each_of whole_of ds))
+  where
+    none : (dims : Option (List ℕ)) → ((xs : List ℕ) → dims ≡ Some xs → length xs ≡ items_len ds)
+        → option_and_then (λ xs. if are_legal rank xs then Some xs else None) dims ≡ None
+    none None same = refl
+    none (Some xs) same = rw (lt-leb (length xs) rank (omega (arith, same xs refl))) refl

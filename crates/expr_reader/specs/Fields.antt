@@ -1,0 +1,58 @@
+-- The data of a text, its fields and the whole numbers in it.
+use Rattle.std.specs.Prelude.{ℕ, ℤ, ◌==◌, ◌&&◌, nat_le, Bool, false, List, [], ◌∷◌, codes, Option, Some, None, option_map, option_and_then, if◌then◌else◌}
+use Rattle.std.specs.Str.{is_utf8}
+use Rattle.serde_json.specs.Data.{Data, null, boolean, number, string, array, object, Items, no_items, item}
+use Rattle.serde_json.specs.Events.{members_len}
+use Rattle.serde_json.specs.Find.{get, as_number, as_u64, as_i64}
+use Rattle.serde_json.specs.Read.{read}
+
+-- the data that a text is, where it has a reading
+abbrev pub reading : List ℕ → Option Data
+reading text = if is_utf8 text then read text else None
+
+-- an object of this many members
+abbrev pub has_members : ℕ → Data → Bool
+has_members n null = false
+has_members n (boolean b) = false
+has_members n (number x) = false
+has_members n (string s) = false
+has_members n (array ds) = false
+has_members n (object ms) = members_len ms == n
+
+-- a whole number from 0 up
+abbrev pub whole_of : Data → Option ℕ
+whole_of d = option_and_then as_u64 (as_number d)
+
+-- a whole number of the `i64` range
+abbrev pub signed_of : Data → Option ℤ
+signed_of d = option_and_then as_i64 (as_number d)
+
+-- a whole number within these bounds
+abbrev pub within : ℕ → ℕ → Data → Option ℕ
+within least most d = option_and_then (λ n. if nat_le least n && nat_le n most then Some n else None) (whole_of d)
+
+-- a head and a rest, where there are both
+abbrev pub cons_of : {A : Type 0} → Option A → Option (List A) → Option (List A)
+cons_of head rest = option_and_then (λ x. option_map (λ xs. x ∷ xs) rest) head
+
+-- each item by f, where f has an answer for all
+abbrev pub each_of : {A : Type 0} → (Data → Option A) → Items → Option (List A)
+each_of f no_items = Some []
+each_of f (item d ds) = cons_of (f d) (each_of f ds)
+
+-- the five fields of a request
+pub record Fields : Type 0 where
+  pub version : Data
+  pub workers : Data
+  pub block : Data
+  pub inputs : Data
+  pub expr : Data
+
+-- an object of exactly these fields
+abbrev pub fields_of : Data → Option Fields
+fields_of d =
+    if has_members 5 d then
+    option_and_then (λ version. option_and_then (λ workers. option_and_then (λ block. option_and_then (λ inputs. option_map (λ expr.
+    record { version = version; workers = workers; block = block; inputs = inputs; expr = expr })
+    (get (codes "expr") d)) (get (codes "inputs") d)) (get (codes "block") d)) (get (codes "workers") d)) (get (codes "version") d)
+    else None

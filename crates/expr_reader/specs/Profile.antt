@@ -1,0 +1,25 @@
+-- What the versions of the text allow.
+use Rattle.std.specs.Prelude.{ℕ, List, [], ◌∷◌, codes, Option, Some, None, ◌==◌, if◌then◌else◌}
+use Rattle.std.specs.Str.{bytes_eq}
+use Rattle.tensor_ops.specs.Term.{Binary, add}
+
+-- an operation, by the kind of its operands and arguments
+pub data Operation : Type 0 where
+  binary : Binary → Operation
+
+-- the greatest number of workers, the highest rank, and the operations by their names
+pub record Profile : Type 0 where
+  pub workers : ℕ
+  pub rank : ℕ
+  pub operations : List (List ℕ × Operation)
+
+abbrev pub version_1 : Profile
+version_1 = record { workers = 64; rank = 6; operations = (codes "add", binary add) ∷ [] }
+
+abbrev pub profile_of : ℕ → Option Profile
+profile_of version = if version == 1 then Some version_1 else None
+
+-- the operation of a name, among those of a version
+abbrev pub operation_named : List ℕ → List (List ℕ × Operation) → Option Operation
+operation_named name [] = None
+operation_named name (o ∷ os) = if bytes_eq name o.0 then Some o.1 else operation_named name os

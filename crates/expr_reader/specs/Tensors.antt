@@ -1,0 +1,53 @@
+-- The inputs of a request: names and tensors.
+use Rattle.std.specs.Prelude.{ℕ, ℤ, ◌==◌, length, List, [], ◌∷◌, codes, Option, Some, None, option_map, option_and_then, if◌then◌else◌}
+use Rattle.std.specs.List.{position_from}
+use Rattle.std.specs.Str.{bytes_eq}
+use Rattle.serde_json.specs.Data.{Data, Members, no_members, member}
+use Rattle.serde_json.specs.Find.{get, as_array, as_object}
+use Rattle.tensor_ops.specs.Index.{size_of}
+use Rattle.tensor_ops.specs.Legal.{are_legal}
+use Rattle.tensor_ops.specs.Contents.{Contents}
+use Rattle.expr_reader.specs.Fields.{has_members, whole_of, signed_of, each_of, cons_of}
+
+-- a list of whole numbers that are legal dims
+abbrev pub dims_in : ℕ → Data → Option (List ℕ)
+dims_in rank d =
+    option_and_then (λ dims. if are_legal rank dims then Some dims else None) (option_and_then (each_of whole_of) (as_array d))
+
+-- a list of this many whole numbers
+abbrev pub values_in : ℕ → Data → Option (List ℤ)
+values_in size d =
+    option_and_then (λ values. if length values == size then Some values else None) (option_and_then (each_of signed_of) (as_array d))
+
+-- as many values as the dims have places
+abbrev pub filled : Data → List ℕ → Option Contents
+filled d dims = option_map (λ values. record { dims = dims; values = values }) (values_in (size_of dims) d)
+
+-- an object of exactly dims and data
+abbrev pub tensor_in : ℕ → Data → Option Contents
+tensor_in rank d =
+    if has_members 2 d then
+    option_and_then (λ dims. option_and_then (λ values. option_and_then (filled values) (dims_in rank dims)) (get (codes "data") d)) (get (codes "dims") d)
+    else None
+
+-- the tensor of each member, in the members' order
+abbrev pub tensors_in : ℕ → Members → Option (List Contents)
+tensors_in rank no_members = Some []
+tensors_in rank (member name d ms) = cons_of (tensor_in rank d) (tensors_in rank ms)
+
+abbrev pub names_in : Members → List (List ℕ)
+names_in no_members = []
+names_in (member name d ms) = name ∷ names_in ms
+
+-- names and their tensors, each at the same number
+pub record Named : Type 0 where
+  pub names : List (List ℕ)
+  pub tensors : List Contents
+
+abbrev pub named_in : ℕ → Data → Option Named
+named_in rank d =
+    option_and_then (λ ms. option_map (λ tensors. record { names = names_in ms; tensors = tensors }) (tensors_in rank ms)) (as_object d)
+
+-- the number of a name
+abbrev pub number_of : List (List ℕ) → List ℕ → Option ℕ
+number_of names name = position_from (λ other. bytes_eq name other) 0 names

@@ -1,0 +1,81 @@
+//! The parse of a text, its fields, and the whole numbers in it.
+
+ghost use Rattle.std.specs.Prelude.{◌≡◌, option_map};
+ghost use Rattle.serde_json.specs.View.{view};
+ghost use Rattle.expr_reader.specs.Fields.{reading, has_members, within, fields_of};
+ghost use Rattle.expr_reader.specs.Outcome.{IsReadOr};
+
+use crate::fault::Fault;
+use serde_json::Value;
+use std::alloc::Global;
+
+/// The value that a text is.
+pub(crate) fn parse(alloc: Global, text: &[u8]) -> Result<Value, Fault>
+    ensures { IsReadOr Fault.NotJson view (reading text.now) result }
+{
+    let Ok(text) = str::from_utf8(text) else {
+        return Err(Fault::NotJson);
+    };
+    match Value::from_str(alloc, text) {
+        Ok(value) => Ok(value),
+        Err(error) if error.is_memory() => Err(Fault::NoMemory),
+        Err(_) => Err(Fault::NotJson),
+    }
+}
+
+/// Whether it is an object of this many members.
+pub(crate) fn has_members(value: &Value, count: usize) -> bool
+    ensures { result ≡ has_members count (view value.now) }
+{
+    match value.as_object() {
+        Some(members) => members.len() == count,
+        None => false,
+    }
+}
+
+/// A whole number within these bounds.
+pub(crate) fn within(value: &Value, least: u64, most: u64) -> Option<u64>
+    ensures { result ≡ within least most (view value.now) }
+{
+    let number = value.as_u64()?;
+    if least <= number && number <= most {
+        Some(number)
+    } else {
+        None
+    }
+}
+
+/// The five fields of a request.
+#[derive(Drop)]
+pub(crate) struct Fields<'v> {
+    pub(crate) version: &'v Value,
+    pub(crate) workers: &'v Value,
+    pub(crate) block: &'v Value,
+    pub(crate) inputs: &'v Value,
+    pub(crate) expr: &'v Value,
+}
+
+impl<'v> Fields<'v> {
+    ghost use Rattle.expr_reader.specs.Shown.{fields_under};
+
+    /// The fields of an object that has exactly these.
+    pub(crate) fn of(value: &'v Value) -> Option<Fields<'v>>
+        ensures { option_map fields_under result ≡ fields_of (view value.now) }
+    {
+        if !has_members(value, 5) {
+            return None;
+        }
+        let version = value.get("version")?;
+        let workers = value.get("workers")?;
+        let block = value.get("block")?;
+        let inputs = value.get("inputs")?;
+        let expr = value.get("expr")?;
+        Some(Fields {
+            version,
+            workers,
+            block,
+            inputs,
+            expr,
+        })
+    }
+}

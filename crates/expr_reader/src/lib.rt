@@ -1,0 +1,26 @@
+//! Request texts: one JSON value (RFC 8259) that names tensors and an expression over them. A text
+//! is read in one pass, and answered by its request or by its first fault.
+#![tactic(auto)]
+
+mod fault;
+mod fields;
+mod named;
+mod node;
+mod request;
+mod tensors;
+mod text;
+mod version;
+
+pub use fault::Fault;
+pub use request::Request;
+pub use tensor_ops::{Dims, Expr, Inputs, Tensor};
+pub use text::read_request;
+
+/// The most bytes of a text.
+pub const MAX_TEXT: usize = 16_777_216;
+
+/// The greatest block.
+pub const MAX_BLOCK: u64 = 1_048_576;
+
+/// The most nodes of an expression.
+pub const MAX_NODES: u64 = 1_000;

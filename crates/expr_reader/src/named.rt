@@ -1,0 +1,99 @@
+//! The inputs of a request, by name and by number.
+
+ghost use Rattle.std.specs.Prelude.{◌≡◌, ◌≤◌, ◌⊎◌, ℕ, List, MatchResult, Some, None, OnOk, IfErr, if◌then◌else◌};
+ghost use Rattle.std.specs.Option.{option_or};
+ghost use Rattle.std.specs.Str.{bytes_eq};
+ghost use Rattle.serde_json.specs.View.{view, members_view};
+ghost use Rattle.expr_reader.specs.Numbers.{number_in};
+ghost use Rattle.expr_reader.specs.Shown.{IsNamed};
+ghost use Rattle.expr_reader.specs.Tensors.{Named, named_in, names_in, tensors_in, number_of};
+
+use crate::fault::Fault;
+use crate::tensors::read_tensor;
+use serde_json::{Map, Value};
+use std::alloc::Global;
+use std::collections::BTreeMap;
+use tensor_ops::{Inputs, MAX_RANK};
+
+/// Inputs, and the number of each by its name. A map in order, so that no choice of names makes it
+/// slow.
+#[derive(Drop)]
+pub(crate) struct NamedInputs<'v> {
+    pub(crate) numbers: BTreeMap<&'v str, u32>,
+    pub(crate) inputs: Inputs,
+}
+
+impl<'v> NamedInputs<'v> {
+    /// The tensor of each member of an object, numbered in the order of their names.
+    pub(crate) fn read(
+        alloc: Global,
+        value: &'v Value,
+        rank: usize,
+    ) -> Result<NamedInputs<'v>, Fault>
+        requires { rank ≤ MAX_RANK }
+        ensures { MatchResult result
+            (λ found. (n : Named) × (named_in rank (view value.now) ≡ Some n) × IsNamed found n)
+            (λ fault. (fault ≡ Fault.NoMemory)
+            ⊎ ((fault ≡ Fault.BadTensor) × (named_in rank (view value.now) ≡ None))) }
+    {
+        let members = value.as_object().ok_or(Fault::BadTensor)?;
+        read_members(alloc, members, rank)
+    }
+
+    /// The number of a name.
+    pub(crate) fn number(&self, name: &str) -> Option<u32>
+        ensures { (n : Named) → IsNamed self.now n → result ≡ number_of n.names name.now }
+    {
+        self.numbers.get(name).copied()
+    }
+}
+
+/// The tensors of members and their numbers.
+fn read_members<'v>(
+    alloc: Global,
+    members: &'v Map<String, Value>,
+    rank: usize,
+) -> Result<NamedInputs<'v>, Fault>
+    requires { rank ≤ MAX_RANK }
+    ensures { MatchResult result
+        (λ found. (n : Named) × (tensors_in rank (members_view members.now.entries) ≡ Some n.tensors)
+        × (n.names ≡ names_in (members_view members.now.entries)) × IsNamed found n)
+        (λ fault. (fault ≡ Fault.NoMemory)
+        ⊎ ((fault ≡ Fault.BadTensor) × (tensors_in rank (members_view members.now.entries) ≡ None))) }
+{
+    // A text of the greatest length has far fewer members.
+    if members.len() >= u32::MAX as usize {
+        return Err(Fault::NoMemory);
+    }
+    let mut numbers = BTreeMap::new(alloc);
+    let mut tensors = Vec::new(alloc);
+    for (name, value) in members {
+        let tensor = read_tensor(alloc, value, rank)?;
+        let number = tensors.len() as u32;
+        put_first(&mut numbers, name.as_str(), number)?;
+        let Ok(()) = tensors.push(tensor) else {
+            return Err(Fault::NoMemory);
+        };
+    }
+    let inputs = Inputs::new(tensors);
+    Ok(NamedInputs { numbers, inputs })
+}
+
+/// Gives a name its number, unless it has one.
+fn put_first<'v>(
+    numbers: &mut BTreeMap<&'v str, u32>,
+    name: &'v str,
+    number: u32,
+) -> Result<(), Fault>
+    ensures ok { OnOk result ((other : List ℕ) → number_in numbers.new other
+        ≡ option_or (number_in numbers.old other) (if bytes_eq other name.now then Some number else None)) }
+    ensures err { IfErr result (λ fault. fault ≡ Fault.NoMemory) }
+{
+    if numbers.contains_key(name) {
+        return Ok(());
+    }
+    match numbers.insert(name, number) {
+        Ok(_) => Ok(()),
+        Err(_) => Err(Fault::NoMemory),
+    }
+}

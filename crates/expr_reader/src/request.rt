@@ -1,0 +1,24 @@
+//! The request that a text names.
+
+ghost use Rattle.std.specs.Prelude.{IsTrue, IsOk, length};
+ghost use Rattle.tensor_ops.specs.Result.{dims_of};
+ghost use Rattle.tensor_ops.specs.Term.{has_inputs};
+ghost use Rattle.tensor_ops.specs.Tree.{term_of};
+
+use tensor_ops::{Expr, Inputs};
+
+/// What a text asks for: an expression over inputs, and how to spread its work. The workers and the
+/// block change nothing in the answer.
+#[derive(Drop)]
+pub struct Request {
+    /// How many workers take part, from 1 to 64.
+    pub workers: u32,
+    /// How many places are worked on at a time, from 1 to 1,048,576.
+    pub block: u64,
+    /// The tensors, in the order of their names.
+    pub inputs: Inputs,
+    /// The expression, which has result dims.
+    pub expr: Expr,
+    pub ghost has_inputs: { IsTrue (has_inputs (term_of expr) (length inputs)) },
+    pub ghost has_dims: { IsOk (dims_of (term_of expr) inputs) },
+}

@@ -1,0 +1,60 @@
+//! The inputs of a request: their names, and their tensors.
+
+ghost use Rattle.std.specs.Prelude.{◌≡◌, ◌≤◌};
+ghost use Rattle.serde_json.specs.View.{view};
+ghost use Rattle.expr_reader.specs.Outcome.{IsReadOr};
+ghost use Rattle.expr_reader.specs.Tensors.{dims_in, values_in, tensor_in};
+
+use crate::fault::Fault;
+use crate::fields::has_members;
+use arrayvec::ArrayVec;
+use serde_json::Value;
+use std::alloc::Global;
+use tensor_ops::{Dims, MAX_RANK, Tensor};
+
+/// A tensor: an object of exactly `dims` and `data`.
+pub(crate) fn read_tensor(alloc: Global, value: &Value, rank: usize) -> Result<Tensor, Fault>
+    requires { rank ≤ MAX_RANK }
+    ensures { IsReadOr Fault.BadTensor (λ t. t) (tensor_in rank (view value.now)) result }
+{
+    if !has_members(value, 2) {
+        return Err(Fault::BadTensor);
+    }
+    let dims = value.get("dims").ok_or(Fault::BadTensor)?;
+    let values = value.get("data").ok_or(Fault::BadTensor)?;
+    let dims = read_dims(dims, rank).ok_or(Fault::BadTensor)?;
+    let values = read_values(alloc, values, dims.size())?;
+    Ok(Tensor::new(dims, values))
+}
+
+/// Legal dims of at most this rank. Takes no memory, however long the list is.
+fn read_dims(value: &Value, rank: usize) -> Option<Dims>
+    requires { rank ≤ MAX_RANK }
+    ensures { result ≡ dims_in rank (view value.now) }
+{
+    let list = value.as_array()?;
+    if list.len() > rank {
+        return None;
+    }
+    let mut sizes: ArrayVec<u64, MAX_RANK> = ArrayVec::new();
+    for size in list {
+        sizes.push(size.as_u64()?);
+    }
+    Dims::new(sizes.as_slice()).ok()
+}
+
+/// A list of this many whole numbers of the `i64` range.
+fn read_values(alloc: Global, value: &Value, size: u64) -> Result<Vec<i64>, Fault>
+    ensures { IsReadOr Fault.BadTensor (λ values. values.items) (values_in size (view value.now)) result }
+{
+    let list = value.as_array().ok_or(Fault::BadTensor)?;
+    if list.len() as u64 != size {
+        return Err(Fault::BadTensor);
+    }
+    let mut values = Vec::with_capacity(alloc, list.len()).map_err(|_| Fault::NoMemory)?;
+    for number in list {
+        let number = number.as_i64().ok_or(Fault::BadTensor)?;
+        values.push_reserved(number);
+    }
+    Ok(values)
+}

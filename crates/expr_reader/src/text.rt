@@ -1,0 +1,71 @@
+//! From the bytes of a text to its request.
+
+ghost use Rattle.std.specs.Prelude.{◌≡◌, ◌⊎◌, Some, None, MatchResult, option_map};
+ghost use Rattle.expr_reader.specs.Asked.{asked_under};
+ghost use Rattle.expr_reader.specs.Request.{profile_in, fields_fault, fields_asked, fault_of, asked_of};
+ghost use Rattle.expr_reader.specs.Shown.{fields_under};
+ghost use Rattle.expr_reader.specs.Version.{profile_under};
+
+use crate::fault::Fault;
+use crate::fields::{Fields, parse, within};
+use crate::named::NamedInputs;
+use crate::node::read_node;
+use crate::request::Request;
+use crate::version::Version;
+use crate::{MAX_BLOCK, MAX_TEXT};
+use std::alloc::Global;
+
+/// Reads a request text, in one pass over its JSON value (RFC 8259). Want of memory is answered
+/// wherever a growth is refused, before any later fault is looked for.
+///
+/// # Errors
+///
+/// The first fault of the text, by number up to [`Fault::BadTensor`] and then on the walk over the
+/// tree, or [`Fault::NoMemory`].
+pub fn read_request(alloc: Global, text: &[u8]) -> Result<Request, Fault>
+    ensures { MatchResult result
+        (λ request. (fault_of text.now ≡ None) × (asked_of text.now ≡ Some (asked_under request)))
+        (λ fault. (fault ≡ Fault.NoMemory) ⊎ (fault_of text.now ≡ Some fault)) }
+{
+    if text.len() > MAX_TEXT {
+        return Err(Fault::TooLong);
+    }
+    let value = parse(alloc, text)?;
+    let Some(fields) = Fields::of(&value) else {
+        return Err(Fault::BadField);
+    };
+    read_fields(alloc, &fields)
+}
+
+/// The request of fields.
+fn read_fields(alloc: Global, fields: &Fields<'_>) -> Result<Request, Fault>
+    ensures { MatchResult result
+        (λ request. (fields_fault (fields_under fields.now) ≡ None)
+        × (fields_asked (fields_under fields.now) ≡ Some (asked_under request)))
+        (λ fault. (fault ≡ Fault.NoMemory) ⊎ (fields_fault (fields_under fields.now) ≡ Some fault)) }
+{
+    let Some(version) = version_of(fields) else {
+        return Err(Fault::BadVersion);
+    };
+    let Some(workers) = within(fields.workers, 1, version.workers()) else {
+        return Err(Fault::BadWorkers);
+    };
+    let Some(block) = within(fields.block, 1, MAX_BLOCK) else {
+        return Err(Fault::BadBlock);
+    };
+    let named = NamedInputs::read(alloc, fields.inputs, version.rank())?;
+    let tree = read_node(alloc, version, &named, fields.expr, 0)?;
+    Ok(Request {
+        workers: workers as u32,
+        block,
+        inputs: named.inputs,
+        expr: tree.expr,
+    })
+}
+
+/// The version that the fields name.
+fn version_of(fields: &Fields<'_>) -> Option<Version>
+    ensures { option_map profile_under result ≡ profile_in (fields_under fields.now) }
+{
+    Version::of(fields.version.as_u64()?)
+}

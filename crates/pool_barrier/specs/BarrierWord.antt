@@ -1,0 +1,30 @@
+-- The barrier word, and the rule that keeps it.
+use Rattle.std.specs.Prelude.{◌≡◌, ℕ, ◌+◌, ◌*◌, ◌≤◌, List, [], ◌∷◌, length, slice_index, Contains}
+use Rattle.atomic_table.specs.Table.{State}
+use Rattle.pool_barrier.specs.declared.rule.TheConstants.{MOST_NOTICES, WORDS, STATE}
+use Rattle.pool_barrier.specs.declared.view.Phase.TheVariants.{Done}
+use Rattle.pool_barrier.specs.declared.view.View.{View}
+use Rattle.pool_barrier.specs.declared.view.View.TheVariants.{Waits}
+use Rattle.pool_barrier.specs.Views.{notices_in, given_in, waiter_in, flag_in}
+
+-- the words of a barrier's table, and what each of its seats knows
+abbrev pub BarrierState : Type 0
+BarrierState = State (Unit {0}) View
+
+-- f of each view, added up
+abbrev pub total : (View → ℕ) → List View → ℕ
+total f [] = 0
+total f (view ∷ views) = f view + total f views
+
+-- twice the notices left over all shares, and 1 where the waiter has set its flag
+abbrev pub barrier_word : List View → ℕ
+barrier_word views = 2 * total notices_in views + total flag_in views
+
+-- the state is one of a barrier that was made with so many notices
+pub record IsCounted (count : ℕ) (s : BarrierState) : Type 0 where
+  pub room : length s.words ≡ WORDS
+  pub word : slice_index s.words STATE ≡ barrier_word s.views
+  pub few : count ≤ MOST_NOTICES
+  pub account : total notices_in s.views + total given_in s.views ≡ count
+  pub one_waiter : total waiter_in s.views ≡ 1
+  pub done : Contains s.views (Waits Done) → total notices_in s.views ≡ 0

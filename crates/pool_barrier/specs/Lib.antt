@@ -1,0 +1,7 @@
+pub use Rattle.atomic_table.specs.Table
+pub use Rattle.atomic_table.specs.Seated
+pub mod Views
+pub mod BarrierWord
+pub mod Shares
+pub mod Notifications
+pub mod Laws

@@ -1,0 +1,75 @@
+-- What the seats at a barrier's table know, and how each step changes it.
+use Rattle.std.specs.Prelude.{◌≡◌, ℕ, ◌+◌, ◌-◌, ◌<◌, ◌^◌, nat_lt, if◌then◌else◌}
+use Rattle.atomic_table.specs.Table.{Me, Step}
+use Rattle.pool_barrier.specs.declared.view.Phase.{Phase}
+use Rattle.pool_barrier.specs.declared.view.Phase.TheVariants.{Fresh, Flagged, Done}
+use Rattle.pool_barrier.specs.declared.view.View.{View}
+use Rattle.pool_barrier.specs.declared.view.View.TheVariants.{Whole, Gives, Waits}
+
+-- the notices that a seat has left to give
+abbrev pub notices_in : View → ℕ
+notices_in (Whole count) = count
+notices_in (Gives notices given) = notices
+notices_in (Waits phase) = 0
+
+-- the notices that a seat has given
+abbrev pub given_in : View → ℕ
+given_in (Whole count) = 0
+given_in (Gives notices given) = given
+given_in (Waits phase) = 0
+
+-- 1 for the seat that may wait
+abbrev pub waiter_in : View → ℕ
+waiter_in (Whole count) = 1
+waiter_in (Gives notices given) = 0
+waiter_in (Waits phase) = 1
+
+-- how far the waiter has come
+abbrev pub phase_in : View → Phase
+phase_in (Whole count) = Fresh
+phase_in (Gives notices given) = Fresh
+phase_in (Waits phase) = phase
+
+-- 1 where the flag is set
+abbrev pub flag_of : Phase → ℕ
+flag_of Fresh = 0
+flag_of Flagged = 1
+flag_of Done = 1
+
+-- 1 for the waiter that has set its flag
+abbrev pub flag_in : View → ℕ
+flag_in (Whole count) = 0
+flag_in (Gives notices given) = 0
+flag_in (Waits phase) = flag_of phase
+
+-- the first seat becomes the waiter's
+abbrev pub waiter_of_whole : View → View
+waiter_of_whole whole = Waits Fresh
+
+-- the first share has all notices
+abbrev pub share_of_whole : View → View
+share_of_whole whole = Gives (notices_in whole) 0
+
+-- what is left of a share when k notices move to another
+abbrev pub after_split : ℕ → View → View
+after_split k share = Gives (notices_in share - k) (given_in share)
+
+-- the share that the k notices move to
+abbrev pub split_off : ℕ → View → View
+split_off k share = Gives k 0
+
+-- the share after it gave one notice
+abbrev pub after_notice : View → View
+after_notice share = Gives (notices_in share - 1) (given_in share + 1)
+
+-- the waiter after it set its flag and found this word
+abbrev pub after_flag : ℕ → View
+after_flag found = Waits (if nat_lt found 2 then Done else Flagged)
+
+-- what a notice tells
+abbrev pub gives_one : Step (Unit {0}) → Me (Unit {0}) View → ℕ → Me (Unit {0}) View → Type 0
+gives_one step before found after = after ≡ (after_notice before.0, before.1)
+
+-- what setting the flag tells
+abbrev pub sets_flag : Step (Unit {0}) → Me (Unit {0}) View → ℕ → Me (Unit {0}) View → Type 0
+sets_flag step before found after = (after ≡ (after_flag found, before.1)) × (found < 2 ^ 32)

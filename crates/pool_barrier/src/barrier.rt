@@ -1,0 +1,140 @@
+//! The barrier.
+ghost use Rattle.std.specs.Prelude.{◌≡◌, ◌+◌, ◌<◌, ◌≤◌, ◌↔◌, IfOk, IsErrOf};
+ghost use Rattle.pool_barrier.specs.declared.rule.TheConstants.{MOST_NOTICES, WORDS};
+
+use crate::fault::BarrierFault;
+use crate::plays::{GivesOne, SetsFlag};
+use crate::rule::{Amount, CutsShare, Law, MOST_NOTICES, Moves, STATE, WORDS};
+use crate::share::{Share, Waiter};
+use crate::view::View;
+use atomic_table::Table;
+use std::alloc::{AllocError, Allocator, Global};
+use std::marker::Brand;
+use std::sync::Wait;
+
+#[cfg(test)]
+mod tests;
+
+/// What one notice adds to the word.
+const NOTICE: u64 = 2;
+
+/// The waiter's flag, which is the word's lowest bit.
+const FLAG: u64 = 1;
+
+/// A number of notices, which are given once each, and a waiter for all of them.
+///
+/// Its word is twice the notices left, plus 1 where the waiter has set its flag, as in Eigen's
+/// `Barrier.h`.
+#[derive(Drop)]
+pub struct Barrier<A: Allocator = Global> {
+    table: Table<(), View, u64, Law, A>,
+    ghost words: { table.shared.table_id.words ≡ WORDS },
+}
+
+impl<A: Allocator> Barrier<A> {
+    ghost use Rattle.pool_barrier.specs.Shares.{notices_of, given_of, count_of, IsFresh, IsDone};
+    ghost use Rattle.pool_barrier.specs.Shares.{IsShareOf, IsWaiterOf};
+
+    /// A barrier of `count` notices, its waiter, and a share that has all of them.
+    pub fn new(alloc: A, count: u64) -> Result<(Barrier<A>, Waiter, Share), BarrierFault>
+        ensures too_large { IsErrOf result BarrierFault.TooLarge ↔ (MOST_NOTICES < count) }
+        ensures barrier { IfOk result (λ made. count_of made.0 ≡ count) }
+        ensures waiter { IfOk result (λ made. IsWaiterOf made.0 made.1) }
+        ensures fresh { IfOk result (λ made. IsFresh made.1) }
+        ensures share { IfOk result (λ made. IsShareOf made.0 made.2) }
+        ensures notices { IfOk result (λ made. notices_of made.2 ≡ count) }
+        ensures given { IfOk result (λ made. given_of made.2 ≡ 0) }
+    {
+        if count > MOST_NOTICES {
+            return Err(BarrierFault::TooLarge);
+        }
+        Ok(Barrier::with_count(alloc, count)?)
+    }
+
+    /// The same, for a count that fits.
+    pub(crate) fn with_count(
+        alloc: A,
+        count: u64,
+    ) -> Result<(Barrier<A>, Waiter, Share), AllocError>
+        requires { count ≤ MOST_NOTICES }
+        ensures barrier { IfOk result (λ made. count_of made.0 ≡ count) }
+        ensures waiter { IfOk result (λ made. IsWaiterOf made.0 made.1) }
+        ensures fresh { IfOk result (λ made. IsFresh made.1) }
+        ensures share { IfOk result (λ made. IsShareOf made.0 made.2) }
+        ensures notices { IfOk result (λ made. notices_of made.2 ≡ count) }
+        ensures given { IfOk result (λ made. given_of made.2 ≡ 0) }
+    {
+        let mut words = [0; WORDS];
+        words[STATE] = NOTICE * count;
+        let (table, mut seat) = Table::of_words(alloc, &words, &count)?;
+        let given = table.shared.split_seat::<CutsShare>(&mut seat);
+        let share = Share {
+            seat: given,
+            notices: count,
+        };
+        Ok((Barrier { table }, Waiter { seat }, share))
+    }
+
+    /// Moves `k` notices to a share of their own.
+    pub fn split(&self, share: &mut Share, k: u64) -> Share
+        requires of { IsShareOf self.now share.old }
+        requires room { k ≤ notices_of share.old }
+        ensures of { IsShareOf self.now share.new × IsShareOf self.now result }
+        ensures left { notices_of share.new + k ≡ notices_of share.old }
+        ensures moved { notices_of result ≡ k }
+        ensures given { (given_of share.new ≡ given_of share.old) × (given_of result ≡ 0) }
+    {
+        self.split_by::<Brand>(share, k)
+    }
+
+    fn split_by<K: Amount>(&self, share: &mut Share, k: u64) -> Share
+        requires amount { K.amount ≡ k }
+        requires of { IsShareOf self.now share.old }
+        requires room { k ≤ notices_of share.old }
+        ensures of { IsShareOf self.now share.new × IsShareOf self.now result }
+        ensures left { notices_of share.new + k ≡ notices_of share.old }
+        ensures moved { notices_of result ≡ k }
+        ensures given { (given_of share.new ≡ given_of share.old) × (given_of result ≡ 0) }
+    {
+        let seat = self.table.shared.split_seat::<Moves<K>>(&mut share.seat);
+        share.notices -= k;
+        Share { seat, notices: k }
+    }
+
+    /// Gives one notice, and wakes the waiter where it was the last and the waiter sleeps.
+    pub fn notify(&self, share: &mut Share)
+        requires of { IsShareOf self.now share.old }
+        requires left { 0 < notices_of share.old }
+        ensures of { IsShareOf self.now share.new }
+        ensures left { notices_of share.new + 1 ≡ notices_of share.old }
+        ensures given { given_of share.new ≡ given_of share.old + 1 }
+    {
+        let found = self
+            .table
+            .shared
+            .fetch_sub::<GivesOne>(&mut share.seat, STATE, NOTICE);
+        share.notices -= 1;
+        if found == NOTICE + FLAG {
+            self.table.shared.wake_one(STATE);
+        }
+    }
+
+    /// Returns once no share of the barrier has a notice left. It may be called again.
+    pub fn wait<R: Wait>(&self, rt: &R, waiter: &mut Waiter)
+        requires { IsWaiterOf self.now waiter.old }
+        ensures of { IsWaiterOf self.now waiter.new }
+        ensures done { IsDone waiter.new }
+    {
+        for _ in rt.forever() {
+            let found = self
+                .table
+                .shared
+                .fetch_or::<SetsFlag>(&mut waiter.seat, STATE, FLAG);
+            if found < NOTICE {
+                return;
+            }
+            self.table.shared.park(rt, STATE, (found | FLAG) as u32);
+        }
+        unreachable!()
+    }
+}

@@ -1,0 +1,26 @@
+//! Barriers: a number of notices is given by any threads, and one waiter sleeps until all are
+//! given.
+//!
+//! The shape is that of Eigen's `Barrier.h`. The right to notify is a `Share` of notices here,
+//! which is split and moved to whoever gives them, so that no barrier gets more notices than it
+//! waits for.
+#![tactic(auto)]
+
+mod barrier;
+mod fault;
+mod laws;
+mod notification;
+mod plays;
+#[cfg(test)]
+mod refusing;
+mod rule;
+mod share;
+mod view;
+
+pub use barrier::Barrier;
+pub use fault::BarrierFault;
+pub use laws::{all_notices_are_given, no_notice_is_left, word_is_barrier_word};
+pub use notification::Notification;
+pub use rule::{Law, MOST_NOTICES};
+pub use share::{Share, Waiter};
+pub use view::{Phase, View};

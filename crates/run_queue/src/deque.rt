@@ -1,0 +1,117 @@
+ghost use Rattle.std.specs.Prelude.{◌≡◌, ◌+◌, ◌<◌, ◌≤◌, ◌↔◌, List, [], ◌∷◌, ◌++◌, length, vec_len, vec_capacity};
+ghost use Rattle.std.specs.Prelude.{IsTrue, IsOk, IsErr, IfOk, IfErr, IfSome, IfNone, OnOk, OnErr};
+ghost use Rattle.std.specs.VecDeque.{deque_len, deque_capacity};
+ghost use Rattle.run_queue.specs.declared.deque.TheConstants.{ROW_JOBS};
+
+use std::alloc::{AllocError, Allocator, Global};
+use std::collections::VecDeque;
+use std::marker::Model;
+
+/// How many jobs a row holds at most.
+pub const ROW_JOBS: usize = 1024;
+
+/// A row of jobs for one thread: a ring over one block, whose room is all taken at the start.
+///
+/// A full row gives a job back, and no call moves another job or takes memory.
+#[derive(Drop)]
+pub struct Deque<J, A: Allocator = Global> {
+    jobs: VecDeque<J, A>,
+}
+
+// Clauses see the jobs, front first.
+impl<J, A: Allocator> Model for Deque<J, A> {
+    ghost Value = { List J };
+
+    ghost view = { λ d. d.jobs.items };
+
+    ghost invariant = { λ d. (deque_len d.jobs ≤ ROW_JOBS) × (ROW_JOBS ≤ deque_capacity d.jobs) };
+}
+
+impl<J, A: Allocator> Deque<J, A> {
+    /// An empty row, with room for `ROW_JOBS` jobs.
+    pub fn new(alloc: A) -> Result<Self, AllocError>
+        ensures { IfOk result (λ row. row ≡ []) }
+    {
+        Ok(Deque {
+            jobs: VecDeque::with_capacity(alloc, ROW_JOBS)?,
+        })
+    }
+
+    /// How many jobs are in the row.
+    pub fn len(&self) -> usize
+        ensures count { result ≡ length self.now }
+        ensures within { length self.now ≤ ROW_JOBS }
+    {
+        self.jobs.len()
+    }
+
+    pub fn is_empty(&self) -> bool
+        ensures { IsTrue result ↔ (self.now ≡ []) }
+    {
+        self.jobs.is_empty()
+    }
+
+    /// Puts a job in front of the others, or gives it back where the row is full.
+    pub fn push_front(&mut self, job: J) -> Result<(), J>
+        ensures room { IsOk result ↔ (length self.old < ROW_JOBS) }
+        ensures full { IsErr result ↔ (length self.old ≡ ROW_JOBS) }
+        ensures pushed { OnOk result (self.new ≡ job ∷ self.old) }
+        ensures unchanged { OnErr result (self.new ≡ self.old) }
+        ensures returned { IfErr result (λ back. back ≡ job) }
+    {
+        if self.len() < ROW_JOBS {
+            self.jobs.push_front_reserved(job);
+            return Ok(());
+        }
+        Err(job)
+    }
+
+    /// Puts a job behind the others, or gives it back where the row is full.
+    pub fn push_back(&mut self, job: J) -> Result<(), J>
+        ensures room { IsOk result ↔ (length self.old < ROW_JOBS) }
+        ensures full { IsErr result ↔ (length self.old ≡ ROW_JOBS) }
+        ensures pushed { OnOk result (self.new ≡ self.old ++ job ∷ []) }
+        ensures unchanged { OnErr result (self.new ≡ self.old) }
+        ensures returned { IfErr result (λ back. back ≡ job) }
+    {
+        if self.len() < ROW_JOBS {
+            self.jobs.push_back_reserved(job);
+            return Ok(());
+        }
+        Err(job)
+    }
+
+    /// Takes the first job.
+    pub fn pop_front(&mut self) -> Option<J>
+        ensures popped { IfSome result (λ job. self.old ≡ job ∷ self.new) }
+        ensures empty { IfNone result ((self.old ≡ []) × (self.new ≡ [])) }
+    {
+        self.jobs.pop_front()
+    }
+
+    /// Takes the last job.
+    pub fn pop_back(&mut self) -> Option<J>
+        ensures popped { IfSome result (λ job. self.old ≡ self.new ++ job ∷ []) }
+        ensures empty { IfNone result ((self.old ≡ []) × (self.new ≡ [])) }
+    {
+        self.jobs.pop_back()
+    }
+
+    /// Moves the jobs to the end of a list that has room for a full row.
+    pub(crate) fn move_into(self, list: &mut Vec<J, A>)
+    where
+        J: Drop,
+        requires { vec_len list.old + ROW_JOBS ≤ vec_capacity list.old }
+        ensures items { list.new.items ≡ list.old.items ++ self }
+        ensures within { length self ≤ ROW_JOBS }
+        ensures capacity { vec_capacity list.new ≡ vec_capacity list.old }
+    {
+        let Deque { mut jobs } = self;
+        while let Some(job) = jobs.pop_front() {
+            list.push_reserved(job);
+        }
+    }
+}
+
+#[cfg(test)]
+mod tests;

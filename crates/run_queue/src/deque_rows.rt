@@ -1,0 +1,116 @@
+ghost use Rattle.std.specs.Prelude.{◌≡◌, ◌*◌, ◌<◌, ◌≤◌, ◌↔◌, List, [], ◌∷◌, ◌++◌};
+ghost use Rattle.std.specs.Prelude.{length, replicate, slice_set, vec_len, vec_capacity};
+ghost use Rattle.std.specs.Prelude.{IsOk, IfOk, IfErr, IfSome, IfNone, OnOk, OnErr};
+ghost use Rattle.std.specs.List.{flat_map};
+ghost use Rattle.run_queue.specs.declared.deque.TheConstants.{ROW_JOBS};
+ghost use Rattle.run_queue.specs.Grid.{row_of};
+
+use crate::deque::{Deque, ROW_JOBS};
+use std::alloc::{AllocError, Allocator};
+use std::marker::Model;
+
+/// Rows for one thread at a time, with room for a list of all their jobs.
+#[derive(Drop)]
+pub(crate) struct DequeRows<J, A: Allocator> {
+    deques: Vec<Deque<J, A>, A>,
+    left: Vec<J, A>,
+}
+
+// Clauses see the rows' jobs, each row front first.
+impl<J, A: Allocator> Model for DequeRows<J, A> {
+    ghost Value = { List (List J) };
+
+    ghost view = { λ r. r.deques.items };
+
+    ghost invariant = { λ r.
+        (r.left.items ≡ []) × (vec_len r.deques * ROW_JOBS ≤ vec_capacity r.left) };
+}
+
+impl<J: Drop, A: Allocator> DequeRows<J, A> {
+    /// Empty rows.
+    pub(crate) fn new(alloc: A, count: u16) -> Result<Self, AllocError>
+    where
+        A: Clone,
+        ensures { IfOk result (λ rows. rows ≡ replicate count []) }
+    {
+        let left = Vec::with_capacity(alloc.clone()?, usize::from(count) * ROW_JOBS)?;
+        let mut deques = Vec::with_capacity(alloc.clone()?, usize::from(count))?;
+        for _ in 0..count {
+            deques.push_reserved(Deque::new(alloc.clone()?)?);
+        }
+        Ok(DequeRows { deques, left })
+    }
+
+    /// How many jobs are in a row.
+    pub(crate) fn row_len(&self, row: usize) -> usize
+        ensures count { result ≡ length (row_of self.now row) }
+        ensures within { result ≤ ROW_JOBS }
+    {
+        match self.deques.get(row) {
+            Some(deque) => deque.len(),
+            None => 0,
+        }
+    }
+
+    pub(crate) fn push_front(&mut self, row: usize, job: J) -> Result<(), J>
+        ensures room { IsOk result
+            ↔ ((row < length self.old) × (length (row_of self.old row) < ROW_JOBS)) }
+        ensures pushed { OnOk result
+            (self.new ≡ slice_set self.old row (job ∷ row_of self.old row)) }
+        ensures unchanged { OnErr result (self.new ≡ self.old) }
+        ensures returned { IfErr result (λ back. back ≡ job) }
+    {
+        if row >= self.deques.len() {
+            return Err(job);
+        }
+        self.deques[row].push_front(job)
+    }
+
+    pub(crate) fn push_back(&mut self, row: usize, job: J) -> Result<(), J>
+        ensures room { IsOk result
+            ↔ ((row < length self.old) × (length (row_of self.old row) < ROW_JOBS)) }
+        ensures pushed { OnOk result
+            (self.new ≡ slice_set self.old row (row_of self.old row ++ job ∷ [])) }
+        ensures unchanged { OnErr result (self.new ≡ self.old) }
+        ensures returned { IfErr result (λ back. back ≡ job) }
+    {
+        if row >= self.deques.len() {
+            return Err(job);
+        }
+        self.deques[row].push_back(job)
+    }
+
+    pub(crate) fn pop_front(&mut self, row: usize) -> Option<J>
+        ensures popped { IfSome result (λ job. row_of self.old row ≡ job ∷ row_of self.new row) }
+        ensures others { self.new ≡ slice_set self.old row (row_of self.new row) }
+        ensures empty { IfNone result ((row_of self.old row ≡ []) × (self.new ≡ self.old)) }
+    {
+        if row >= self.deques.len() {
+            return None;
+        }
+        self.deques[row].pop_front()
+    }
+
+    pub(crate) fn pop_back(&mut self, row: usize) -> Option<J>
+        ensures popped { IfSome result (λ job.
+            row_of self.old row ≡ row_of self.new row ++ job ∷ []) }
+        ensures others { self.new ≡ slice_set self.old row (row_of self.new row) }
+        ensures empty { IfNone result ((row_of self.old row ≡ []) × (self.new ≡ self.old)) }
+    {
+        if row >= self.deques.len() {
+            return None;
+        }
+        self.deques[row].pop_back()
+    }
+
+    /// All jobs, row after row.
+    pub(crate) fn into_jobs(self) -> Vec<J, A>
+        ensures { result.items ≡ flat_map (λ row. row) self }
+    {
+        let DequeRows { deques, mut left } = self;
+        for deque in deques {
+            deque.move_into(&mut left);
+        }
+        left
+    }
+}

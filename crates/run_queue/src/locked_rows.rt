@@ -1,0 +1,123 @@
+ghost use Rattle.std.specs.Prelude.{◌≡◌, ℕ, ◌+◌, ◌≤◌, List, [], map, IfOk, All};
+ghost use Rattle.std.specs.List.{range_with_len};
+ghost use Rattle.run_queue.specs.declared.deque.TheConstants.{ROW_JOBS};
+
+use crate::deque_rows::DequeRows;
+use crate::rows::{MOST_ROWS, Rows, RowsFault};
+use std::alloc::{AllocError, Allocator, Global};
+use std::marker::Model;
+use std::sync::{Mutex, Wait};
+
+/// Rows behind one lock, which keep no accounts.
+#[derive(Drop)]
+pub struct LockedRows<J, A: Allocator = Global> {
+    rows: u16,
+    // Only contracts read it.
+    outsiders: u16,
+    deques: Mutex<DequeRows<J, A>>,
+}
+
+/// A seat at `LockedRows`.
+#[derive(Debug, Drop)]
+pub struct LockedSeat {
+    number: u32,
+}
+
+// Clauses see the number.
+impl Model for LockedSeat {
+    ghost Value = { ℕ };
+
+    ghost view = { λ s. s.number };
+
+    ghost inverse = { λ n. record { number = n } };
+}
+
+impl LockedSeat {
+    // The seat's own row, where it has one.
+    fn row(&self) -> usize
+        ensures { result ≡ self.now }
+    {
+        self.number as usize
+    }
+}
+
+impl<J: Drop, A: Allocator + Clone> Rows<J, A> for LockedRows<J, A> {
+    type Seat = LockedSeat;
+
+    ghost row_count = { λ r. r.rows };
+
+    ghost seat_count = { λ r. r.rows + r.outsiders };
+
+    // Any rows' seats will do, since a seat is no more than a number.
+    ghost Identity = { Unit {0} };
+
+    ghost identity_of = { λ _. tt };
+
+    ghost rows_of = { λ _. tt };
+
+    ghost number_of = { λ s. s };
+
+    ghost keeps_accounts = { ⊥ };
+
+    ghost puts_of = { λ _. [] };
+
+    ghost takes_of = { λ _. [] };
+
+    fn open(alloc: A, rows: u16, outsiders: u16) -> Result<(Self, Vec<LockedSeat, A>), RowsFault> {
+        if rows > MOST_ROWS {
+            return Err(RowsFault::TooManyRows);
+        }
+        let deques = Mutex::new(DequeRows::new(alloc.clone()?, rows)?);
+        let seats = seats(alloc, u32::from(rows) + u32::from(outsiders))?;
+        Ok((
+            LockedRows {
+                rows,
+                outsiders,
+                deques,
+            },
+            seats,
+        ))
+    }
+
+    fn put_front<R: Wait>(&self, rt: &R, seat: &mut LockedSeat, job: J) -> Result<(), J> {
+        self.deques.lock(rt).push_front(seat.row(), job)
+    }
+
+    fn take_front<R: Wait>(&self, rt: &R, seat: &mut LockedSeat) -> Option<J> {
+        self.deques.lock(rt).pop_front(seat.row())
+    }
+
+    fn put_back<R: Wait>(&self, rt: &R, _seat: &mut LockedSeat, row: u16, job: J) -> Result<(), J> {
+        self.deques.lock(rt).push_back(usize::from(row), job)
+    }
+
+    fn take_back<R: Wait>(&self, rt: &R, _seat: &mut LockedSeat, row: u16) -> Option<J> {
+        self.deques.lock(rt).pop_back(usize::from(row))
+    }
+
+    fn row_length<R: Wait>(&self, rt: &R, _seat: &mut LockedSeat, row: u16) -> u64
+        ensures within { result ≤ ROW_JOBS }
+        ensures number { _seat.new ≡ _seat.old }
+    {
+        self.deques.lock(rt).row_len(usize::from(row)) as u64
+    }
+
+    fn drain_with(self, seats: &mut Vec<LockedSeat, A>) -> Vec<J, A> {
+        seats.clear();
+        self.deques.into_inner().into_jobs()
+    }
+}
+
+// The seats from 0 on.
+fn seats<A: Allocator>(alloc: A, count: u32) -> Result<Vec<LockedSeat, A>, AllocError>
+    ensures { IfOk result (λ seats. seats.items ≡ range_with_len 0 count) }
+{
+    let mut seats = Vec::with_capacity(alloc, count as usize)?;
+    for number in 0..count {
+        seats.push_reserved(LockedSeat { number });
+    }
+    Ok(seats)
+}
+
+#[cfg(test)]
+mod tests;

@@ -1,0 +1,5 @@
+pub mod Bezout
+pub mod Coprime
+pub mod Cycle
+pub mod Listed
+pub mod Visits

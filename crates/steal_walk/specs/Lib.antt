@@ -1,0 +1,3 @@
+pub mod Coprimes
+pub mod Partition
+pub mod Walk

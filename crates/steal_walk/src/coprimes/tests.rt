@@ -1,0 +1,46 @@
+ghost use Rattle.std.specs.Borrow.{ffalse};
+
+use super::*;
+use std::test::Fail;
+
+/// An allocator that has no memory.
+#[derive(Clone, Copy)]
+struct Nothing;
+
+unsafe impl Allocator for Nothing {
+    ghost dealloc_token = { λ _ _ _. ffalse };
+
+    fn allocate(&self, _size: usize, _align: usize) -> Result<*mut u8, AllocError> {
+        Err(AllocError)
+    }
+
+    unsafe fn deallocate(&self, _ptr: *mut u8, _size: usize, _align: usize) {}
+}
+
+#[test]
+fn lists_the_coprimes(rt: HostRuntime) -> Result<(), Fail> {
+    let coprimes = Coprimes::new(rt.alloc(), 6)?;
+    assert_eq!(rt; coprimes.numbers(), [1, 5].as_slice());
+    let coprimes = Coprimes::new(rt.alloc(), 1)?;
+    assert_eq!(rt; coprimes.numbers(), [1].as_slice());
+    let coprimes = Coprimes::new(rt.alloc(), 2)?;
+    assert_eq!(rt; coprimes.numbers(), [1].as_slice());
+    let coprimes = Coprimes::new(rt.alloc(), 7)?;
+    assert_eq!(rt; coprimes.numbers(), [1, 2, 3, 4, 5, 6].as_slice());
+    let coprimes = Coprimes::new(rt.alloc(), 12)?;
+    assert_eq!(rt; coprimes.numbers(), [1, 5, 7, 11].as_slice());
+    Ok(())
+}
+
+#[test]
+fn lists_the_coprimes_of_a_full_pool(rt: HostRuntime) -> Result<(), Fail> {
+    let coprimes = Coprimes::new(rt.alloc(), 256)?;
+    assert_eq!(rt; coprimes.numbers().len(), 128);
+    assert!(rt; coprimes.numbers().iter().all(|number| number % 2 == 1));
+    Ok(())
+}
+
+#[test]
+fn answers_want_of_memory(rt: HostRuntime) {
+    assert!(rt; Coprimes::new(Nothing, 6).is_err());
+}

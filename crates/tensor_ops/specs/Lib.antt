@@ -1,0 +1,9 @@
+pub use Rattle.tensor_shape.specs.Index
+pub use Rattle.tensor_shape.specs.Legal
+pub use Rattle.tensor_shape.specs.Wrap
+pub mod Contents
+pub mod Cursor
+pub mod Result
+pub mod Term
+pub mod Tree
+pub mod Value

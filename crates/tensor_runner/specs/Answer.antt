@@ -1,0 +1,53 @@
+-- The answer of a text, and its line.
+use Rattle.std.specs.Prelude.{◌≡◌, ◌⊎◌, ℕ, ℤ, pos, List, [], ◌∷◌, ◌++◌, map, codes, decimal, Option, Some, None, option_map, unwrap_or}
+use Rattle.std.specs.Fmt.{signed_decimal}
+use Rattle.std.specs.List.{join_with_byte}
+use Rattle.expr_reader.specs.Contents.{Contents, nothing}
+use Rattle.expr_reader.specs.Faults.{fault_number, fault_name}
+use Rattle.expr_reader.specs.Request.{Asked, fault_of, asked_of}
+use Rattle.expr_reader.specs.Value.{tensor_of}
+use Rattle.expr_reader.specs.declared.fault.Fault.{Fault}
+use Rattle.expr_reader.specs.declared.fault.Fault.TheVariants.{NoMemory}
+use Rattle.tensor_runner.specs.declared.status.Status.{Status}
+use Rattle.tensor_runner.specs.declared.status.Status.TheVariants as status
+
+-- a tensor, or a fault
+pub data Answer : Type 0 where
+  tensor : Contents → Answer
+  fault : Fault → Answer
+
+-- the tensor that a request asks for
+abbrev pub asked_tensor : Asked → Contents
+asked_tensor a = tensor_of a.term a.inputs
+
+-- the first fault of a text; where it has none, its tensor
+abbrev pub answer_from : Option Fault → Option Asked → Answer
+answer_from (Some f) asked = fault f
+answer_from None asked = tensor (unwrap_or (option_map asked_tensor asked) nothing)
+
+abbrev pub answer_of : List ℕ → Answer
+answer_of text = answer_from (fault_of text) (asked_of text)
+
+-- numbers in decimal, with commas between
+abbrev pub numbers_text : List ℤ → List ℕ
+numbers_text xs = join_with_byte 44 (map signed_decimal xs)
+
+abbrev pub tensor_line : Contents → List ℕ
+tensor_line t =
+    codes "{\"data\":[" ++ (numbers_text t.values ++ (codes "],\"dims\":[" ++ (numbers_text (map pos t.dims) ++ (codes "]}" ++ 10 ∷ []))))
+
+abbrev pub fault_line : Fault → List ℕ
+fault_line f = codes "error " ++ decimal (fault_number f) ++ 32 ∷ fault_name f ++ 10 ∷ []
+
+-- the line that answers, with its line feed
+abbrev pub line_of : Answer → List ℕ
+line_of (tensor t) = tensor_line t
+line_of (fault f) = fault_line f
+
+abbrev pub status_of : Answer → Status
+status_of (tensor t) = status.Tensor
+status_of (fault f) = status.Fault
+
+-- the answer of the text, or want of memory
+abbrev pub IsAnswerTo : List ℕ → Answer → Type 0
+IsAnswerTo text a = (a ≡ answer_of text) ⊎ (a ≡ fault NoMemory)

@@ -1,0 +1,9 @@
+pub use Rattle.expr_reader.specs.Asked
+pub use Rattle.expr_reader.specs.Contents
+pub use Rattle.expr_reader.specs.Faults
+pub use Rattle.expr_reader.specs.Request
+pub use Rattle.expr_reader.specs.Value
+pub mod Answer
+pub mod Line
+pub mod Run
+pub mod Streams

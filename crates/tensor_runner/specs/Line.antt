@@ -1,0 +1,30 @@
+-- Lines on the way, for the private clauses of the engine.
+use Rattle.std.specs.Prelude.{◌≡◌, ℕ, ℤ, List, map}
+use Rattle.std.specs.Cow.{cow_str_bytes}
+use Rattle.serde_json.specs.Data.{Data, Items, number}
+use Rattle.serde_json.specs.View.{items_of}
+use Rattle.serde_json.specs.Find.{of_integer}
+use Rattle.expr_reader.specs.Contents.{Contents}
+use Rattle.tensor_runner.specs.Answer.{Answer, tensor, answer_of, line_of, status_of, tensor_line, IsAnswerTo}
+use Rattle.tensor_runner.specs.declared.answer.Line.{Line}
+
+-- a number as JSON
+abbrev pub integer : ℤ → Data
+integer x = number (of_integer x)
+
+-- numbers as the items of an array
+abbrev pub integers : List ℤ → Items
+integers xs = items_of (map integer xs)
+
+-- the line of the text's tensor
+pub record IsLineOfTensor (text line : List ℕ) : Type 0 where
+  pub found : Contents
+  pub answers : answer_of text ≡ tensor found
+  pub written : line ≡ tensor_line found
+
+-- the line of an answer to the text, with its status
+pub record IsLineFor (text : List ℕ) (line : Line) : Type 0 where
+  pub answer : Answer
+  pub answers : IsAnswerTo text answer
+  pub written : cow_str_bytes line.text ≡ line_of answer
+  pub status : line.status ≡ status_of answer

@@ -1,0 +1,64 @@
+//! From a stream to a line on another.
+
+ghost use Rattle.std.specs.Prelude.{◌≡◌, ◌+◌, ◌≤◌, List, ℕ, Some, Err, OnOk, IfOk, IfErr};
+ghost use Rattle.tensor_runner.specs.Line.{IsLineFor};
+ghost use Rattle.tensor_runner.specs.Run.{Answers, CutsShort};
+ghost use Rattle.tensor_runner.specs.Streams.{HasFailed};
+
+use crate::answer::{Line, answer, no_memory};
+use crate::reading::{Unread, read_text};
+use crate::status::{Status, StreamFault};
+use crate::stream::{Sink, Source};
+use crate::writing::write_line;
+use std::alloc::Global;
+
+/// The most bytes of a text that are read: one more than a text may have, which tells that it is
+/// too long.
+pub const MOST_READ: usize = 16_777_217;
+
+/// Reads a request text to its end, or to its first [`MOST_READ`] bytes, and writes the line that
+/// answers it: the tensor, or the first fault. No memory is taken from the first write on; where
+/// there is none before it, the line says so.
+///
+/// # Errors
+///
+/// [`StreamFault::ReadFault`] at any error of a read: nothing was written then.
+/// [`StreamFault::WriteFault`] at an error of a write, or where it takes nothing: the front of the
+/// line was written then.
+pub fn run<R: Source, W: Sink>(
+    alloc: Global,
+    reader: &mut R,
+    writer: &mut W,
+) -> Result<Status, StreamFault>
+    ensures answered { (text held : List ℕ) → R.remaining reader.old ≡ Some text → W.contents writer.old ≡ Some held
+        → IfOk result (Answers text held (W.contents writer.new)) }
+    ensures cut_short { (text held : List ℕ) → R.remaining reader.old ≡ Some text → W.contents writer.old ≡ Some held
+        → result ≡ Err StreamFault.WriteFault → CutsShort text held (W.contents writer.new) }
+
+    ensures read_fault { result ≡ Err StreamFault.ReadFault
+        → HasFailed (R.failures reader.old) (R.failures reader.new) × (writer.new ≡ writer.old) }
+    ensures write_fault { result ≡ Err StreamFault.WriteFault
+        → (R.failures reader.new ≡ R.failures reader.old) × HasFailed (W.failures writer.old) (W.failures writer.new) }
+    ensures no_failure { OnOk result
+        ((R.failures reader.new ≡ R.failures reader.old) × (W.failures writer.new ≡ W.failures writer.old)) }
+    ensures reads { R.calls reader.new ≤ R.calls reader.old + MOST_READ }
+{
+    let line = prepare(alloc, reader)?;
+    write_line(writer, line.text.as_str().as_bytes())?;
+    Ok(line.status)
+}
+
+/// The line that answers the text of a reader, whole in memory.
+fn prepare<R: Source>(alloc: Global, reader: &mut R) -> Result<Line, StreamFault>
+    ensures line { IfOk result (λ line. (text : List ℕ) → R.remaining reader.old ≡ Some text → IsLineFor text line) }
+    ensures ok_failures { OnOk result (R.failures reader.new ≡ R.failures reader.old) }
+    ensures err { IfErr result (λ fault. (fault ≡ StreamFault.ReadFault)
+        × HasFailed (R.failures reader.old) (R.failures reader.new)) }
+    ensures calls { R.calls reader.new ≤ R.calls reader.old + MOST_READ }
+{
+    match read_text(alloc, reader) {
+        Ok(text) => Ok(answer(alloc, text.as_slice())),
+        Err(Unread::NoMemory) => Ok(no_memory()),
+        Err(Unread::Failed) => Err(StreamFault::ReadFault),
+    }
+}

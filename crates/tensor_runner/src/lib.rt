@@ -1,0 +1,18 @@
+//! The engine: a request text in, one line out. What is written is the tensor that the text's
+//! expression means, or its first fault.
+#![tactic(auto)]
+
+mod answer;
+mod engine;
+mod evaluation;
+mod reading;
+mod status;
+mod stream;
+mod text;
+mod writing;
+
+pub use engine::{MOST_READ, run};
+pub use evaluation::eval;
+pub use expr_reader::{Request, Tensor};
+pub use status::{RunFault, Status, StreamFault};
+pub use stream::{CountedReader, CountedWriter, Sink, Source};

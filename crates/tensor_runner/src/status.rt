@@ -1,0 +1,33 @@
+//! How a run ended.
+
+ghost use Rattle.std.specs.Prelude.{◌≡◌};
+
+use thiserror::Error;
+
+/// What the line says.
+#[derive(Clone, Copy, Debug, Drop, Eq, PartialEq)]
+pub enum Status {
+    /// A tensor.
+    Tensor,
+    /// A fault of the text.
+    Fault,
+}
+
+/// Why a request has no tensor.
+#[derive(Clone, Copy, Debug, Drop, Eq, PartialEq, Error)]
+pub enum RunFault {
+    /// A growth of memory was refused.
+    #[error("error 15 NoMemory")]
+    NoMemory = 15,
+}
+
+/// Why no whole line was written.
+#[derive(Clone, Copy, Debug, Drop, Eq, PartialEq, Error)]
+pub enum StreamFault {
+    /// A read failed. Nothing was written.
+    #[error("error 16 ReadFault")]
+    ReadFault = 16,
+    /// A write failed, or took nothing. What was written is the front of the line.
+    #[error("error 17 WriteFault")]
+    WriteFault = 17,
+}

@@ -1,0 +1,28 @@
+//! Writing a line.
+
+ghost use Rattle.std.specs.Prelude.{◌≡◌, ◌<◌, ℕ, List, length, take, OnOk, IfErr};
+ghost use Rattle.std.specs.Io.KnownBytes.{Appends};
+ghost use Rattle.tensor_runner.specs.Run.{AppendsFront};
+ghost use Rattle.tensor_runner.specs.Streams.{HasFailed};
+
+use crate::status::StreamFault;
+use crate::stream::Sink;
+
+/// Writes the whole line, by as many writes as it takes. Stops at the first that fails or takes
+/// nothing.
+pub(crate) fn write_line<W: Sink>(writer: &mut W, line: &[u8]) -> Result<(), StreamFault>
+    ensures ok { OnOk result (Appends (W.contents writer.old) (W.contents writer.new) line.now) }
+    ensures ok_failures { OnOk result (W.failures writer.new ≡ W.failures writer.old) }
+    ensures err { IfErr result (λ fault. (fault ≡ StreamFault.WriteFault)
+        × AppendsFront (W.contents writer.old) (W.contents writer.new) line.now
+        × HasFailed (W.failures writer.old) (W.failures writer.new)) }
+{
+    let mut written = 0;
+    while written < line.len() {
+        match writer.write(&line[written..]) {
+            Ok(count) if count > 0 => written += count,
+            _ => return Err(StreamFault::WriteFault),
+        }
+    }
+    Ok(())
+}

@@ -1,0 +1,160 @@
+//! Dims, seen as a list of numbers.
+
+ghost use Rattle.std.specs.Prelude.{◌≡◌, ◌<◌, ◌≤◌, ◌↔◌, ℕ, List, length, Ok, Err, IsTrue, OnOk, IfOk, slice_index};
+ghost use Rattle.tensor_shape.specs.Index.{size_of, IsIndexOf, place};
+ghost use Rattle.tensor_shape.specs.Legal.{bulk_of, IsLegal};
+
+#[cfg(test)]
+mod tests;
+
+use crate::{MAX_ELEMENTS, MAX_RANK};
+use arrayvec::ArrayVec;
+use std::marker::Model;
+use thiserror::Error;
+
+/// Places for dimensions. More than [`MAX_RANK`], so that the rank can grow without a new layout.
+const CAPACITY: usize = 8;
+
+/// The dimensions of a tensor, the fastest axis first. They are legal: the rank is at most
+/// [`MAX_RANK`], and their product, a 0 counted as 1, at most [`MAX_ELEMENTS`].
+#[derive(Drop)]
+pub struct Dims {
+    sizes: ArrayVec<u64, CAPACITY>,
+}
+
+impl Model for Dims {
+    ghost use Rattle.std.specs.Prelude.{ℕ, List};
+    ghost use Rattle.tensor_shape.specs.Legal.{IsLegal};
+
+    ghost Value = { List ℕ };
+
+    ghost view = { λ d. d.sizes.items };
+
+    ghost invariant = { λ d. IsLegal d.sizes.items };
+}
+
+/// Why dims are not legal.
+#[derive(Clone, Copy, Debug, Drop, Eq, PartialEq, Error)]
+pub enum ShapeFault {
+    #[error("the rank is too high")]
+    RankTooHigh = 1,
+    #[error("there are too many elements")]
+    TooManyElements = 2,
+}
+
+impl Dims {
+    /// Dims of these sizes, the fastest axis first. Takes no memory.
+    pub fn new(sizes: &[u64]) -> Result<Dims, ShapeFault>
+        ensures ok { IfOk result (λ dims. (dims ≡ sizes.now) × IsLegal sizes.now) }
+        ensures rank { (result ≡ Err ShapeFault.RankTooHigh) ↔ (MAX_RANK < length sizes.now) }
+        ensures elements { (result ≡ Err ShapeFault.TooManyElements)
+            ↔ ((length sizes.now ≤ MAX_RANK) × (MAX_ELEMENTS < bulk_of sizes.now)) }
+    {
+        if sizes.len() > MAX_RANK {
+            return Err(ShapeFault::RankTooHigh);
+        }
+        if !holds_few(sizes) {
+            return Err(ShapeFault::TooManyElements);
+        }
+        Ok(Dims { sizes: held(sizes) })
+    }
+
+    /// The same dims, which takes no memory.
+    pub fn copied(&self) -> Dims
+        ensures { result ≡ self.now }
+    {
+        let sizes = self.sizes.as_slice();
+        Dims { sizes: held(sizes) }
+    }
+
+    /// The sizes of the axes, the fastest first.
+    pub fn as_slice(&self) -> &[u64]
+        ensures { result.now ≡ self.now }
+    {
+        self.sizes.as_slice()
+    }
+
+    /// The number of axes.
+    pub fn rank(&self) -> usize
+        ensures value { result ≡ length self.now }
+        ensures small { result ≤ MAX_RANK }
+    {
+        self.sizes.len()
+    }
+
+    /// The size of one axis.
+    pub fn dim(&self, axis: usize) -> u64
+        requires { axis < length self.now }
+        ensures { result ≡ slice_index self.now axis }
+    {
+        self.sizes[axis]
+    }
+
+    /// The number of elements.
+    pub fn size(&self) -> u64
+        ensures value { result ≡ size_of self.now }
+        ensures small { result ≤ MAX_ELEMENTS }
+    {
+        product(self.sizes.as_slice())
+    }
+
+    /// The place of an index list, which has one index an axis, each below that axis's size.
+    pub fn linear(&self, index: &[u64]) -> u64
+        requires { IsIndexOf self.now index.now }
+        ensures value { result ≡ place self.now index.now }
+        ensures below { result < size_of self.now }
+    {
+        place_of(self.sizes.as_slice(), index)
+    }
+}
+
+/// The sizes, held in place.
+fn held(sizes: &[u64]) -> ArrayVec<u64, CAPACITY>
+    requires { length sizes.now ≤ MAX_RANK }
+    ensures { result.items ≡ sizes.now }
+{
+    match ArrayVec::try_from(sizes) {
+        Ok(held) => held,
+        Err(_) => unreachable!(),
+    }
+}
+
+/// Whether the product of the sizes, a 0 counted as 1, is within the limit.
+fn holds_few(sizes: &[u64]) -> bool
+    ensures { IsTrue result ↔ (bulk_of sizes.now ≤ MAX_ELEMENTS) }
+{
+    let mut bulk: u64 = 1;
+    for size in sizes {
+        let factor = (*size).max(1);
+        if factor > MAX_ELEMENTS / bulk {
+            return false;
+        }
+        bulk *= factor;
+    }
+    true
+}
+
+/// The product of sizes.
+fn product(sizes: &[u64]) -> u64
+    requires { bulk_of sizes.now ≤ MAX_ELEMENTS }
+    ensures { result ≡ size_of sizes.now }
+{
+    let mut product: u64 = 1;
+    for size in sizes {
+        product *= *size;
+    }
+    product
+}
+
+/// The place by Horner's rule, from the slowest axis: one multiplication an axis.
+fn place_of(sizes: &[u64], index: &[u64]) -> u64
+    requires legal { bulk_of sizes.now ≤ MAX_ELEMENTS }
+    requires index { IsIndexOf sizes.now index.now }
+    ensures { result ≡ place sizes.now index.now }
+{
+    let mut place: u64 = 0;
+    for axis in (0..sizes.len()).rev() {
+        place = place * sizes[axis] + index[axis];
+    }
+    place
+}

@@ -1,0 +1,13 @@
+//! Dims of tensors, index lists and the places of elements, column-major as in Eigen's Tensor
+//! module: the first axis is the fastest.
+#![tactic(auto)]
+
+mod dims;
+
+pub use dims::{Dims, ShapeFault};
+
+/// The highest rank of legal dims.
+pub const MAX_RANK: usize = 6;
+
+/// The greatest product of all dimensions, a 0 counted as 1.
+pub const MAX_ELEMENTS: u64 = 1_048_576;
