@@ -6,6 +6,7 @@ pub mod Frames
 pub mod Owing
 pub mod Rooms
 pub mod Stored
+pub mod Opening
 pub mod Playing
 pub mod Following
 pub mod Counts

@@ -4,9 +4,9 @@ use Rattle.std.proofs.Common.{false, Option, Some, None, List, [], ◌∷◌, �
 use Rattle.std.proofs.Common.{replicate, vec_len, vec_capacity, sym, ap, refl, ◌∙◌, subst, ⊎_elim, arith, length-append}
 use Rattle.std.proofs.Common.{length-set}
 use Rattle.std.proofs.lemmas.Bool.{cases_eq, cases_lt, cond-true, cond-false, lt-ltb, le-ltb, eq-eqb, ne_eqb, eqb-true}
-use Rattle.std.proofs.lemmas.List.{length-replicate, get_or_past, get_or_read, append-nil}
+use Rattle.std.proofs.lemmas.List.{get_or_past, get_or_read, append-nil}
 use Rattle.std.proofs.lemmas.List.Quantifiers.{position-Some}
-use Rattle.std.specs.List.{range_with_len, remove}
+use Rattle.std.specs.List.{remove}
 use Rattle.std.specs.Option.{is_some}
 use Rattle.event_word.specs.declared.phase.Phase.{Phase}
 use Rattle.event_word.specs.declared.phase.Phase.TheVariants.{Running, Pre, Stacked, Ended}
@@ -15,7 +15,7 @@ use Rattle.event_word.specs.declared.event.Event.TheVariants.{Prewait, Cancel, C
 use Rattle.event_word.specs.declared.world.debts.Debt.{Debt}
 use Rattle.event_word.specs.declared.world.World.TheInside.{Inside}
 use Rattle.event_word.specs.Lists.{without}
-use Rattle.event_word.specs.World.{World, phase_of, owed_by, is_announcing, opening_world}
+use Rattle.event_word.specs.World.{World, phase_of, owed_by, is_announcing}
 use Rattle.event_word.specs.Step.{IsFree, HasPassedAll, Possible, effect, leave, announced, pop, unpark}
 use Rattle.event_word.specs.Lawful.{Lawful, HasSizes}
 use Rattle.event_word.specs.Debts.{debt, seats_owed, owed_lists, AreKnown}
@@ -23,8 +23,7 @@ use Rattle.event_word.specs.Stored.{world_view, IsStored}
 use Rattle.event_word.specs.Play.{IsOpen, IsStep}
 use Rattle.event_word.proofs.Lists.{times-append, times-le-length}
 use Rattle.event_word.proofs.Keeps.{lawful_effect, pre_known, is_waiting, owed_is_stacked}
-use Rattle.event_word.proofs.Sizes.{sizes_effect, sizes_opening}
-use Rattle.event_word.proofs.Histories.{lawful_opening}
+use Rattle.event_word.proofs.Sizes.{sizes_effect}
 use Rattle.event_word.proofs.Owing.{position-None, seats_owed-append, seats_owed-map_debt, seats_owed-map_debt_other}
 use Rattle.event_word.proofs.Owing.{seats_owed-first, seats_owed-remove_other, seats_owed-none, nowhere-seats_owed}
 use Rattle.event_word.proofs.Owing.{AreKnown-append, AreKnown-map_debt, AreKnown-remove, actor_known, length-owed_lists}
@@ -423,58 +422,18 @@ module _ {A : Type 0} (i : Inside A) (s : IsStored i) where
             ∙ (sym (get_or_read i.flags.items place flag (omega arith) read false) ∙ set_)),
       )
 
-owed_lists-nil : (workers notifiers : ℕ)
-    → owed_lists (workers + notifiers) [] ≡ replicate (workers + notifiers) []
-owed_lists-nil workers notifiers = nothing_owed (workers + notifiers) 0
-  where
-    nothing_owed : (n from : ℕ)
-        → map (λ a. seats_owed a []) (range_with_len from n) ≡ replicate n []
-    nothing_owed zero from = refl
-    nothing_owed (suc n) from = ap (λ xs. [] ∷ xs) (nothing_owed n (from + 1))
+-- the same actor is free in the same World
+pub free_same : (w v : World) (a b : ℕ) → v ≡ w → a ≡ b → IsFree w a → IsFree v b
+free_same w v a b e f free = subst (λ x. IsFree x b) (sym e) (subst (IsFree w) f free)
 
--- the lists of a new World
-pub opening_view : (workers notifiers rows : ℕ) (phases : List Phase) (flags tokens : List Bool)
-    (pre stack : List ℕ) (debts : List Debt) (lengths : List ℕ)
-    → phases ≡ replicate workers Running → flags ≡ replicate workers false
-    → tokens ≡ replicate workers false → pre ≡ [] → stack ≡ [] → debts ≡ []
-    → lengths ≡ replicate rows 0
-    → view_of phases flags tokens pre 0 stack debts lengths notifiers 0 ≡ opening_world workers
-    notifiers rows
-opening_view workers notifiers rows phases flags tokens pre stack debts lengths a b c d e f h =
-    let l = ap length a ∙ length-replicate workers Running in
-    let m = ap (λ n. replicate {A = List ℕ} n []) l in
-    let k = ap (λ n. replicate (n + notifiers) false) l in
-    let q = ap (λ ds. owed_lists (length phases + notifiers) ds) f in
-    let r = ap (λ n. owed_lists (n + notifiers) []) l in
-    let t = owed_lists-nil workers notifiers in cc
+-- the phase that a test found
+pub phase_found : (phases found : List Phase) (n place : ℕ) (p : Phase) → found ≡ phases → place ≡ n
+    → get_or found place Ended ≡ p → get_or phases n Ended ≡ p
+phase_found phases found n place p e f at = ap (λ xs. get_or xs n Ended) (sym e)
+    ∙ (ap (λ k. get_or found k Ended) (sym f) ∙ at)
 
 module _ {A : Type 0} where
-  pub opening_stored : (i : Inside A) (workers notifiers : ℕ)
-      → world_view i ≡ opening_world workers notifiers 0 → length i.phases.items ≡ workers
-      → i.notifiers ≡ notifiers → workers ≤ 16382 → i.owed.items ≡ []
-      → vec_capacity i.pre ≡ workers → vec_capacity i.stack ≡ workers
-      → vec_capacity i.owed ≡ workers → i.stop ≡ 0 → IsStored i
-  opening_stored i workers notifiers is l m few none pre stack owed going =
-      let t = subst (HasSizes workers (workers + notifiers) 0) (sym is)
-      (sizes_opening workers notifiers 0) in record {
-        lawful = subst Lawful (sym is) (lawful_opening workers notifiers 0);
-        sizes = record {
-          phases = refl;
-          flags = t.flags ∙ sym l;
-          passed = t.passed ∙ sym l;
-          owed = let o = t.owed in omega arith;
-          announcing = let o = t.announcing in omega arith;
-          tokens = t.tokens ∙ sym l;
-          lengths = t.lengths;
-        };
-        few = omega arith;
-        known = subst (AreKnown (length i.phases.items + i.notifiers)) (sym none) tt;
-        room_to_wait = omega arith;
-        room_to_park = omega arith;
-        room_to_owe = omega arith;
-        going = going;
-      }
-
+  -- an event taken is a step, and one refused is a step to the same World
   pub stepped : (i : Inside A) (now u : World) (e : Event) → world_view i ≡ now → IsOpen e
       → Possible (world_view i) e → u ≡ effect (world_view i) e → IsStep now e true u
   stepped i now u e is taken p eq = (
@@ -486,13 +445,3 @@ module _ {A : Type 0} where
   pub refused : (i : Inside A) (now : World) (e : Event) → world_view i ≡ now
       → (Possible (world_view i) e → ⊥) → IsStep now e false now
   refused i now e is never = (λ q. never (subst (λ w. Possible w e) (sym is) q.1), refl)
-
--- the same actor is free in the same World
-pub free_same : (w v : World) (a b : ℕ) → v ≡ w → a ≡ b → IsFree w a → IsFree v b
-free_same w v a b e f free = subst (λ x. IsFree x b) (sym e) (subst (IsFree w) f free)
-
--- the phase that a test found
-pub phase_found : (phases found : List Phase) (n place : ℕ) (p : Phase) → found ≡ phases → place ≡ n
-    → get_or found place Ended ≡ p → get_or phases n Ended ≡ p
-phase_found phases found n place p e f at = ap (λ xs. get_or xs n Ended) (sym e)
-    ∙ (ap (λ k. get_or found k Ended) (sym f) ∙ at)

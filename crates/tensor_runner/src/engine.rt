@@ -7,8 +7,9 @@ ghost use Rattle.tensor_runner.specs.Streams.{HasFailed};
 
 use crate::answer::{Line, answer, no_memory};
 use crate::reading::{Unread, read_text};
+use crate::sink::Sink;
+use crate::source::Source;
 use crate::status::{Status, StreamFault};
-use crate::stream::{Sink, Source};
 use crate::writing::write_line;
 use std::alloc::Global;
 

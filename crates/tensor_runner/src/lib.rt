@@ -6,13 +6,15 @@ mod answer;
 mod engine;
 mod evaluation;
 mod reading;
+mod sink;
+mod source;
 mod status;
-mod stream;
 mod text;
 mod writing;
 
 pub use engine::{MOST_READ, run};
 pub use evaluation::eval;
 pub use expr_reader::{Request, Tensor};
+pub use sink::{CountedWriter, Sink};
+pub use source::{CountedReader, Source};
 pub use status::{RunFault, Status, StreamFault};
-pub use stream::{CountedReader, CountedWriter, Sink, Source};

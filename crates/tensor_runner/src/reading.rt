@@ -4,7 +4,7 @@ ghost use Rattle.std.specs.Prelude.{◌≡◌, ◌+◌, ◌≤◌, ◌<◌, leng
 ghost use Rattle.tensor_runner.specs.Run.{IsUnread, Takes};
 
 use crate::engine::MOST_READ;
-use crate::stream::Source;
+use crate::source::Source;
 use std::alloc::Global;
 
 /// How many bytes a read asks for.

@@ -5,8 +5,8 @@ ghost use Rattle.std.specs.Io.KnownBytes.{Appends};
 ghost use Rattle.tensor_runner.specs.Run.{AppendsFront};
 ghost use Rattle.tensor_runner.specs.Streams.{HasFailed};
 
+use crate::sink::Sink;
 use crate::status::StreamFault;
-use crate::stream::Sink;
 
 /// Writes the whole line, by as many writes as it takes. Stops at the first that fails or takes
 /// nothing.

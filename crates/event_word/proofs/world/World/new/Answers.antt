@@ -1,7 +1,7 @@
 use Rattle.std.proofs.Common.{false, length, replicate, refl, ap, ◌∙◌}
 use Rattle.std.proofs.lemmas.List.{length-replicate}
 use Rattle.event_word.specs.declared.phase.Phase.TheVariants.{Running}
-use Rattle.event_word.proofs.Stored.{opening_view, opening_stored}
+use Rattle.event_word.proofs.Opening.{opening_view, opening_stored}
 use Rattle.event_word.proofs.world.World.new.Goals as goal
 
 pub invariant_of-result : goal.invariant_of-result

@@ -1,0 +1,21 @@
+//! Tests of the whole way from the bytes of a request text to the line that answers it.
+#![tactic(auto)]
+
+#[cfg(test)]
+mod each_fault;
+#[cfg(test)]
+mod evaluation;
+#[cfg(test)]
+mod fault_order;
+#[cfg(test)]
+mod fixtures;
+#[cfg(test)]
+mod lengths;
+#[cfg(test)]
+mod readers;
+#[cfg(test)]
+mod tensors;
+#[cfg(test)]
+mod trees;
+#[cfg(test)]
+mod writers;

@@ -1,0 +1,116 @@
+//! Readers that give little, and readers that fail.
+
+use crate::fixtures::{SCALAR, SCALAR_LINE};
+use std::alloc::Global;
+use std::io;
+use std::io::Read;
+use std::process::Abort;
+use std::test::Fail;
+use tensor_runner::{CountedReader, CountedWriter, Status, StreamFault, run};
+
+/// Gives a byte a call, and fails after so many calls.
+#[derive(Drop)]
+struct Dripping<'t> {
+    rest: &'t [u8],
+    good_calls: u64,
+    kind: io::ErrorKind,
+}
+
+impl<'t> Read for Dripping<'t> {
+    fn read(&mut self, buf: &mut [u8]) -> io::Result<usize> {
+        match self.good_calls.checked_sub(1) {
+            Some(good_calls) => self.good_calls = good_calls,
+            None => return Err(io::Error::from(self.kind)),
+        }
+        match (self.rest.split_first(), buf.first_mut()) {
+            (Some((byte, rest)), Some(place)) => {
+                *place = *byte;
+                self.rest = rest;
+                Ok(1)
+            }
+            _ => Ok(0),
+        }
+    }
+}
+
+/// Gives spaces without end, so many a call.
+#[derive(Drop)]
+struct Spaces {
+    most_a_call: usize,
+}
+
+impl Read for Spaces {
+    fn read(&mut self, buf: &mut [u8]) -> io::Result<usize> {
+        let count = buf.len().min(self.most_a_call);
+        buf[..count].fill(b' ');
+        Ok(count)
+    }
+}
+
+#[test]
+fn a_byte_a_read(rt: HostRuntime) -> Result<(), Fail> {
+    let mut reader = CountedReader::new(Dripping {
+        rest: SCALAR.as_bytes(),
+        good_calls: 1000,
+        kind: io::ErrorKind::Other,
+    });
+    let mut writer = CountedWriter::new(Vec::new(rt.alloc()));
+    let ended = run(rt.alloc(), &mut reader, &mut writer);
+    assert_eq!(rt; ended, Ok(Status::Tensor));
+    assert_eq!(rt; writer.writer.as_slice(), SCALAR_LINE.as_bytes());
+    // One more tells the end.
+    assert_eq!(rt; reader.calls.checked_sub(1), Some(SCALAR.len() as u64));
+    assert_eq!(rt; reader.failures, 0);
+    Ok(())
+}
+
+/// The last read is of the one byte that tells that there are too many.
+#[test]
+fn no_end(rt: HostRuntime) {
+    let mut reader = CountedReader::new(Spaces { most_a_call: 4096 });
+    let mut writer = CountedWriter::new(Vec::new(rt.alloc()));
+    let ended = run(rt.alloc(), &mut reader, &mut writer);
+    assert_eq!(rt; ended, Ok(Status::Fault));
+    assert_eq!(rt; writer.writer.as_slice(), b"error 1 TooLong\n".as_slice());
+    assert_eq!(rt; reader.calls, 4097);
+}
+
+/// Asserts that a read that fails after so many calls ends the run, with nothing written.
+fn fails_after(rt: &impl Abort, alloc: Global, good_calls: u64, kind: io::ErrorKind) {
+    let mut reader = CountedReader::new(Dripping {
+        rest: SCALAR.as_bytes(),
+        good_calls,
+        kind,
+    });
+    let mut writer = CountedWriter::new(Vec::new(alloc));
+    let ended = run(alloc, &mut reader, &mut writer);
+    assert_eq!(rt;
+        ended,
+        Err(StreamFault::ReadFault),
+        "after {good_calls} calls"
+    );
+    assert_eq!(rt; (writer.calls, writer.writer.len()), (0, 0));
+    assert_eq!(rt; reader.calls.checked_sub(1), Some(good_calls));
+    assert_eq!(rt; reader.failures, 1);
+}
+
+#[test]
+fn failing_reader(rt: HostRuntime) {
+    fails_after(&rt, rt.alloc(), 0, io::ErrorKind::Other);
+}
+
+/// The last call would tell the end.
+#[test]
+fn failing_reader_at_each_place(rt: HostRuntime) {
+    for good_calls in 0..=SCALAR.len() as u64 {
+        fails_after(&rt, rt.alloc(), good_calls, io::ErrorKind::BrokenPipe);
+    }
+}
+
+/// Any error is answered, also one that other readers try again.
+#[test]
+fn interrupted_reader(rt: HostRuntime) {
+    for good_calls in [0, 7, SCALAR.len() as u64] {
+        fails_after(&rt, rt.alloc(), good_calls, io::ErrorKind::Interrupted);
+    }
+}
