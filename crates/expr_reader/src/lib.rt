@@ -8,6 +8,8 @@ mod named;
 mod node;
 mod request;
 mod tensors;
+#[cfg(test)]
+mod tests;
 mod text;
 mod version;
 

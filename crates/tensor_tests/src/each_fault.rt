@@ -1,6 +1,6 @@
-//! Each fault of a text. A text that is too long is among the lengths, and an expression that is too
-//! large among the trees. A bad argument and an argument out of range have no text yet, since no
-//! operation takes arguments. Memory is ample, so want of it is never answered.
+//! Each fault of a text. A text that is too long is among the lengths, and an expression that is
+//! too large among the trees. A bad argument and an argument out of range have no text yet, since
+//! no operation takes arguments. Memory is ample, so want of it is never answered.
 
 use crate::fixtures::{FIVE, Fields, SCALAR_FIELDS, answers, prints, text_of};
 use std::test::Fail;

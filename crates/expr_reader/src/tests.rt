@@ -1,0 +1,95 @@
+//! Faults by number and name, and texts that are read or refused where there is memory enough.
+
+use crate::{Expr, Fault, read_request};
+use std::test::Fail;
+
+#[test]
+fn faults_by_number_and_name(rt: HostRuntime) {
+    let faults = [
+        (Fault::TooLong, 1, "TooLong"),
+        (Fault::NotJson, 2, "NotJson"),
+        (Fault::BadField, 3, "BadField"),
+        (Fault::BadVersion, 4, "BadVersion"),
+        (Fault::BadWorkers, 5, "BadWorkers"),
+        (Fault::BadBlock, 6, "BadBlock"),
+        (Fault::BadTensor, 7, "BadTensor"),
+        (Fault::UnknownInput, 8, "UnknownInput"),
+        (Fault::UnknownOp, 9, "UnknownOp"),
+        (Fault::BadArity, 10, "BadArity"),
+        (Fault::BadArgument, 11, "BadArgument"),
+        (Fault::ShapeMismatch, 12, "ShapeMismatch"),
+        (Fault::OutOfRange, 13, "OutOfRange"),
+        (Fault::TooLarge, 14, "TooLarge"),
+        (Fault::NoMemory, 15, "NoMemory"),
+    ];
+    for (fault, number, name) in faults {
+        assert_eq!(rt; fault.number(), number, "{fault:?}");
+        assert_eq!(rt; fault.name(), name, "{fault:?}");
+    }
+}
+
+#[test]
+fn reads_a_request(rt: HostRuntime) -> Result<(), Fail> {
+    let text = concat!(
+        r#"{"version":1,"workers":2,"block":4,"inputs":{"b":{"dims":[1],"data":[-7]},"#,
+        r#""a":{"dims":[2],"data":[5,6]}},"expr":["add","b","b"]}"#,
+    );
+    let request = read_request(rt.alloc(), text.as_bytes())?;
+    assert_eq!(rt; request.workers, 2);
+    assert_eq!(rt; request.block, 4);
+    assert_eq!(rt; request.inputs.len(), 2);
+    assert_eq!(rt; request.inputs.get(0).values(), [5, 6].as_slice());
+    assert_eq!(rt; request.inputs.get(1).values(), [-7].as_slice());
+    match request.expr {
+        Expr::Add(left, right) => {
+            assert!(rt; matches!(*left, Expr::Input(1)));
+            assert!(rt; matches!(*right, Expr::Input(1)));
+        }
+        Expr::Input(_) => assert!(rt; false, "the expression is no sum"),
+    }
+    Ok(())
+}
+
+/// Each text has the fault of the next one too, which comes later.
+#[test]
+fn answers_the_first_fault(rt: HostRuntime) {
+    let texts = [
+        ("", Fault::NotJson),
+        (
+            r#"{"version":2,"workers":65,"block":0,"inputs":0}"#,
+            Fault::BadField,
+        ),
+        (
+            r#"{"version":2,"workers":65,"block":0,"inputs":0,"expr":0}"#,
+            Fault::BadVersion,
+        ),
+        (
+            r#"{"version":1,"workers":65,"block":0,"inputs":0,"expr":0}"#,
+            Fault::BadWorkers,
+        ),
+        (
+            r#"{"version":1,"workers":64,"block":0,"inputs":0,"expr":0}"#,
+            Fault::BadBlock,
+        ),
+        (
+            r#"{"version":1,"workers":64,"block":1,"inputs":0,"expr":0}"#,
+            Fault::BadTensor,
+        ),
+        (
+            r#"{"version":1,"workers":64,"block":1,"inputs":{},"expr":["sum","a"]}"#,
+            Fault::UnknownOp,
+        ),
+        (
+            r#"{"version":1,"workers":64,"block":1,"inputs":{},"expr":["add","a"]}"#,
+            Fault::BadArity,
+        ),
+        (
+            r#"{"version":1,"workers":64,"block":1,"inputs":{},"expr":["add","a",0]}"#,
+            Fault::UnknownInput,
+        ),
+    ];
+    for (text, fault) in texts {
+        let found = read_request(rt.alloc(), text.as_bytes()).err();
+        assert_eq!(rt; found, Some(fault), "at {text}");
+    }
+}
