@@ -58,7 +58,7 @@ fn reads_a_request(rt: HostRuntime) -> Result<(), Fail> {
     Ok(())
 }
 
-/// Each text has the fault of the next one too, which comes later.
+/// Each text but the empty one has a later fault too, which is not answered.
 #[test]
 fn answers_the_first_fault(rt: HostRuntime) {
     let texts = [
