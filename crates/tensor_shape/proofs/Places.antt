@@ -1,7 +1,9 @@
 -- Places by Horner's rule, and within the size.
-use Rattle.std.proofs.Common.{◌≡◌, ℕ, zero, suc, ◌+◌, ◌*◌, ◌/◌, ◌%◌, ◌<◌, List, [], ◌∷◌, length, get_or, drop, refl, ap, ◌∙◌, arith, add-one}
+use Rattle.std.proofs.Common.{◌≡◌, ℕ, zero, suc, ◌+◌, ◌*◌, ◌/◌, ◌%◌, ◌<◌, List, [], ◌∷◌, length}
+use Rattle.std.proofs.Common.{get_or, drop, refl, ap, ◌∙◌, arith, add-one}
 use Rattle.std.proofs.Math.Seq.{drop-cons}
-use Rattle.std.proofs.Math.Nat.{mul-le-mul_left, mod-lt, mod-add-div, mod-eq_of_lt, div-eq_of_lt, div-lt_iff_lt-mul, add-mul-mod_self_left, add-mul-div_left}
+use Rattle.std.proofs.Math.Nat.{mul-le-mul_left, mod-lt, mod-add-div, mod-eq_of_lt, div-eq_of_lt}
+use Rattle.std.proofs.Math.Nat.{div-lt_iff_lt-mul, add-mul-mod_self_left, add-mul-div_left}
 use Rattle.tensor_shape.specs.Index.{size_of, IsIndexOf, place_by, place, index_of}
 use Rattle.tensor_shape.specs.Legal.{bulk_of}
 use Rattle.tensor_shape.proofs.Sizes.{size_of-le-bulk_of, bulk_of-drop-le}

@@ -11,7 +11,9 @@ returns-in_err-write_line-clause-cut_short g c = λ text held known holds failed
     let bytes : c.as_bytes.result.now ≡ line_of line.answer =
     c.as_bytes.ensures.value ∙ c.as_str.ensures.value ∙ line.written in
     let front = c.in_err-write_line.ensures.err.1 in
-    let cut : (taken : ℕ) × (taken < length (line_of line.answer)) × Appends (Some held) (g.W.Sink.contents c.write_line.new.writer) (take taken (line_of line.answer)) =
+    let cut : (taken : ℕ) × (taken < length (line_of line.answer))
+    × Appends (Some held) (g.W.Sink.contents c.write_line.new.writer)
+    (take taken (line_of line.answer)) =
     subst (λ b. AppendsFront (Some held) (g.W.Sink.contents c.write_line.new.writer) b) bytes
     (subst (λ o. AppendsFront o (g.W.Sink.contents c.write_line.new.writer) c.as_bytes.result.now) holds front) in
     record {

@@ -9,7 +9,12 @@ loop-written-preserved g c =
     let rest = take (length line - c.loop-written.written) (drop c.loop-written.written line) in
     let more = Appends-trans (g.W.Sink.contents c.args.writer.now) (g.W.Sink.contents c.loop-written.writer) (g.W.Sink.contents c.write.new.self)
     (take c.loop-written.written line) (take c.in-Ok.count rest) c.loop-written.invariant.1 c.in-Ok.ensures.bytes in (
-      omega (arith, c.in-Ok.ensures.bound, length-take (length line - c.loop-written.written) (drop c.loop-written.written line), length-drop c.loop-written.written line),
+      omega (
+        arith,
+        c.in-Ok.ensures.bound,
+        length-take (length line - c.loop-written.written) (drop c.loop-written.written line),
+        length-drop c.loop-written.written line,
+      ),
       rw (take-front line c.loop-written.written c.in-Ok.count) at more,
       c.write.ensures.failures ∙ failures_after-took_some c.write.result c.in-Ok.count _ c.in-Ok.is c.if-count-gt0.true ∙ c.loop-written.invariant.2,
     )
