@@ -1,11 +1,14 @@
 -- No event changes how many workers, actors and rows there are.
-use Rattle.std.proofs.Common.{ℕ, ◌+◌, ◌-◌, ◌==◌, if◌then◌else◌, nat_lt, Bool, true, false, List, [], ◌∷◌, ◌++◌, length, sym, refl, ◌∙◌, subst, length-set}
+use Rattle.std.proofs.Common.{ℕ, ◌+◌, ◌-◌, ◌==◌, if◌then◌else◌, nat_lt, Bool, true, false, List, []}
+use Rattle.std.proofs.Common.{◌∷◌, ◌++◌, length, sym, refl, ◌∙◌, subst, length-set}
 use Rattle.std.proofs.lemmas.Bool.{cond_both}
 use Rattle.event_word.specs.declared.phase.Phase.{Phase}
 use Rattle.event_word.specs.declared.phase.Phase.TheVariants.{Running, Pre, Stacked, Ended}
 use Rattle.event_word.specs.declared.event.Event.{Event}
-use Rattle.event_word.specs.declared.event.Event.TheVariants.{Publish, Prewait, Pass, PassFlag, Cancel, Commit, Notify}
-use Rattle.event_word.specs.declared.event.Event.TheVariants.{NotifyAll, Unpark, Wake, Take, Stop, End}
+use Rattle.event_word.specs.declared.event.Event.TheVariants.{Publish, Prewait, Pass, PassFlag}
+use Rattle.event_word.specs.declared.event.Event.TheVariants.{Cancel, Commit, Notify}
+use Rattle.event_word.specs.declared.event.Event.TheVariants.{NotifyAll, Unpark, Wake, Take, Stop}
+use Rattle.event_word.specs.declared.event.Event.TheVariants.{End}
 use Rattle.event_word.specs.World.{World, owed_by, length_of}
 use Rattle.event_word.specs.Step.{effect, leave, announced, pop, unpark}
 use Rattle.event_word.specs.Play.{IsStep, SameSizes}

@@ -1,5 +1,6 @@
 -- The word follows the event model.
-use Rattle.std.proofs.Common.{◌≡◌, ℕ, ◌+◌, ◌-◌, ◌==◌, if◌then◌else◌, nat_lt, List, [], ◌∷◌, length, sym, ap, refl, ◌∙◌, arith, length-append}
+use Rattle.std.proofs.Common.{◌≡◌, ℕ, ◌+◌, ◌-◌, ◌==◌, if◌then◌else◌, nat_lt, List, [], ◌∷◌, length}
+use Rattle.std.proofs.Common.{sym, ap, refl, ◌∙◌, arith, length-append}
 use Rattle.std.proofs.lemmas.Bool.{cond-true, cond-false, lt-ltb, le-ltb}
 use Rattle.event_word.specs.declared.phase.Phase.TheVariants.{Running, Stacked}
 use Rattle.event_word.specs.declared.event.Event.TheVariants.{Cancel, Notify}

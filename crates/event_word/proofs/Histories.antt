@@ -1,5 +1,6 @@
 -- Lists of events that grow at their end, and what every World holds that they lead to.
-use Rattle.std.proofs.Common.{◌≡◌, ℕ, zero, suc, ◌+◌, false, List, [], ◌∷◌, ◌++◌, length, get_or, replicate, sym, ap, refl, ◌∙◌, subst, arith}
+use Rattle.std.proofs.Common.{◌≡◌, ℕ, zero, suc, ◌+◌, false, List, [], ◌∷◌, ◌++◌, length, get_or}
+use Rattle.std.proofs.Common.{replicate, sym, ap, refl, ◌∙◌, subst, arith}
 use Rattle.event_word.specs.declared.phase.Phase.TheVariants.{Running, Ended}
 use Rattle.event_word.specs.declared.event.Event.{Event}
 use Rattle.event_word.specs.Lists.{one_if, total, times}

@@ -1,21 +1,30 @@
 -- Each event keeps a World lawful.
-use Rattle.std.proofs.Common.{◌≡◌, ◌≢◌, ℕ, ◌+◌, ◌-◌, ◌≤◌, ◌<◌, ◌==◌, if◌then◌else◌, nat_lt, Bool, true, false, List, []}
-use Rattle.std.proofs.Common.{◌∷◌, ◌++◌, length, get_or, set, sym, ap, refl, ◌∙◌, subst, ⊎_elim, arith, length-append}
+use Rattle.std.proofs.Common.{◌≡◌, ◌≢◌, ℕ, ◌+◌, ◌-◌, ◌≤◌, ◌<◌, ◌==◌, if◌then◌else◌, nat_lt, Bool}
+use Rattle.std.proofs.Common.{true, false, List, []}
+use Rattle.std.proofs.Common.{◌∷◌, ◌++◌, length, get_or, set, sym, ap, refl, ◌∙◌, subst, ⊎_elim}
+use Rattle.std.proofs.Common.{arith, length-append}
 use Rattle.std.proofs.Common.{length-set, get_or-set_same, get_or-set_other}
-use Rattle.std.proofs.lemmas.Bool.{cases_eq, cases_lt, cond_both, ltb-true, ltb-false, eqb-true, eqb-false, true≢false}
+use Rattle.std.proofs.lemmas.Bool.{cases_eq, cases_lt, cond_both, ltb-true, ltb-false, eqb-true}
+use Rattle.std.proofs.lemmas.Bool.{eqb-false, true≢false}
 use Rattle.std.proofs.lemmas.List.{get_or_past}
 use Rattle.event_word.specs.declared.phase.Phase.{Phase}
 use Rattle.event_word.specs.declared.phase.Phase.TheVariants.{Running, Pre, Stacked, Ended}
 use Rattle.event_word.specs.declared.event.Event.{Event}
-use Rattle.event_word.specs.declared.event.Event.TheVariants.{Publish, Prewait, Pass, PassFlag, Cancel, Commit, Notify}
-use Rattle.event_word.specs.declared.event.Event.TheVariants.{NotifyAll, Unpark, Wake, Take, Stop, End}
+use Rattle.event_word.specs.declared.event.Event.TheVariants.{Publish, Prewait, Pass, PassFlag}
+use Rattle.event_word.specs.declared.event.Event.TheVariants.{Cancel, Commit, Notify}
+use Rattle.event_word.specs.declared.event.Event.TheVariants.{NotifyAll, Unpark, Wake, Take, Stop}
+use Rattle.event_word.specs.declared.event.Event.TheVariants.{End}
 use Rattle.event_word.specs.Lists.{one_if, total, times, without}
-use Rattle.event_word.specs.World.{World, phase_of, has_passed_flag, owed_by, is_announcing, has_token}
+use Rattle.event_word.specs.World.{World, phase_of, has_passed_flag, owed_by, is_announcing}
+use Rattle.event_word.specs.World.{has_token}
 use Rattle.event_word.specs.Step.{IsFree, Possible, effect, leave, announced, notify, pop, unpark}
 use Rattle.event_word.specs.Lawful.{waits, sleeps, stands, unstopped, Lawful}
-use Rattle.event_word.proofs.Lists.{one_if-le-one, one_if-same, one_if-other, times-append, times-one_same}
-use Rattle.event_word.proofs.Lists.{times-one_other, length-without, times-without, times-without_other, total-without}
-use Rattle.event_word.proofs.Lists.{total-elsewhere, total-append, total-set, total-le-length, at-le-total, each-set}
+use Rattle.event_word.proofs.Lists.{one_if-le-one, one_if-same, one_if-other, times-append}
+use Rattle.event_word.proofs.Lists.{times-one_same}
+use Rattle.event_word.proofs.Lists.{times-one_other, length-without, times-without}
+use Rattle.event_word.proofs.Lists.{times-without_other, total-without}
+use Rattle.event_word.proofs.Lists.{total-elsewhere, total-append, total-set, total-le-length}
+use Rattle.event_word.proofs.Lists.{at-le-total, each-set}
 use Rattle.event_word.proofs.Lists.{get_or-set_default}
 
 -- a seat that has a phase but Ended is a worker

@@ -1,5 +1,6 @@
 -- Events that are played one after the other.
-use Rattle.std.proofs.Common.{ℕ, ◌+◌, Bool, true, false, List, [], ◌∷◌, ◌++◌, ◌<◌, length, get_or, take, sym, ap, refl, ◌∙◌, subst, inl, inr, ⊎_elim, arith}
+use Rattle.std.proofs.Common.{ℕ, ◌+◌, Bool, true, false, List, [], ◌∷◌, ◌++◌, ◌<◌, length, get_or}
+use Rattle.std.proofs.Common.{take, sym, ap, refl, ◌∙◌, subst, inl, inr, ⊎_elim, arith}
 use Rattle.std.proofs.lemmas.List.{take_more}
 use Rattle.event_word.specs.declared.event.Event.{Event}
 use Rattle.event_word.specs.Lists.{one_if}

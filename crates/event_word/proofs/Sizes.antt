@@ -1,12 +1,15 @@
 -- No event adds or drops an entry of a worker, an actor or a row.
-use Rattle.std.proofs.Common.{ℕ, ◌+◌, ◌-◌, ◌==◌, if◌then◌else◌, nat_lt, true, false, List, [], ◌∷◌, ◌++◌, length, ◌∙◌, length-set}
+use Rattle.std.proofs.Common.{ℕ, ◌+◌, ◌-◌, ◌==◌, if◌then◌else◌, nat_lt, true, false, List, [], ◌∷◌}
+use Rattle.std.proofs.Common.{◌++◌, length, ◌∙◌, length-set}
 use Rattle.std.proofs.lemmas.Bool.{cond_both}
 use Rattle.std.proofs.lemmas.List.{length-replicate}
 use Rattle.event_word.specs.declared.phase.Phase.{Phase}
 use Rattle.event_word.specs.declared.phase.Phase.TheVariants.{Running, Pre, Stacked, Ended}
 use Rattle.event_word.specs.declared.event.Event.{Event}
-use Rattle.event_word.specs.declared.event.Event.TheVariants.{Publish, Prewait, Pass, PassFlag, Cancel, Commit, Notify}
-use Rattle.event_word.specs.declared.event.Event.TheVariants.{NotifyAll, Unpark, Wake, Take, Stop, End}
+use Rattle.event_word.specs.declared.event.Event.TheVariants.{Publish, Prewait, Pass, PassFlag}
+use Rattle.event_word.specs.declared.event.Event.TheVariants.{Cancel, Commit, Notify}
+use Rattle.event_word.specs.declared.event.Event.TheVariants.{NotifyAll, Unpark, Wake, Take, Stop}
+use Rattle.event_word.specs.declared.event.Event.TheVariants.{End}
 use Rattle.event_word.specs.World.{World, rows_passed_by, owed_by, length_of, opening_world}
 use Rattle.event_word.specs.Step.{effect, leave, announced, pop, unpark}
 use Rattle.event_word.specs.Lawful.{HasSizes}

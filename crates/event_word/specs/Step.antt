@@ -1,12 +1,16 @@
 -- Which events are possible, and what each does.
-use Rattle.std.specs.Prelude.{◌≡◌, ◌≢◌, ℕ, ◌+◌, ◌-◌, ◌<◌, ◌==◌, nat_lt, if◌then◌else◌, true, false, List, [], ◌∷◌, ◌++◌, length, slice_set, Contains}
+use Rattle.std.specs.Prelude.{◌≡◌, ◌≢◌, ℕ, ◌+◌, ◌-◌, ◌<◌, ◌==◌, nat_lt, if◌then◌else◌, true, false}
+use Rattle.std.specs.Prelude.{List, [], ◌∷◌, ◌++◌, length, slice_set, Contains}
 use Rattle.event_word.specs.declared.phase.Phase.{Phase}
 use Rattle.event_word.specs.declared.phase.Phase.TheVariants.{Running, Pre, Stacked, Ended}
 use Rattle.event_word.specs.declared.event.Event.{Event}
-use Rattle.event_word.specs.declared.event.Event.TheVariants.{Publish, Prewait, Pass, PassFlag, Cancel, Commit, Notify}
-use Rattle.event_word.specs.declared.event.Event.TheVariants.{NotifyAll, Unpark, Wake, Take, Stop, End}
+use Rattle.event_word.specs.declared.event.Event.TheVariants.{Publish, Prewait, Pass, PassFlag}
+use Rattle.event_word.specs.declared.event.Event.TheVariants.{Cancel, Commit, Notify}
+use Rattle.event_word.specs.declared.event.Event.TheVariants.{NotifyAll, Unpark, Wake, Take, Stop}
+use Rattle.event_word.specs.declared.event.Event.TheVariants.{End}
 use Rattle.event_word.specs.Lists.{without}
-use Rattle.event_word.specs.World.{World, phase_of, has_passed_flag, rows_passed_by, owed_by, is_announcing, has_token, length_of}
+use Rattle.event_word.specs.World.{World, phase_of, has_passed_flag, rows_passed_by, owed_by}
+use Rattle.event_word.specs.World.{is_announcing, has_token, length_of}
 
 -- how many jobs a row can count
 abbrev pub row_limit : ℕ

@@ -1,5 +1,7 @@
 -- Lists of values, item by item.
-use Rattle.std.proofs.Common.{◌≡◌, ℕ, ◌<◌, List, [], ◌∷◌, ◌++◌, length, Option, Some, None, option_map, option_and_then, refl, ap, sym, ◌∙◌, arith, ℤ, suc, ◌==◌, if◌then◌else◌}
+use Rattle.std.proofs.Common.{◌≡◌, ℕ, ◌<◌, List, [], ◌∷◌, ◌++◌, length, Option, Some, None}
+use Rattle.std.proofs.Common.{option_map, option_and_then, refl, ap, sym, ◌∙◌, arith, ℤ, suc, ◌==◌}
+use Rattle.std.proofs.Common.{if◌then◌else◌}
 use Rattle.std.proofs.lemmas.Bool.{ne_eqb, lt-leb}
 use Rattle.tensor_ops.specs.Legal.{are_legal}
 use Rattle.serde_json.specs.Data.{Data, Items, no_items, item}

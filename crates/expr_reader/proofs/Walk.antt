@@ -1,5 +1,6 @@
 -- The walk over the tree, a node at a time.
-use Rattle.std.proofs.Common.{◌≡◌, ℕ, suc, ◌+◌, ◌<◌, List, length, Some, None, Result, Ok, Err, IsOk, inl, inr, refl, ap, sym, ◌∙◌, arith, add-one}
+use Rattle.std.proofs.Common.{◌≡◌, ℕ, suc, ◌+◌, ◌<◌, List, length, Some, None, Result, Ok, Err}
+use Rattle.std.proofs.Common.{IsOk, inl, inr, refl, ap, sym, ◌∙◌, arith, add-one}
 use Rattle.std.specs.Option.{option_or, option_map_or}
 use Rattle.std.proofs.lemmas.Bool.{lt-leb, ne_eqb, lt-ltb}
 use Rattle.serde_json.specs.Data.{Data, string, array, Items, no_items, item}
@@ -8,7 +9,8 @@ use Rattle.tensor_ops.specs.Term.{Term, Binary}
 use Rattle.tensor_ops.specs.Term as term
 use Rattle.tensor_ops.specs.Result.{Shaped, dims_of}
 use Rattle.expr_reader.specs.Faults.{dims_fault}
-use Rattle.expr_reader.specs.Node.{nodes_of, operands_of, operation_at, node_fault, term_in, applied, operands_fault, fault_within, fault_at}
+use Rattle.expr_reader.specs.Node.{nodes_of, operands_of, operation_at, node_fault, term_in}
+use Rattle.expr_reader.specs.Node.{applied, operands_fault, fault_within, fault_at}
 use Rattle.expr_reader.specs.Profile.{Profile, binary}
 use Rattle.expr_reader.specs.Tensors.{Named, number_of}
 use Rattle.expr_reader.proofs.Numbers.{number_of-below}

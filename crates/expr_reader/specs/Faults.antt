@@ -3,7 +3,11 @@ use Rattle.std.specs.Prelude.{ℕ, List, codes, Option, Some, None, Result, Ok, 
 use Rattle.tensor_ops.specs.declared.fault.ExprFault.{ExprFault}
 use Rattle.tensor_ops.specs.declared.fault.ExprFault.TheVariants as expr
 use Rattle.expr_reader.specs.declared.fault.Fault.{Fault}
-use Rattle.expr_reader.specs.declared.fault.Fault.TheVariants.{TooLong, NotJson, BadField, BadVersion, BadWorkers, BadBlock, BadTensor, UnknownInput, UnknownOp, BadArity, BadArgument, ShapeMismatch, OutOfRange, TooLarge, NoMemory}
+use Rattle.expr_reader.specs.declared.fault.Fault.TheVariants.{TooLong, NotJson, BadField}
+use Rattle.expr_reader.specs.declared.fault.Fault.TheVariants.{BadVersion, BadWorkers, BadBlock}
+use Rattle.expr_reader.specs.declared.fault.Fault.TheVariants.{BadTensor, UnknownInput, UnknownOp}
+use Rattle.expr_reader.specs.declared.fault.Fault.TheVariants.{BadArity, BadArgument, ShapeMismatch}
+use Rattle.expr_reader.specs.declared.fault.Fault.TheVariants.{OutOfRange, TooLarge, NoMemory}
 
 abbrev pub fault_number : Fault → ℕ
 fault_number TooLong = 1

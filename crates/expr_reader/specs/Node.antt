@@ -1,8 +1,10 @@
 -- The tree of an expression: the term that it names, and the first fault on a walk over it. A node is
 -- looked at before its operands, these from the left and each wholly, and then come its own checks.
-use Rattle.std.specs.Prelude.{ℕ, zero, suc, ◌+◌, ◌==◌, nat_le, List, Result, Option, Some, None, is_some, option_and_then, unwrap_or, if◌then◌else◌}
+use Rattle.std.specs.Prelude.{ℕ, zero, suc, ◌+◌, ◌==◌, nat_le, List, Result, Option, Some, None}
+use Rattle.std.specs.Prelude.{is_some, option_and_then, unwrap_or, if◌then◌else◌}
 use Rattle.std.specs.Option.{option_or, option_map_or}
-use Rattle.serde_json.specs.Data.{Data, null, boolean, number, string, array, object, Items, no_items, item}
+use Rattle.serde_json.specs.Data.{Data, null, boolean, number, string, array, object, Items}
+use Rattle.serde_json.specs.Data.{no_items, item}
 use Rattle.serde_json.specs.Events.{items_len}
 use Rattle.serde_json.specs.Find.{as_str}
 use Rattle.tensor_ops.specs.Term.{Term, input}
@@ -13,7 +15,8 @@ use Rattle.expr_reader.specs.Faults.{dims_fault}
 use Rattle.expr_reader.specs.Profile.{Profile, Operation, binary, operation_named}
 use Rattle.expr_reader.specs.Tensors.{Named, number_of}
 use Rattle.expr_reader.specs.declared.fault.Fault.{Fault}
-use Rattle.expr_reader.specs.declared.fault.Fault.TheVariants.{UnknownInput, UnknownOp, BadArity, TooLarge}
+use Rattle.expr_reader.specs.declared.fault.Fault.TheVariants.{UnknownInput, UnknownOp, BadArity}
+use Rattle.expr_reader.specs.declared.fault.Fault.TheVariants.{TooLarge}
 use Rattle.expr_reader.specs.declared.TheConstants.{MAX_NODES}
 
 -- how many operands stand after an operation
