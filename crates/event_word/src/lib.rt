@@ -18,5 +18,5 @@ pub use after::{
 pub use event::Event;
 pub use laws::{events_leave_others_alone, runs_are_lawful, word_follows_world};
 pub use phase::Phase;
-pub use word::{Fields, pack, unpack};
+pub use word::{Fields, PRE_WAITER, pack, unpack};
 pub use world::World;

@@ -17,8 +17,8 @@ pub struct Fields {
 
 /// The top of an empty stack.
 pub(crate) const NOBODY: u64 = 16_383;
-/// One pre-waiter, as a part of a word.
-pub(crate) const PRE_WAITER: u64 = 1 << 14;
+/// One pre-waiter, as a part of a word: what a prewait adds to it.
+pub const PRE_WAITER: u64 = 1 << 14;
 /// One signal, as a part of a word.
 pub(crate) const SIGNAL: u64 = 1 << 28;
 /// One epoch, as a part of a word.

@@ -1,0 +1,57 @@
+-- Events of one actor.
+use Rattle.std.proofs.Common.{◌≡◌, ◌≢◌, ℕ, ◌==◌, List, [], ◌∷◌, ◌++◌, sym, ap, refl, ◌∙◌, eq-eqb}
+use Rattle.std.proofs.Common.{ne_eqb}
+use Rattle.std.proofs.Common.{append-nil}
+use Rattle.std.proofs.lemmas.Bool.{cond-true, cond-false}
+use Rattle.std.proofs.lemmas.List.Elements.{filter-append}
+use Rattle.event_word.specs.declared.event.Event.{Event}
+use Rattle.event_word.specs.World.{World, phase_of, owed_by}
+use Rattle.event_word.specs.Step.{actor_of, effect}
+use Rattle.event_word.specs.Runs.{Runs}
+use Rattle.event_word.proofs.Frames.{alone_effect}
+use Rattle.event_count.specs.Shown.{events_of}
+
+-- each event is the actor's
+abbrev pub AreBy : ℕ → List Event → Type 0
+AreBy actor [] = Unit {0}
+AreBy actor (e ∷ events) = (actor_of e ≡ actor) × AreBy actor events
+
+-- they leave the phase and the debts of another number alone
+pub left_alone : (actor n : ℕ) → n ≢ actor → (w : World) (events : List Event) (u : World)
+    → AreBy actor events → Runs w events u
+    → (phase_of u n ≡ phase_of w n) × (owed_by u n ≡ owed_by w n)
+left_alone actor n ne w [] u by runs =
+    (ap (λ x. phase_of x n) (sym runs), ap (λ x. owed_by x n) (sym runs))
+left_alone actor n ne w (e ∷ events) u by runs =
+    let alone = alone_effect n w e (λ is. ne (is ∙ by.0)) in
+    let rest = left_alone actor n ne (effect w e) events u by.1 runs.1 in
+    (rest.0 ∙ alone.phase, rest.1 ∙ alone.owed)
+
+all_mine : (actor : ℕ) (events : List Event) → AreBy actor events
+    → events_of actor events ≡ events
+all_mine actor [] by = refl
+all_mine actor (e ∷ events) by =
+    cond-true (actor_of e == actor) (e ∷ events_of actor events) (events_of actor events)
+    (eq-eqb (actor_of e) actor by.0)
+    ∙ ap (λ es. e ∷ es) (all_mine actor events by.1)
+
+none_theirs : (actor n : ℕ) (events : List Event) → n ≢ actor → AreBy actor events
+    → events_of n events ≡ []
+none_theirs actor n [] ne by = refl
+none_theirs actor n (e ∷ events) ne by =
+    cond-false (actor_of e == n) (e ∷ events_of n events) (events_of n events)
+    (ne_eqb (actor_of e) n (λ is. ne (sym is ∙ by.0)))
+    ∙ none_theirs actor n events ne by.1
+
+pub events_of-mine : (actor : ℕ) (history events : List Event) → AreBy actor events
+    → events_of actor (history ++ events) ≡ events_of actor history ++ events
+events_of-mine actor history events by =
+    filter-append (λ e. actor_of e == actor) history events
+    ∙ ap (λ es. events_of actor history ++ es) (all_mine actor events by)
+
+pub events_of-theirs : (actor n : ℕ) (history events : List Event) → n ≢ actor
+    → AreBy actor events → events_of n (history ++ events) ≡ events_of n history
+events_of-theirs actor n history events ne by =
+    filter-append (λ e. actor_of e == n) history events
+    ∙ (ap (λ es. events_of n history ++ es) (none_theirs actor n events ne by)
+    ∙ append-nil (events_of n history))

@@ -1,0 +1,136 @@
+-- Cards that move from one view to another keep the rule.
+use Rattle.std.proofs.Common.{◌≡◌, ℕ, ◌+◌, ◌<◌, List, [], ◌∷◌, ◌++◌, length, set, ap}
+use Rattle.std.proofs.Common.{◌∙◌, subst, ⊎_elim, arith, All, length-append}
+use Rattle.std.proofs.lemmas.List.{map-append}
+use Rattle.std.proofs.lemmas.List.Elements.{All-nil, All-cons, All-head, All-tail, All-append}
+use Rattle.atomic_table.specs.Table.{Splits, Joins, Enters, step}
+use mathlib.Core.Option.{none}
+use Rattle.atomic_table.proofs.Lists.{at_set, at_snoc}
+use Rattle.event_word.specs.Lists.{times}
+use Rattle.event_word.proofs.Lists.{times-append, total-append}
+use Rattle.event_count.specs.declared.rule.Sizes.{Sizes}
+use Rattle.event_count.specs.declared.view.Card.{Card}
+use Rattle.event_count.specs.declared.view.View.{View}
+use Rattle.event_count.specs.Cards.{first_card, other_cards, after_deal, dealt, together, spent}
+use Rattle.event_count.specs.declared.rule.TheConstants.{STATE}
+use Rattle.event_count.specs.Plays.{Sat, arrives}
+use Rattle.event_count.specs.Shown.{CountState, numbers_in, IsTrue, Keeps, AreDealt, Each}
+use Rattle.event_count.specs.Shown.{ShowsWorld}
+use Rattle.event_count.proofs.Cards.{numbers}
+use Rattle.event_count.proofs.Totals.{total-set_at}
+
+-- other views with the same cards keep the rule
+reseated : (k : Sizes) (s : CountState) (views : List View)
+    → ((P : Card → Type 0) → Each P s.views → Each P views)
+    → (AreDealt k s.views → AreDealt k views)
+    → ShowsWorld k s → ShowsWorld k record { words = s.words; homes = s.homes; views = views }
+reseated k s views each deals shows =
+    let history = shows.0 in let w = shows.1 in let epochs = shows.2 in let r = shows.3 in (
+      history,
+      w,
+      epochs,
+      record {
+        runs = r.runs;
+        few = r.few;
+        pushes = r.pushes;
+        written = r.written;
+        known = each (IsTrue k history w epochs) r.known;
+        kept = each (Keeps s.words w epochs) r.kept;
+        dealt = deals r.dealt;
+        rowless = r.rowless;
+        unparked = r.unparked;
+      },
+    )
+
+first_and_others : (P : Card → Type 0) (cards : List Card) → 0 < length cards → All P cards
+    → All P (first_card cards ∷ []) × All P (other_cards cards)
+first_and_others P [] more all = absurd (omega arith)
+first_and_others P (c ∷ cards) more all =
+    (All-cons P c [] (All-head P c cards all) (All-nil P), All-tail P c cards all)
+
+times-deal : (n : ℕ) (cards : List Card) → 0 < length cards
+    → times n (numbers (other_cards cards)) + times n (numbers (first_card cards ∷ []))
+    ≡ times n (numbers cards)
+times-deal n [] more = absurd (omega arith)
+times-deal n (c ∷ cards) more = omega arith
+
+length-deal : (cards : List Card) → 0 < length cards → length (other_cards cards) + 1 ≡ length cards
+length-deal [] more = absurd (omega arith)
+length-deal (c ∷ cards) more = omega arith
+
+pub deal_keeps : (k : Sizes) (id : ℕ) (v : View) → 0 < length v.cards
+    → Splits (ShowsWorld k) id v (after_deal v) (dealt v)
+deal_keeps k id v more s shows at =
+    let left = after_deal v in let right = dealt v in
+    let views = set s.views id left in
+    reseated k s (views ++ right ∷ [])
+    (λ P each j x there.
+    let both = first_and_others P v.cards more (each id v at) in ⊎_elim
+    (λ t. ⊎_elim
+    (λ here. subst (λ y. All P y.cards) here.1 both.1)
+    (λ other. each j x other.1)
+    (at_set s.views id j left x t))
+    (λ e. subst (λ y. All P y.cards) e both.0)
+    (at_snoc views right x j there))
+    (λ deals. record {
+      once = λ n. let f : View → ℕ = λ y. times n (numbers_in y) in
+          let moved = total-set_at f s.views id v left at in
+          let longer = total-append f views (right ∷ []) in
+          let parts = times-deal n v.cards more in let sum = deals.once n in omega arith;
+      all = let f : View → ℕ = λ y. length y.cards in
+          let moved = total-set_at f s.views id v left at in
+          let longer = total-append f views (right ∷ []) in
+          let parts = length-deal v.cards more in let sum = deals.all in omega arith;
+    })
+    shows
+
+pub join_keeps : (k : Sizes) (id : ℕ) (v : View) (other : ℕ) (x : View)
+    → Joins (ShowsWorld k) id v other x (together v x) spent
+join_keeps k id v other x s shows at ne at' =
+    let both = together v x in let views = set s.views id both in
+    reseated k s (set views other spent)
+    (λ P each j y there. ⊎_elim
+    (λ here. subst (λ z. All P z.cards) here.1 (All-nil P))
+    (λ t. ⊎_elim
+    (λ here. subst (λ z. All P z.cards) here.1 (All-append P v.cards x.cards (each id v at)
+    (⊎_elim (λ same. absurd (ne same.0)) (λ there. each other x there.1)
+    (at_set s.views id other both x at'))))
+    (λ old. each j y old.1)
+    (at_set s.views id j both y t.1))
+    (at_set views other j spent y there))
+    (λ deals. record {
+      once = λ n. let f : View → ℕ = λ y. times n (numbers_in y) in
+          let moved = total-set_at f s.views id v both at in
+          let gone = total-set_at f views other x spent at' in
+          let parts = ap (times n) (map-append (λ (c : Card). c.number) v.cards x.cards)
+          ∙ times-append n (numbers v.cards) (numbers x.cards) in
+          let sum = deals.once n in omega arith;
+      all = let f : View → ℕ = λ y. length y.cards in
+          let moved = total-set_at f s.views id v both at in
+          let gone = total-set_at f views other x spent at' in
+          let parts = length-append v.cards x.cards in let sum = deals.all in omega arith;
+    })
+    shows
+
+-- a seat that arrives has no card
+pub arrive_keeps : (k : Sizes) (slots : ℕ) (before : Sat)
+    → Enters (ShowsWorld k) slots STATE
+    (λ n w. arrives (step slots STATE 0 0 none) before n (w, []))
+arrive_keeps k slots before s shows _ _ = (
+  spent,
+  reseated k s (s.views ++ spent ∷ [])
+      (λ P each j x there. ⊎_elim
+      (λ t. each j x t)
+      (λ e. subst (λ y. All P y.cards) e (All-nil P))
+      (at_snoc s.views spent x j there))
+      (λ deals. record {
+        once = λ n. let f : View → ℕ = λ y. times n (numbers_in y) in
+            let longer = total-append f s.views (spent ∷ []) in let sum = deals.once n in
+            omega arith;
+        all = let f : View → ℕ = λ y. length y.cards in
+            let longer = total-append f s.views (spent ∷ []) in let sum = deals.all in
+            omega arith;
+      })
+      shows,
+  (λ i. (spent, [])),
+)

@@ -1,0 +1,12 @@
+pub mod Totals
+pub mod Acting
+pub mod Cards
+pub mod Words
+pub mod Steps
+pub mod Events
+pub mod Keeps
+pub mod First
+pub mod Dealing
+pub mod Closing
+pub mod PreSeats
+pub mod Fresh

@@ -1,0 +1,10 @@
+use Rattle.std.proofs.Common.{rules}
+use Rattle.event_count.proofs.Keeps.{prewait_keeps}
+use Rattle.event_count.proofs.count.EventCount.prewait.Goals as goal
+
+pub fetch_add-requires : goal.fetch_add-requires
+fetch_add-requires g c = (
+  search rules,
+  search rules,
+  prewait_keeps _ _ _ _ c.args.seat.now.alone c.requires.waiter c.requires.running,
+)

@@ -1,0 +1,47 @@
+-- What holds in every state that a count's rule allows.
+use Rattle.std.specs.Prelude.{◌≡◌, ℕ, ◌+◌, ◌≤◌, Bool, true, false, List, map, filter}
+use Rattle.event_word.specs.declared.event.Event.{Event}
+use Rattle.event_word.specs.declared.phase.Phase.{Phase}
+use Rattle.event_word.specs.declared.phase.Phase.TheVariants.{Running, Pre, Stacked, Ended}
+use Rattle.event_word.specs.Lists.{total, times}
+use Rattle.event_word.specs.Lawful.{Lawful, HasSizes}
+use Rattle.event_word.specs.World.{World}
+use Rattle.event_count.specs.declared.rule.Sizes.{Sizes}
+use Rattle.event_count.specs.declared.view.View.{View}
+use Rattle.event_count.specs.Shown.{CountState, Shows, shown_fields}
+
+-- a rule for counts, by their sizes
+abbrev Rule : Type 1
+Rule = Sizes → CountState → Type 0
+
+-- the table shows a lawful World, to which one history leads
+abbrev pub ShowsLawfulWorld : Rule → Type 0
+ShowsLawfulWorld holds =
+    (k : Sizes) (s : CountState) → holds k s
+    → (history : List Event) × (w : World) × (epochs : List ℕ)
+    × Shows k s history w epochs × Lawful w × HasSizes k.waiters (k.waiters + k.notifiers) 0 w
+
+-- the state word has no more signals than pre-waiters
+abbrev pub SignalsAreAnswered : Rule → Type 0
+SignalsAreAnswered holds =
+    (k : Sizes) (s : CountState) → holds k s
+    → (shown_fields s.words).signals ≤ (shown_fields s.words).pre
+
+-- the phase is that of a pre-waiter
+abbrev pub is_pre : Phase → Bool
+is_pre Running = false
+is_pre Pre = true
+is_pre Stacked = false
+is_pre Ended = false
+
+-- the numbers of a view's seats whose phase is that of a pre-waiter
+abbrev pub pre_numbers_in : View → List ℕ
+pre_numbers_in v = map (λ c. c.number) (filter (λ c. is_pre c.phase) v.cards)
+
+-- the World's pre-waiters are the seats whose phase says so, each once
+abbrev pub PreSeatsWait : Rule → Type 0
+PreSeatsWait holds =
+    (k : Sizes) (s : CountState) → holds k s
+    → (history : List Event) × (w : World) × (epochs : List ℕ) × Shows k s history w epochs
+    × ((n : ℕ) → (times n w.pre ≤ 1)
+    × (times n w.pre ≡ total (λ v. times n (pre_numbers_in v)) s.views))

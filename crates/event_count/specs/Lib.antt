@@ -1,0 +1,16 @@
+pub use Rattle.event_word.specs.Lists
+pub use Rattle.event_word.specs.Fields
+pub use Rattle.event_word.specs.Word
+pub use Rattle.event_word.specs.World
+pub use Rattle.event_word.specs.Step
+pub use Rattle.event_word.specs.Lawful
+pub use Rattle.event_word.specs.Runs
+pub use Rattle.atomic_table.specs.Table
+pub use Rattle.atomic_table.specs.Seated
+pub mod Places
+pub mod Cards
+pub mod Plays
+pub mod Shown
+pub mod Seats
+pub mod Tries
+pub mod Laws

@@ -1,0 +1,43 @@
+-- What contracts say of counts and seats.
+use Rattle.std.specs.Prelude.{◌≡◌, ℕ, ◌+◌, [], Option}
+use Rattle.atomic_table.specs.Seated.{TableId}
+use Rattle.event_word.specs.declared.phase.Phase.TheVariants.{Running}
+use Rattle.event_count.specs.declared.rule.Sizes.{Sizes}
+use Rattle.event_count.specs.declared.view.Card.{Card}
+use Rattle.event_count.specs.declared.seat.Seat.{Seat}
+use Rattle.event_count.specs.declared.count.EventCount.{EventCount}
+use Rattle.event_count.specs.Cards.{card_in}
+
+-- what a seat has done, and what it knows of itself
+abbrev pub card_of : Seat → Card
+card_of seat = card_in seat.seat.me.0
+
+-- the word of its last look, until it is used up
+abbrev pub looked_of : Seat → Option ℕ
+looked_of seat = seat.looked
+
+-- which count's seat it is
+abbrev pub seat_id : Seat → TableId
+seat_id seat = seat.seat.table_id
+
+-- the seat runs and owes nobody an unpark
+pub record IsIdle (seat : Seat) : Type 0 where
+  pub running : (card_of seat).phase ≡ Running
+  pub owes_none : (card_of seat).owing ≡ []
+
+module _ {A : Type 0} where
+  -- how many seats a count was made with, by kind
+  abbrev pub sizes_of : EventCount A → Sizes
+  sizes_of count = count.table.shared.key
+
+  -- how many seats a count was made with
+  abbrev pub seats_of : EventCount A → ℕ
+  seats_of count = (sizes_of count).waiters + (sizes_of count).notifiers
+
+  -- which count it is
+  abbrev pub count_id : EventCount A → TableId
+  count_id count = count.table.shared.table_id
+
+  -- the seat was made by the count
+  abbrev pub IsSeatOf : EventCount A → Seat → Type 0
+  IsSeatOf count seat = seat_id seat ≡ count_id count

@@ -1,0 +1,47 @@
+//! What the calls of a count answer.
+
+/// How a try to commit ended.
+#[derive(Clone, Copy, Debug, PartialEq, Eq)]
+pub enum TryCommit {
+    /// The seat took a signal, and runs.
+    Consumed,
+    /// The seat is on the stack. It is not answered yet.
+    Pushed,
+    /// There was no signal, and the seat has no push left: it cancelled, and runs.
+    Spent,
+    /// Another step came between the look and the exchange: nothing has changed.
+    Contended,
+}
+
+/// How a try to cancel ended.
+#[derive(Clone, Copy, Debug, PartialEq, Eq)]
+pub enum TryCancel {
+    /// The seat is no pre-waiter any more, and runs.
+    Done,
+    /// Another step came between the look and the exchange: nothing has changed.
+    Contended,
+}
+
+/// How a try to notify ended.
+#[derive(Clone, Copy, Debug, PartialEq, Eq)]
+pub enum TryNotify {
+    /// The looked word has nobody to notify.
+    Nothing,
+    /// A pre-waiter got a signal.
+    Signalled,
+    /// This seat was popped, and the notifier owes it an unpark. It is not answered yet.
+    Popped(u16),
+    /// Another step came between the look and the exchange: nothing has changed.
+    Contended,
+}
+
+/// How a commit ended.
+#[derive(Clone, Copy, Debug, PartialEq, Eq)]
+pub enum Committed {
+    /// The seat took a signal.
+    Consumed,
+    /// The seat parked, and was unparked. It is not answered yet.
+    Unparked,
+    /// The seat has no push left: it cancelled.
+    Spent,
+}

@@ -1,0 +1,100 @@
+//! The event count: how it is made and closed.
+ghost use Rattle.std.specs.Prelude.{◌≡◌, ◌+◌, ◌*◌, ◌<◌, ◌≤◌, ◌↔◌, [], length, map, All, vec_len};
+ghost use Rattle.std.specs.Prelude.{vec_capacity};
+ghost use Rattle.std.specs.Prelude.{IfOk, IsErrOf, replicate};
+ghost use Rattle.std.specs.List.{range_with_len};
+ghost use Rattle.event_count.specs.declared.rule.TheConstants.{MOST_WAITERS};
+ghost use Rattle.event_count.specs.Places.{words_for};
+ghost use Rattle.event_count.specs.Cards.{fresh};
+
+use crate::fault::CountFault;
+use crate::opening::{deal, opening_words};
+use crate::plays::Arrives;
+use crate::rule::{Law, MOST_WAITERS, STATE, Sizes, TakesIn};
+use crate::seat::Seat;
+use crate::view::View;
+use atomic_table::Table;
+use std::alloc::{AllocError, Allocator, Global};
+
+#[cfg(test)]
+mod tests;
+
+/// A packed word on which threads wait for one another, as in Eigen's `EventCount.h`.
+///
+/// All its calls are made through a seat, and each seat by one thread at a time.
+#[derive(Drop)]
+pub struct EventCount<A: Allocator = Global> {
+    pub(crate) table: Table<(), View, Sizes, Law, A>,
+    ghost words: { table.shared.table_id.words ≡ words_for table.shared.key.waiters },
+    ghost slotless: { table.shared.table_id.slots ≡ 0 },
+    ghost few: { table.shared.key.waiters ≤ MOST_WAITERS },
+}
+
+impl<A: Allocator> EventCount<A> {
+    ghost use Rattle.event_count.specs.Seats.{card_of, sizes_of, seats_of, IsSeatOf, IsIdle};
+
+    /// A count, and its seats by number: the waiters' first, and then the notifiers'.
+    pub fn new(
+        alloc: A,
+        waiters: u16,
+        notifiers: u16,
+    ) -> Result<(EventCount<A>, Vec<Seat, A>), CountFault>
+    where
+        A: Clone,
+        ensures too_many { IsErrOf result CountFault.TooManyWaiters ↔ (MOST_WAITERS < waiters) }
+        ensures sizes { IfOk result (λ made.
+            sizes_of made.0 ≡ record { waiters = waiters; notifiers = notifiers }) }
+        ensures cards { IfOk result (λ made. map card_of made.1.items
+            ≡ map fresh (range_with_len 0 (waiters + notifiers))) }
+        ensures many { IfOk result (λ made. vec_len made.1 ≡ waiters + notifiers) }
+        ensures idle { IfOk result (λ made. All IsIdle made.1.items) }
+        ensures ours { IfOk result (λ made. All (IsSeatOf made.0) made.1.items) }
+    {
+        if waiters > MOST_WAITERS {
+            return Err(CountFault::TooManyWaiters);
+        }
+        Ok(EventCount::with_sizes(alloc, &Sizes { waiters, notifiers })?)
+    }
+
+    // The same, for waiters that fit.
+    fn with_sizes(alloc: A, sizes: &Sizes) -> Result<(EventCount<A>, Vec<Seat, A>), AllocError>
+    where
+        A: Clone,
+        requires few { sizes.now.waiters ≤ MOST_WAITERS }
+        ensures sizes { IfOk result (λ made. sizes_of made.0 ≡ sizes.now) }
+        ensures cards { IfOk result (λ made. map card_of made.1.items
+            ≡ map fresh (range_with_len 0 (sizes.now.waiters + sizes.now.notifiers))) }
+        ensures many { IfOk result (λ made.
+            vec_len made.1 ≡ sizes.now.waiters + sizes.now.notifiers) }
+        ensures idle { IfOk result (λ made. All IsIdle made.1.items) }
+        ensures ours { IfOk result (λ made. All (IsSeatOf made.0) made.1.items) }
+    {
+        let words = opening_words(alloc.clone()?, sizes.waiters)?;
+        let count = u32::from(sizes.waiters) + u32::from(sizes.notifiers);
+        let mut seats = Vec::with_capacity(alloc.clone()?, count as usize)?;
+        let (table, mut keeper) = Table::of_words(alloc, &words, sizes)?;
+        for number in 0..count {
+            seats.push_reserved(deal(&table.shared, &mut keeper, number));
+        }
+        Ok((EventCount { table }, seats))
+    }
+
+    /// The last word, which nobody waits in.
+    pub fn close<B: Allocator>(self, seats: Vec<Seat, B>) -> u64
+        requires ours { All (IsSeatOf self) seats.items }
+        requires all { vec_len seats ≡ seats_of self }
+        requires idle { All IsIdle seats.items }
+        ensures { result ≡ 0x3FFF }
+    {
+        let EventCount { table } = self;
+        let (_, mut keeper) = table.shared.load_new_seat::<Arrives>(STATE);
+        for seat in seats {
+            let Seat { seat, .. } = seat;
+            table.shared.join_seat::<TakesIn>(&mut keeper, seat);
+        }
+        let closed = table.close_with(keeper);
+        let word = closed.word(STATE);
+        closed.free();
+        word
+    }
+}

@@ -1,0 +1,22 @@
+//! What holds between any two steps on a count's table, whatever threads take them.
+ghost use Rattle.event_count.specs.Laws.{ShowsLawfulWorld, SignalsAreAnswered, PreSeatsWait};
+
+use crate::rule::{Law, Sizes};
+use crate::view::View;
+use atomic_table::TableRule;
+
+/// The table shows a lawful World, to which one history leads, and each seat's list is its part of
+/// that history.
+pub fn table_shows_a_lawful_world()
+    ensures { ShowsLawfulWorld ⟦<Law as TableRule<(), View, Sizes>>⟧.holds }
+{}
+
+/// The state word has no more signals than pre-waiters.
+pub fn signals_are_answered()
+    ensures { SignalsAreAnswered ⟦<Law as TableRule<(), View, Sizes>>⟧.holds }
+{}
+
+/// The pre-waiters are the seats whose phase says so, each once.
+pub fn pre_seats_wait()
+    ensures { PreSeatsWait ⟦<Law as TableRule<(), View, Sizes>>⟧.holds }
+{}

@@ -1,0 +1,56 @@
+//! The rule of a count's table, and how its views are cut and put together.
+
+use crate::view::View;
+use atomic_table::{Join, Split, TableRule};
+
+/// The most waiters of one count: the numbers of 14 bits but two, so that an empty stack has a top
+/// and every count of pre-waiters fits.
+pub const MOST_WAITERS: u16 = 16_382;
+
+/// How many words apart two words lie that are used, so that no cache line of 64 bytes has two of
+/// them, wherever the block begins.
+pub const LINE: usize = 8;
+
+/// The place of the state word.
+pub const STATE: usize = LINE;
+
+/// How many seats a count has.
+#[derive(Clone, Copy, Debug, PartialEq, Eq)]
+pub struct Sizes {
+    pub waiters: u16,
+    pub notifiers: u16,
+}
+
+/// In every state the table shows a World that one history leads to.
+pub struct Law;
+
+impl TableRule<(), View, Sizes> for Law {
+    ghost use Rattle.event_count.specs.Shown.{ShowsWorld};
+    ghost use Rattle.event_count.specs.Cards.{undealt};
+
+    ghost holds = { ShowsWorld };
+
+    ghost first = { undealt };
+}
+
+/// The first card becomes a seat's own.
+pub struct Deals;
+
+impl Split<View> for Deals {
+    ghost use Rattle.event_count.specs.Cards.{after_deal, dealt};
+
+    ghost left = { after_deal };
+
+    ghost right = { dealt };
+}
+
+/// The cards of both.
+pub struct TakesIn;
+
+impl Join<View> for TakesIn {
+    ghost use Rattle.event_count.specs.Cards.{together, spent};
+
+    ghost both = { together };
+
+    ghost spent = { spent };
+}
