@@ -1,5 +1,5 @@
 //! The calls that may wait: each looks and tries until no other step comes between the two.
-ghost use Rattle.std.specs.Prelude.{◌≡◌, []};
+ghost use Rattle.std.specs.Prelude.{◌≡◌, [], None};
 ghost use Rattle.event_word.specs.declared.phase.Phase.TheVariants.{Running, Pre};
 
 use crate::answers::{Committed, TryCancel, TryCommit, TryNotify};
@@ -9,7 +9,7 @@ use std::alloc::Allocator;
 use std::sync::Wait;
 
 impl<A: Allocator> EventCount<A> {
-    ghost use Rattle.event_count.specs.Seats.{card_of, IsSeatOf};
+    ghost use Rattle.event_count.specs.Seats.{card_of, looked_of, IsSeatOf};
     ghost use Rattle.event_count.specs.Tries.{RestsOnCommit, RestsOnCancel, RestsOnNotify};
 
     /// A pre-waiter takes a signal, or cancels where there is none.
@@ -17,6 +17,7 @@ impl<A: Allocator> EventCount<A> {
         requires of { IsSeatOf self.now seat.old }
         requires pre { (card_of seat.old).phase ≡ Pre }
         ensures of { IsSeatOf self.now seat.new }
+        ensures used { looked_of seat.new ≡ None }
         ensures answer { RestsOnCommit (card_of seat.old) result (card_of seat.new) }
     {
         for _ in rt.forever() {
@@ -36,6 +37,7 @@ impl<A: Allocator> EventCount<A> {
         requires of { IsSeatOf self.now seat.old }
         requires pre { (card_of seat.old).phase ≡ Pre }
         ensures of { IsSeatOf self.now seat.new }
+        ensures used { looked_of seat.new ≡ None }
         ensures answer { RestsOnCancel (card_of seat.old) (card_of seat.new) }
     {
         for _ in rt.forever() {
@@ -53,6 +55,7 @@ impl<A: Allocator> EventCount<A> {
         requires running { (card_of seat.old).phase ≡ Running }
         requires owes_none { (card_of seat.old).owing ≡ [] }
         ensures of { IsSeatOf self.now seat.new }
+        ensures used { looked_of seat.new ≡ None }
         ensures answer { RestsOnNotify (card_of seat.old) (card_of seat.new) }
     {
         for _ in rt.forever() {

@@ -64,7 +64,8 @@ loop-number-preserved g c =
 
 pub returns-clause-many : goal.returns-clause-many
 returns-clause-many g c =
-    let many = as_many c.loop-number.seats.items c.loop-number.number c.loop-number.invariant.cards in
+    let many =
+    as_many c.loop-number.seats.items c.loop-number.number c.loop-number.invariant.cards in
     grind (arith, common_steps)
 
 pub returns-clause-idle : goal.returns-clause-idle
