@@ -19,7 +19,7 @@ use Rattle.event_count.specs.declared.rule.TheConstants.{STATE}
 use Rattle.event_count.specs.declared.rule.Sizes.{Sizes}
 use Rattle.event_count.specs.declared.view.Card.{Card}
 use Rattle.event_count.specs.declared.view.View.{View}
-use Rattle.event_count.specs.Shown.{CountState, numbers_in, IsTrue, ShowsWorld}
+use Rattle.event_count.specs.Shown.{CountState, numbers_in, Agrees, ShowsWorld}
 use Rattle.event_count.specs.Laws.{ShowsLawfulWorld, SignalsAreAnswered}
 use Rattle.event_count.proofs.Cards.{numbers}
 use Rattle.event_count.proofs.Totals.{two_le_total, total_some}
@@ -77,7 +77,7 @@ nobody_waits k s id v shows at whole running = nobody_there shows.1.pre (λ n mo
     (λ same. let is = some-injective v there.1
     (sym at ∙ ap (λ j. get_elem? s.views j) (sym same) ∙ there.2) in
     let cards = card_there
-    (λ c. (c.phase ≡ Running) × IsTrue k shows.0 w shows.2 c) n v.cards
+    (λ c. (c.phase ≡ Running) × Agrees k shows.0 w shows.2 c) n v.cards
     (λ j d less. (running j d less, r.known id v at j d less))
     (subst (λ y. 0 < times n (numbers_in y)) (sym is) there.3) in
     let runs = sym cards.2.0 ∙ (cards.2.1.waits (let e = cards.1 in omega arith)

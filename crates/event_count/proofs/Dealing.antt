@@ -14,7 +14,7 @@ use Rattle.event_count.specs.declared.view.View.{View}
 use Rattle.event_count.specs.Cards.{first_card, other_cards, after_deal, dealt, together, spent}
 use Rattle.event_count.specs.declared.rule.TheConstants.{STATE}
 use Rattle.event_count.specs.Plays.{Sat, arrives}
-use Rattle.event_count.specs.Shown.{CountState, numbers_in, IsTrue, Keeps, AreDealt, Each}
+use Rattle.event_count.specs.Shown.{CountState, numbers_in, Agrees, Keeps, AreDealt, Each}
 use Rattle.event_count.specs.Shown.{ShowsWorld}
 use Rattle.event_count.proofs.Cards.{numbers}
 use Rattle.event_count.proofs.Totals.{total-set_at}
@@ -34,7 +34,7 @@ reseated k s views each deals shows =
         few = r.few;
         pushes = r.pushes;
         written = r.written;
-        known = each (IsTrue k history w epochs) r.known;
+        known = each (Agrees k history w epochs) r.known;
         kept = each (Keeps s.words w epochs) r.kept;
         dealt = deals r.dealt;
         rowless = r.rowless;

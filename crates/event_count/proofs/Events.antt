@@ -25,7 +25,7 @@ use Rattle.event_count.specs.declared.view.Exchange.{Exchange}
 use Rattle.event_count.specs.declared.view.Card.{Card}
 use Rattle.event_count.specs.declared.view.View.{View}
 use Rattle.event_count.specs.Cards.{only, prewaiting, consuming, cancelling, signalling}
-use Rattle.event_count.specs.Shown.{HasNoRows, NobodyParks, CountState, IsTrue, Shows}
+use Rattle.event_count.specs.Shown.{HasNoRows, NobodyParks, CountState, Agrees, Shows}
 use Rattle.event_count.proofs.Cards.{is_seat}
 use Rattle.event_count.proofs.Steps.{Fitting, truth}
 
@@ -47,7 +47,7 @@ module _ (k : Sizes) (s : CountState) (history : List Event) (w : World) (epochs
   sizes = (lawful_history k.waiters k.notifiers 0 history w r.runs).1
 
   -- what its card says
-  told : IsTrue k history w epochs c
+  told : Agrees k history w epochs c
   told = truth k s history w epochs r id v c at is
 
   -- a count has at most so many pre-waiters

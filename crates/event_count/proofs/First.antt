@@ -25,7 +25,7 @@ use Rattle.event_count.specs.Places.{parker_place, words_for, words_at_first}
 use Rattle.event_count.specs.Cards.{fresh, view, first_card, other_cards, card_in, undealt}
 use Rattle.event_count.specs.Cards.{after_deal}
 use Rattle.event_count.specs.Plays.{Sat}
-use Rattle.event_count.specs.Shown.{IsChain, Written, IsTrue, Keeps, Each, ShowsWorld}
+use Rattle.event_count.specs.Shown.{IsChain, Written, Agrees, Keeps, Each, ShowsWorld}
 use Rattle.event_count.proofs.Cards.{numbers}
 
 abbrev pub fresh_cards : ℕ → ℕ → List Card
@@ -98,7 +98,7 @@ written_first k =
     }
 
 true_first : (k : Sizes) (n : ℕ)
-    → IsTrue k [] (opening_world k.waiters k.notifiers 0) (replicate k.waiters 0) (fresh n)
+    → Agrees k [] (opening_world k.waiters k.notifiers 0) (replicate k.waiters 0) (fresh n)
 true_first k n = record {
   waits = λ less. sym (get_or-replicate k.waiters n Running Ended less);
   notifies = λ le. refl;
@@ -120,8 +120,8 @@ opens k few =
         few = few;
         pushes = length-replicate k.waiters 0;
         written = written_first k;
-        known = each_one (IsTrue k [] w epochs) (undealt k)
-            (All-fresh (IsTrue k [] w epochs) (true_first k) 0 count);
+        known = each_one (Agrees k [] w epochs) (undealt k)
+            (All-fresh (Agrees k [] w epochs) (true_first k) 0 count);
         kept = each_one (Keeps (words_at_first k.waiters) w epochs) (undealt k)
             (All-fresh (Keeps (words_at_first k.waiters) w epochs) (λ n. tt) 0 count);
         dealt = record {

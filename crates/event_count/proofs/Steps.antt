@@ -16,7 +16,7 @@ use Rattle.event_count.specs.declared.rule.Sizes.{Sizes}
 use Rattle.event_count.specs.declared.view.Card.{Card}
 use Rattle.event_count.specs.declared.view.View.{View}
 use Rattle.event_count.specs.Cards.{only}
-use Rattle.event_count.specs.Shown.{CountState, events_of, IsTrue, IsKept, Keeps, HasNoRows}
+use Rattle.event_count.specs.Shown.{CountState, events_of, Agrees, IsKept, Keeps, HasNoRows}
 use Rattle.event_count.specs.Shown.{NobodyParks}
 use Rattle.event_count.specs.Shown.{Shows, ShowsWorld}
 use Rattle.event_count.proofs.Acting.{AreBy, left_alone, events_of-mine, events_of-theirs}
@@ -54,13 +54,13 @@ kept_on words words' epochs w u seat epoch (Some next) still was = record {
 module _ (k : Sizes) (s : CountState) (history : List Event) (w : World) (epochs : List ℕ)
     (r : Shows k s history w epochs) (id : ℕ) (v : View) (c : Card)
     (at : get_elem? s.views id ≡ some v) (is : v ≡ only c) where
-  -- what the card says is so
-  pub truth : IsTrue k history w epochs c
-  truth = of_only (IsTrue k history w epochs) v c is (r.known id v at)
+  -- what the card says agrees
+  pub truth : Agrees k history w epochs c
+  truth = of_only (Agrees k history w epochs) v c is (r.known id v at)
 
-  -- the card after the events is so too
+  -- the card after the events agrees too
   true_after : (events : List Event) (u : World) (d : Card) → Fitting k w u events c d
-      → IsTrue k (history ++ events) u epochs d
+      → Agrees k (history ++ events) u epochs d
   true_after events u d f = let number = f.number in record {
     waits = λ less. f.waits (omega arith) ∙ ap (λ n. phase_of u n) (sym f.number);
     notifies = λ le. f.notifies (omega arith);
@@ -73,8 +73,8 @@ module _ (k : Sizes) (s : CountState) (history : List Event) (w : World) (epochs
 
   -- and so is each other seat's
   others_after : (events : List Event) (u : World) → AreBy c.number events → Runs w events u
-      → (x : Card) → x.number ≢ c.number → IsTrue k history w epochs x
-      → IsTrue k (history ++ events) u epochs x
+      → (x : Card) → x.number ≢ c.number → Agrees k history w epochs x
+      → Agrees k (history ++ events) u epochs x
   others_after events u by runs x ne was =
       let alone = left_alone c.number x.number ne w events u by runs in record {
         waits = λ less. was.waits less ∙ sym alone.0;
@@ -103,8 +103,8 @@ module _ (k : Sizes) (s : CountState) (history : List Event) (w : World) (epochs
       few = r.few;
       pushes = r.pushes;
       written = written_set k s.words epochs w r.written r.unparked u n f.unparked shows;
-      known = each_set k s.views id v c r.dealt at is (IsTrue k history w epochs)
-          (IsTrue k (history ++ events) u epochs) d (true_after events u d f)
+      known = each_set k s.views id v c r.dealt at is (Agrees k history w epochs)
+          (Agrees k (history ++ events) u epochs) d (true_after events u d f)
           (others_after events u f.by f.runs) r.known;
       kept = each_set k s.views id v c r.dealt at is (Keeps s.words w epochs)
           (Keeps (slice_set s.words STATE n) u epochs) d

@@ -61,8 +61,8 @@ pub record Written (k : Sizes) (words : List ℕ) (w : World) (epochs : List ℕ
   pub tokens : (seat : ℕ) → seat < k.waiters
       → slice_index words (parker_place seat) ≡ one_if (has_token w seat)
 
--- what a seat knows of itself is so
-pub record IsTrue (k : Sizes) (history : List Event) (w : World) (epochs : List ℕ) (c : Card)
+-- what a card says agrees with the World and its history
+pub record Agrees (k : Sizes) (history : List Event) (w : World) (epochs : List ℕ) (c : Card)
     : Type 0 where
   pub waits : c.number < k.waiters → c.phase ≡ phase_of w c.number
   pub notifies : k.waiters ≤ c.number → c.phase ≡ Running
@@ -115,7 +115,7 @@ pub record Shows (k : Sizes) (s : CountState) (history : List Event) (w : World)
   pub few : k.waiters ≤ MOST_WAITERS
   pub pushes : length epochs ≡ k.waiters
   pub written : Written k s.words w epochs
-  pub known : Each (IsTrue k history w epochs) s.views
+  pub known : Each (Agrees k history w epochs) s.views
   pub kept : Each (Keeps s.words w epochs) s.views
   pub dealt : AreDealt k s.views
   pub rowless : HasNoRows w
