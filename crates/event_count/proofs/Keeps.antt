@@ -82,7 +82,7 @@ module _ (k : Sizes) (slots id : ℕ) (me : Sat) (is : me.0 ≡ only (card_in me
     tt,
     rests k s shows.0 shows.1 shows.2 shows.3 id me.0 c at is d me.1 refl refl refl refl refl
         (λ words epochs w kept. tt),
-    (refl, look_fits k s id me.0 c shows at is),
+    (refl, refl, look_fits k s id me.0 c shows at is),
   )
 
   pub prewait_keeps : c.number < k.waiters → c.phase ≡ Running
@@ -101,7 +101,7 @@ module _ (k : Sizes) (slots id : ℕ) (me : Sat) (is : me.0 ≡ only (card_in me
             (prewait_fits k s history w epochs r id me.0 c at is waiter running)
             (fields_of-prewait word small (omega arith)
             ∙ prewait_shows k s history w epochs r id me.0 c at is (fields_of word) here),
-        refl,
+        (refl, refl),
       )
 
   -- an exchange that finds the expected word is what the seat gains by it, and another is no event
@@ -125,6 +125,7 @@ module _ (k : Sizes) (slots id : ℕ) (me : Sat) (is : me.0 ≡ only (card_in me
         wins s shows at hit,
         (
           refl,
+          refl,
           subst (λ b. MatchBool b (won ≡ won) ((word ≢ old) × (won ≡ lost)))
               (sym (eq-eqb word old hit)) refl,
         ),
@@ -135,6 +136,7 @@ module _ (k : Sizes) (slots id : ℕ) (me : Sat) (is : me.0 ≡ only (card_in me
         tt,
         missed s shows at (exchange_of old new word),
         (
+          refl,
           refl,
           subst (λ b. MatchBool b (lost ≡ won) ((word ≢ old) × (lost ≡ lost)))
               (sym (ne_eqb word old miss)) (miss, refl),

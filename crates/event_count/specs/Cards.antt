@@ -17,7 +17,8 @@ abbrev pub exchange_of : ℕ → ℕ → ℕ → Exchange
 exchange_of expected offered found =
     record { expected = expected; offered = offered; found = found }
 
--- a seat of this number that has done nothing
+-- A seat of this number that has done nothing. Its looked word is that of an empty stack, so that
+-- it names no seat as the top.
 abbrev pub fresh : ℕ → Card
 fresh number = record {
   number = number;
@@ -26,7 +27,7 @@ fresh number = record {
   events = [];
   epoch = 0;
   loads = 0;
-  looked = 0;
+  looked = nobody;
   next = None;
   exchanges = 0;
   exchange = exchange_of 0 0 0;

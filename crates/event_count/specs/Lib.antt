@@ -7,6 +7,7 @@ pub use Rattle.event_word.specs.Lawful
 pub use Rattle.event_word.specs.Runs
 pub use Rattle.atomic_table.specs.Table
 pub use Rattle.atomic_table.specs.Seated
+pub mod Limits
 pub mod Places
 pub mod Cards
 pub mod Plays

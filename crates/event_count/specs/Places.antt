@@ -3,11 +3,11 @@ use Rattle.std.specs.Prelude.{ℕ, ◌+◌, ◌*◌, List, replicate, slice_set}
 use Rattle.event_word.specs.Word.{nobody}
 use Rattle.event_count.specs.declared.rule.TheConstants.{LINE, STATE}
 
--- the next word of a seat: what was below it on the stack when it was pushed
+-- the next word of a seat: what was below it on the stack when it was pushed (not used yet)
 abbrev pub next_place : ℕ → ℕ
 next_place seat = LINE * (2 + 2 * seat)
 
--- the parker word of a seat: 1 where it has a token
+-- the parker word of a seat: 1 where it has a token (always 0 while nobody parks)
 abbrev pub parker_place : ℕ → ℕ
 parker_place seat = LINE * (3 + 2 * seat)
 

@@ -1,5 +1,5 @@
 -- What contracts say of counts and seats.
-use Rattle.std.specs.Prelude.{◌≡◌, ℕ, ◌+◌, [], Option}
+use Rattle.std.specs.Prelude.{◌≡◌, ℕ, ◌+◌, [], Option, None}
 use Rattle.atomic_table.specs.Seated.{TableId}
 use Rattle.event_word.specs.declared.phase.Phase.TheVariants.{Running}
 use Rattle.event_count.specs.declared.rule.Sizes.{Sizes}
@@ -15,6 +15,10 @@ card_of seat = card_in seat.seat.me.0
 -- the word of its last look, until it is used up
 abbrev pub looked_of : Seat → Option ℕ
 looked_of seat = seat.looked
+
+-- the seat has not looked, or has used the look up
+abbrev pub HasNoLook : Seat → Type 0
+HasNoLook seat = looked_of seat ≡ None
 
 -- which count's seat it is
 abbrev pub seat_id : Seat → TableId

@@ -14,10 +14,11 @@ use Rattle.event_word.specs.World.{World, phase_of, owed_by, is_announcing, has_
 use Rattle.event_word.specs.World.{opening_world}
 use Rattle.event_word.specs.Step.{actor_of}
 use Rattle.event_word.specs.Runs.{Runs}
-use Rattle.event_count.specs.declared.rule.TheConstants.{MOST_WAITERS, STATE}
+use Rattle.event_count.specs.declared.rule.TheConstants.{STATE}
 use Rattle.event_count.specs.declared.rule.Sizes.{Sizes}
 use Rattle.event_count.specs.declared.view.Card.{Card}
 use Rattle.event_count.specs.declared.view.View.{View}
+use Rattle.event_count.specs.Limits.{most_waiters}
 use Rattle.event_count.specs.Places.{next_place, parker_place, words_for}
 
 -- the words of a count's table, and what each of its seats knows
@@ -37,21 +38,24 @@ abbrev pub events_of : ℕ → List Event → List Event
 events_of actor history = filter (λ e. actor_of e == actor) history
 
 -- From these fields on, top and epoch of each next word lead down the stack to its end. The epoch
--- of a seat on it is that of its last push, one before its next.
+-- of a seat on it is that of its last push, one before its next. While nobody parks the stack is
+-- empty, and only the first equation says something.
 abbrev pub Leads : List ℕ → List ℕ → List ℕ → Fields → Type 0
 Leads words epochs [] f = (f.top ≡ nobody) × (f.epoch ≡ 0)
 Leads words epochs (seat ∷ rest) f =
     (f.top ≡ seat) × (f.epoch + 1 ≡ slice_index epochs seat)
     × Leads words epochs rest (next_fields words seat)
 
--- the next word of each seat but the last names the one behind it
+-- The next word of each seat but the last names the one behind it. Says nothing while nobody parks,
+-- since nobody is owed an unpark.
 abbrev pub IsChain : List ℕ → List ℕ → Type 0
 IsChain words [] = Unit {0}
 IsChain words (seat ∷ []) = Unit {0}
 IsChain words (seat ∷ after ∷ rest) =
     ((next_fields words seat).top ≡ after) × IsChain words (after ∷ rest)
 
--- what the words of the table say of the World, where each waiter's next push has this epoch
+-- What the words of the table say of the World, where each waiter's next push has this epoch. Of
+-- owed lists and tokens it says nothing new while nobody parks: all are empty, and no word is set.
 pub record Written (k : Sizes) (words : List ℕ) (w : World) (epochs : List ℕ) : Type 0 where
   pub room : length words ≡ words_for k.waiters
   pub pre : (shown_fields words).pre ≡ length w.pre
@@ -71,14 +75,15 @@ pub record Agrees (k : Sizes) (history : List Event) (w : World) (epochs : List 
   pub epoch : c.epoch ≡ slice_index epochs c.number
 
 -- A kept read is right: wherever this push of the seat stands on the stack, its next word is the
--- one that was read. No later push has the same epoch.
+-- one that was read. No later push has the same epoch. Says nothing while nobody parks, since no
+-- next word is read.
 pub record IsKept (words : List ℕ) (w : World) (epochs : List ℕ) (seat epoch next : ℕ)
     : Type 0 where
   pub past : epoch < slice_index epochs seat
   pub right : (above below : List ℕ) → w.stack ≡ above ++ seat ∷ below
       → slice_index epochs seat ≡ epoch + 1 → slice_index words (next_place seat) ≡ next
 
--- the same of what a card keeps beside its looked word
+-- the same of what a card keeps beside its looked word; says nothing while nobody parks
 abbrev pub Keeps : List ℕ → World → List ℕ → Card → Type 0
 Keeps words w epochs c = IfSome c.next
     (IsKept words w epochs (fields_of c.looked).top (fields_of c.looked).epoch)
@@ -112,7 +117,7 @@ pub record NobodyParks (w : World) : Type 0 where
 pub record Shows (k : Sizes) (s : CountState) (history : List Event) (w : World) (epochs : List ℕ)
     : Type 0 where
   pub runs : Runs (opening_world k.waiters k.notifiers 0) history w
-  pub few : k.waiters ≤ MOST_WAITERS
+  pub few : k.waiters ≤ most_waiters
   pub pushes : length epochs ≡ k.waiters
   pub written : Written k s.words w epochs
   pub known : Each (Agrees k history w epochs) s.views

@@ -3,7 +3,7 @@ ghost use Rattle.std.specs.Prelude.{◌≡◌, ◌+◌, ◌*◌, ◌<◌, ◌≤
 ghost use Rattle.std.specs.Prelude.{vec_capacity};
 ghost use Rattle.std.specs.Prelude.{IfOk, IsErrOf, replicate};
 ghost use Rattle.std.specs.List.{range_with_len};
-ghost use Rattle.event_count.specs.declared.rule.TheConstants.{MOST_WAITERS};
+ghost use Rattle.event_count.specs.Limits.{most_waiters};
 ghost use Rattle.event_count.specs.Places.{words_for};
 ghost use Rattle.event_count.specs.Cards.{fresh};
 
@@ -27,11 +27,12 @@ pub struct EventCount<A: Allocator = Global> {
     pub(crate) table: Table<(), View, Sizes, Law, A>,
     ghost words: { table.shared.table_id.words ≡ words_for table.shared.key.waiters },
     ghost slotless: { table.shared.table_id.slots ≡ 0 },
-    ghost few: { table.shared.key.waiters ≤ MOST_WAITERS },
+    ghost few: { table.shared.key.waiters ≤ most_waiters },
 }
 
 impl<A: Allocator> EventCount<A> {
     ghost use Rattle.event_count.specs.Seats.{card_of, sizes_of, seats_of, IsSeatOf, IsIdle};
+    ghost use Rattle.event_count.specs.Seats.{HasNoLook};
 
     /// A count, and its seats by number: the waiters' first, and then the notifiers'.
     pub fn new(
@@ -41,13 +42,14 @@ impl<A: Allocator> EventCount<A> {
     ) -> Result<(EventCount<A>, Vec<Seat, A>), CountFault>
     where
         A: Clone,
-        ensures too_many { IsErrOf result CountFault.TooManyWaiters ↔ (MOST_WAITERS < waiters) }
+        ensures too_many { IsErrOf result CountFault.TooManyWaiters ↔ (most_waiters < waiters) }
         ensures sizes { IfOk result (λ made.
             sizes_of made.0 ≡ record { waiters = waiters; notifiers = notifiers }) }
         ensures cards { IfOk result (λ made. map card_of made.1.items
             ≡ map fresh (range_with_len 0 (waiters + notifiers))) }
         ensures many { IfOk result (λ made. vec_len made.1 ≡ waiters + notifiers) }
         ensures idle { IfOk result (λ made. All IsIdle made.1.items) }
+        ensures unlooked { IfOk result (λ made. All HasNoLook made.1.items) }
         ensures ours { IfOk result (λ made. All (IsSeatOf made.0) made.1.items) }
     {
         if waiters > MOST_WAITERS {
@@ -60,13 +62,14 @@ impl<A: Allocator> EventCount<A> {
     fn with_sizes(alloc: A, sizes: &Sizes) -> Result<(EventCount<A>, Vec<Seat, A>), AllocError>
     where
         A: Clone,
-        requires few { sizes.now.waiters ≤ MOST_WAITERS }
+        requires few { sizes.now.waiters ≤ most_waiters }
         ensures sizes { IfOk result (λ made. sizes_of made.0 ≡ sizes.now) }
         ensures cards { IfOk result (λ made. map card_of made.1.items
             ≡ map fresh (range_with_len 0 (sizes.now.waiters + sizes.now.notifiers))) }
         ensures many { IfOk result (λ made.
             vec_len made.1 ≡ sizes.now.waiters + sizes.now.notifiers) }
         ensures idle { IfOk result (λ made. All IsIdle made.1.items) }
+        ensures unlooked { IfOk result (λ made. All HasNoLook made.1.items) }
         ensures ours { IfOk result (λ made. All (IsSeatOf made.0) made.1.items) }
     {
         let words = opening_words(alloc.clone()?, sizes.waiters)?;

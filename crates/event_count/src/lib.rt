@@ -12,8 +12,6 @@ mod fault;
 mod laws;
 mod opening;
 mod plays;
-#[cfg(test)]
-mod refusing;
 mod rule;
 mod seat;
 mod tries;

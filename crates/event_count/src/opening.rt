@@ -2,7 +2,7 @@
 ghost use Rattle.std.specs.Prelude.{◌≡◌, ◌<◌, length, IfOk};
 ghost use Rattle.event_count.specs.Places.{words_at_first};
 ghost use Rattle.event_count.specs.Cards.{card_in, fresh, after_deal};
-ghost use Rattle.event_count.specs.Seats.{card_of, seat_id};
+ghost use Rattle.event_count.specs.Seats.{card_of, seat_id, HasNoLook};
 
 use crate::rule::{Deals, LINE, Law, STATE, Sizes};
 use crate::seat::Seat;
@@ -33,6 +33,7 @@ pub(crate) fn deal(
     ensures left { keeper.new.me ≡ (after_deal keeper.old.me.0, keeper.old.me.1) }
     ensures seat { seat_id result ≡ keeper.old.table_id }
     ensures card { card_of result ≡ fresh number }
+    ensures unlooked { HasNoLook result }
 {
     Seat {
         seat: shared.split_seat::<Deals>(keeper),

@@ -1,20 +1,22 @@
 -- An event leaves alone what is not its actor's.
-use Rattle.std.proofs.Common.{◌≡◌, ◌≢◌, ℕ, ◌+◌, ◌-◌, ◌==◌, if◌then◌else◌, nat_lt, Bool, true, false, List, [], ◌∷◌}
-use Rattle.std.proofs.Common.{◌++◌, length, get_or, set, sym, ap, refl, ◌∙◌, ⊎_elim, arith, get_or-set_other}
-use Rattle.std.proofs.Common.{get_or-set_same}
+use Rattle.std.proofs.Common.{◌≡◌, ◌≢◌, ℕ, ◌+◌, ◌-◌, ◌==◌, if◌then◌else◌, nat_lt, Bool, true, false}
+use Rattle.std.proofs.Common.{List, [], ◌∷◌, ◌++◌, length, get_or, set, sym, ap, refl, ◌∙◌, ⊎_elim}
+use Rattle.std.proofs.Common.{arith, get_or-set_other, get_or-set_same}
 use Rattle.std.proofs.lemmas.Bool.{cases_eq, cases_lt, cond_both}
 use Rattle.std.proofs.lemmas.List.{set_past}
 use Rattle.event_word.specs.declared.phase.Phase.{Phase}
 use Rattle.event_word.specs.declared.phase.Phase.TheVariants.{Running, Pre, Stacked, Ended}
 use Rattle.event_word.specs.declared.event.Event.{Event}
-use Rattle.event_word.specs.declared.event.Event.TheVariants.{Publish, Prewait, Pass, PassFlag, Cancel, Commit, Notify}
-use Rattle.event_word.specs.declared.event.Event.TheVariants.{NotifyAll, Unpark, Wake, Take, Stop, End}
+use Rattle.event_word.specs.declared.event.Event.TheVariants.{Publish, Prewait, Pass, PassFlag}
+use Rattle.event_word.specs.declared.event.Event.TheVariants.{Cancel, Commit, Notify, NotifyAll}
+use Rattle.event_word.specs.declared.event.Event.TheVariants.{Unpark, Wake, Take, Stop, End}
 use Rattle.event_word.specs.Lists.{times}
 use Rattle.event_word.specs.World.{World, rows_passed_by, owed_by}
 use Rattle.event_word.specs.Step.{Possible, effect, actor_of, leave, announced, pop, unpark}
 use Rattle.event_word.specs.Lawful.{sleeps, Lawful, HasSizes}
 use Rattle.event_word.specs.Frame.{LeavesAlone, stands_by, Frames, EventsLeaveAlone}
-use Rattle.event_word.proofs.Lists.{times-append, times-one_other, times-without_other, total-one_place}
+use Rattle.event_word.proofs.Lists.{times-append, times-one_other, times-without_other}
+use Rattle.event_word.proofs.Lists.{total-one_place}
 use Rattle.event_word.proofs.Sizes.{sizes_effect}
 use Rattle.event_word.proofs.Keeps.{lawful_effect}
 

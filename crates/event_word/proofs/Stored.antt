@@ -1,9 +1,11 @@
 -- The lists that the program keeps, before and after each event.
-use Rattle.std.proofs.Common.{◌≡◌, ℕ, zero, suc, ◌+◌, ◌-◌, ◌≤◌, ◌<◌, ◌==◌, min, if◌then◌else◌, nat_lt, Bool, true}
-use Rattle.std.proofs.Common.{false, Option, Some, None, List, [], ◌∷◌, ◌++◌, length, map, not, position, get_or, set}
-use Rattle.std.proofs.Common.{replicate, vec_len, vec_capacity, sym, ap, refl, ◌∙◌, subst, ⊎_elim, arith, length-append}
+use Rattle.std.proofs.Common.{◌≡◌, ℕ, zero, suc, ◌+◌, ◌-◌, ◌≤◌, ◌<◌, ◌==◌, min, if◌then◌else◌}
+use Rattle.std.proofs.Common.{nat_lt, Bool, true, false, Option, Some, None, List, [], ◌∷◌, ◌++◌}
+use Rattle.std.proofs.Common.{length, map, not, position, get_or, set, replicate, vec_len}
+use Rattle.std.proofs.Common.{vec_capacity, sym, ap, refl, ◌∙◌, subst, ⊎_elim, arith, length-append}
 use Rattle.std.proofs.Common.{length-set}
-use Rattle.std.proofs.lemmas.Bool.{cases_eq, cases_lt, cond-true, cond-false, lt-ltb, le-ltb, eq-eqb, ne_eqb, eqb-true}
+use Rattle.std.proofs.lemmas.Bool.{cases_eq, cases_lt, cond-true, cond-false, lt-ltb, le-ltb}
+use Rattle.std.proofs.lemmas.Bool.{eq-eqb, ne_eqb, eqb-true}
 use Rattle.std.proofs.lemmas.List.{get_or_past, get_or_read, append-nil}
 use Rattle.std.proofs.lemmas.List.Quantifiers.{position-Some}
 use Rattle.std.specs.List.{remove}
@@ -11,12 +13,14 @@ use Rattle.std.specs.Option.{is_some}
 use Rattle.event_word.specs.declared.phase.Phase.{Phase}
 use Rattle.event_word.specs.declared.phase.Phase.TheVariants.{Running, Pre, Stacked, Ended}
 use Rattle.event_word.specs.declared.event.Event.{Event}
-use Rattle.event_word.specs.declared.event.Event.TheVariants.{Prewait, Cancel, Commit, Notify, NotifyAll, Unpark}
+use Rattle.event_word.specs.declared.event.Event.TheVariants.{Prewait, Cancel, Commit, Notify}
+use Rattle.event_word.specs.declared.event.Event.TheVariants.{NotifyAll, Unpark}
 use Rattle.event_word.specs.declared.world.debts.Debt.{Debt}
 use Rattle.event_word.specs.declared.world.World.TheInside.{Inside}
 use Rattle.event_word.specs.Lists.{without}
 use Rattle.event_word.specs.World.{World, phase_of, owed_by, is_announcing}
-use Rattle.event_word.specs.Step.{IsFree, HasPassedAll, Possible, effect, leave, announced, pop, unpark}
+use Rattle.event_word.specs.Step.{IsFree, HasPassedAll, Possible, effect, leave, announced, pop}
+use Rattle.event_word.specs.Step.{unpark}
 use Rattle.event_word.specs.Lawful.{Lawful, HasSizes}
 use Rattle.event_word.specs.Debts.{debt, seats_owed, owed_lists, AreKnown}
 use Rattle.event_word.specs.Stored.{world_view, IsStored}
@@ -24,10 +28,12 @@ use Rattle.event_word.specs.Play.{IsOpen, IsStep}
 use Rattle.event_word.proofs.Lists.{times-append, times-le-length}
 use Rattle.event_word.proofs.Keeps.{lawful_effect, pre_known, is_waiting, owed_is_stacked}
 use Rattle.event_word.proofs.Sizes.{sizes_effect}
-use Rattle.event_word.proofs.Owing.{position-None, seats_owed-append, seats_owed-map_debt, seats_owed-map_debt_other}
-use Rattle.event_word.proofs.Owing.{seats_owed-first, seats_owed-remove_other, seats_owed-none, nowhere-seats_owed}
-use Rattle.event_word.proofs.Owing.{AreKnown-append, AreKnown-map_debt, AreKnown-remove, actor_known, length-owed_lists}
-use Rattle.event_word.proofs.Owing.{get_or-owed_lists, owed_lists-set, total-owed_lists}
+use Rattle.event_word.proofs.Owing.{position-None, seats_owed-append, seats_owed-map_debt}
+use Rattle.event_word.proofs.Owing.{seats_owed-map_debt_other, seats_owed-first}
+use Rattle.event_word.proofs.Owing.{seats_owed-remove_other, seats_owed-none, nowhere-seats_owed}
+use Rattle.event_word.proofs.Owing.{AreKnown-append, AreKnown-map_debt, AreKnown-remove}
+use Rattle.event_word.proofs.Owing.{actor_known, length-owed_lists, get_or-owed_lists}
+use Rattle.event_word.proofs.Owing.{owed_lists-set, total-owed_lists}
 use Rattle.event_word.proofs.Rooms.{length-pre, length-standing}
 
 module _ {A : Type 0} where
@@ -352,7 +358,8 @@ module _ {A : Type 0} (i : Inside A) (s : IsStored i) where
       let t = owed_is_stacked (world_view i) s.lawful a d.seat (seats_owed a debts) first in
       let less = owed_lists-set (length i.phases.items + i.notifiers) a i.owed.items debts
       (seats_owed a debts) lt refl
-      (λ b ne. ap (seats_owed b) gone ∙ seats_owed-remove_other a b i.owed.items k d ne q.0 q.1) in (
+      (λ b ne.
+      ap (seats_owed b) gone ∙ seats_owed-remove_other a b i.owed.items k d ne q.0 q.1) in (
         first,
         let sized = z.tokens in omega (arith, t.1),
         subst (AreKnown (length i.phases.items + i.notifiers)) (sym gone)

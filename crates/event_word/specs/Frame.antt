@@ -2,7 +2,8 @@
 use Rattle.std.specs.Prelude.{◌≡◌, ◌≢◌, ℕ, ◌+◌, true}
 use Rattle.event_word.specs.declared.event.Event.{Event}
 use Rattle.event_word.specs.Lists.{one_if, times}
-use Rattle.event_word.specs.World.{World, phase_of, has_passed_flag, rows_passed_by, owed_by, is_announcing, has_token}
+use Rattle.event_word.specs.World.{World, phase_of, has_passed_flag, rows_passed_by, owed_by}
+use Rattle.event_word.specs.World.{is_announcing, has_token}
 use Rattle.event_word.specs.Step.{Possible, effect, actor_of}
 use Rattle.event_word.specs.Lawful.{Lawful, HasSizes}
 
@@ -27,8 +28,8 @@ pub record Frames (w : World) (e : Event) : Type 0 where
       → HasSizes workers actors rows (effect w e)
   pub alone : (number : ℕ) → number ≢ actor_of e → LeavesAlone w (effect w e) number
 
--- In a lawful World a seat that does not act moves only from the stack to those that the actor owes,
--- and from there to the tokens.
+-- in a lawful World a seat that does not act moves only from the stack to those that the actor
+-- owes, and from there to the tokens
 abbrev pub KeepsPlaces : Type 0
 KeepsPlaces = (workers actors rows : ℕ) (w : World) (e : Event) → HasSizes workers actors rows w
     → Lawful w → Possible w e → (seat : ℕ) → seat ≢ actor_of e

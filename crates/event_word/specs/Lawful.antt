@@ -3,7 +3,8 @@ use Rattle.std.specs.Prelude.{◌≡◌, ℕ, ◌+◌, ◌<◌, ◌≤◌, true,
 use Rattle.event_word.specs.declared.phase.Phase.{Phase}
 use Rattle.event_word.specs.declared.phase.Phase.TheVariants.{Running, Pre, Stacked, Ended}
 use Rattle.event_word.specs.Lists.{one_if, total, times}
-use Rattle.event_word.specs.World.{World, phase_of, has_passed_flag, owed_by, is_announcing, has_token}
+use Rattle.event_word.specs.World.{World, phase_of, has_passed_flag, owed_by, is_announcing}
+use Rattle.event_word.specs.World.{has_token}
 
 -- 1 for a pre-waiter
 abbrev pub waits : Phase → ℕ

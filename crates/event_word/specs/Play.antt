@@ -1,8 +1,9 @@
 -- What the program does with events.
 use Rattle.std.specs.Prelude.{◌≡◌, ℕ, ◌+◌, ◌⊎◌, Bool, true, false, List, [], ◌∷◌, length}
 use Rattle.event_word.specs.declared.event.Event.{Event}
-use Rattle.event_word.specs.declared.event.Event.TheVariants.{Publish, Prewait, Pass, PassFlag, Cancel, Commit, Notify}
-use Rattle.event_word.specs.declared.event.Event.TheVariants.{NotifyAll, Unpark, Wake, Take, Stop, End}
+use Rattle.event_word.specs.declared.event.Event.TheVariants.{Publish, Prewait, Pass, PassFlag}
+use Rattle.event_word.specs.declared.event.Event.TheVariants.{Cancel, Commit, Notify, NotifyAll}
+use Rattle.event_word.specs.declared.event.Event.TheVariants.{Unpark, Wake, Take, Stop, End}
 use Rattle.event_word.specs.World.{World}
 use Rattle.event_word.specs.Step.{Possible, effect}
 

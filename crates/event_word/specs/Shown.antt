@@ -1,9 +1,11 @@
 -- The word that an event count shows, and how it follows the event model.
 use Rattle.std.specs.Prelude.{◌≡◌, ℕ, ◌<◌, List, [], ◌∷◌, length}
 use Rattle.event_word.specs.declared.word.Fields.{Fields}
-use Rattle.event_word.specs.declared.event.Event.TheVariants.{Prewait, Cancel, Commit, Notify, NotifyAll}
+use Rattle.event_word.specs.declared.event.Event.TheVariants.{Prewait, Cancel, Commit, Notify}
+use Rattle.event_word.specs.declared.event.Event.TheVariants.{NotifyAll}
 use Rattle.event_word.specs.Fields.{fields}
-use Rattle.event_word.specs.Word.{nobody, prewaited, cancelled, consumed, pushed, signalled, popped, all_notified}
+use Rattle.event_word.specs.Word.{nobody, prewaited, cancelled, consumed, pushed, signalled, popped}
+use Rattle.event_word.specs.Word.{all_notified}
 use Rattle.event_word.specs.World.{World}
 use Rattle.event_word.specs.Step.{Possible, effect}
 use Rattle.event_word.specs.Lawful.{Lawful}

@@ -1,6 +1,7 @@
 -- How the program keeps a World.
 use Rattle.std.specs.Prelude.{◌≡◌, ◌+◌, ◌≤◌, false, [], length, replicate, vec_capacity}
 use Rattle.event_word.specs.declared.world.World.TheInside.{Inside}
+use Rattle.event_word.specs.Limits.{most_workers}
 use Rattle.event_word.specs.World.{World}
 use Rattle.event_word.specs.Debts.{owed_lists, AreKnown}
 use Rattle.event_word.specs.Lawful.{Lawful, HasSizes}
@@ -26,7 +27,7 @@ pub record IsStored {A : Type 0} (i : Inside A) : Type 0 where
   pub lawful : Lawful (world_view i)
   pub sizes : HasSizes (length i.phases.items) (length i.phases.items + i.notifiers) 0
       (world_view i)
-  pub few : length i.phases.items ≤ 16382
+  pub few : length i.phases.items ≤ most_workers
   pub known : AreKnown (length i.phases.items + i.notifiers) i.owed.items
   pub room_to_wait : length i.phases.items ≤ vec_capacity i.pre
   pub room_to_park : length i.phases.items ≤ vec_capacity i.stack

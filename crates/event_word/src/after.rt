@@ -1,7 +1,8 @@
 // The word after each step of an event count.
 ghost use Rattle.std.specs.Prelude.{◌≡◌, ◌≢◌, ℕ, ◌+◌, ◌<◌, ◌≤◌, ◌^◌};
 ghost use Rattle.event_word.specs.Fields.{fields_of};
-ghost use Rattle.event_word.specs.Word.{nobody, prewaited, cancelled, popped, IsCommit, IsNotify, IsNotifyAll};
+ghost use Rattle.event_word.specs.Word.{nobody, prewaited, cancelled, popped, IsCommit, IsNotify};
+ghost use Rattle.event_word.specs.Word.{IsNotifyAll};
 
 #[cfg(test)]
 mod tests;
@@ -59,7 +60,7 @@ pub const fn after_prewait(word: u64) -> u64
 
 /// A commit of `seat`, at the epoch of its next push.
 pub const fn after_commit(word: u64, seat: u16, epoch: u32) -> AfterCommit
-    requires seat { seat < 16383 }
+    requires seat { seat < nobody }
     requires epoch { epoch < 2 ^ 22 }
     requires pre { 0 < (fields_of word).pre }
     requires answered { (fields_of word).signals ≤ (fields_of word).pre }

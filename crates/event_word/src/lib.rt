@@ -6,8 +6,6 @@ mod after;
 mod event;
 mod laws;
 mod phase;
-#[cfg(test)]
-mod refusing;
 mod word;
 mod world;
 

@@ -1,4 +1,6 @@
-ghost use Rattle.std.specs.Prelude.{◌≡◌, ◌+◌, ◌<◌, ◌≤◌, IfOk, length, replicate, slice_get, slice_index, vec_len, vec_capacity};
+ghost use Rattle.std.specs.Prelude.{◌≡◌, ◌+◌, ◌<◌, ◌≤◌, IfOk, length, replicate, slice_get};
+ghost use Rattle.std.specs.Prelude.{slice_index, vec_len, vec_capacity};
+ghost use Rattle.event_word.specs.Limits.{most_workers};
 ghost use Rattle.event_word.specs.World.{phase_of, owed_by, has_token, length_of, opening_world};
 
 mod debts;
@@ -48,7 +50,7 @@ impl<A: Allocator> World<A> {
     where
         A: Clone,
         requires some { 1 ≤ workers }
-        requires few { workers ≤ 16382 }
+        requires few { workers ≤ most_workers }
         requires no_rows { rows ≡ 0 }
         ensures { IfOk result (λ w. w ≡ opening_world workers notifiers rows) }
     {

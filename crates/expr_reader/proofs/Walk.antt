@@ -9,6 +9,7 @@ use Rattle.tensor_ops.specs.Term.{Term, Binary}
 use Rattle.tensor_ops.specs.Term as term
 use Rattle.tensor_ops.specs.Result.{Shaped, dims_of}
 use Rattle.expr_reader.specs.Faults.{dims_fault}
+use Rattle.expr_reader.specs.Limits.{most_nodes}
 use Rattle.expr_reader.specs.Node.{nodes_of, operands_of, operation_at, node_fault, term_in}
 use Rattle.expr_reader.specs.Node.{applied, operands_fault, fault_within, fault_at}
 use Rattle.expr_reader.specs.Profile.{Profile, binary}
@@ -17,7 +18,6 @@ use Rattle.expr_reader.proofs.Numbers.{number_of-below}
 use Rattle.expr_reader.specs.Walked.{Branch, IsRead, IsWalked, IsChecked}
 use Rattle.expr_reader.specs.declared.fault.Fault.{Fault}
 use Rattle.expr_reader.specs.declared.fault.Fault.TheVariants.{UnknownOp, BadArity}
-use Rattle.expr_reader.specs.declared.TheConstants.{MAX_NODES}
 
 -- dims are no fault
 dims_fault-IsOk : (dims : Shaped) → IsOk dims → dims_fault dims ≡ None
@@ -26,8 +26,8 @@ dims_fault-IsOk (Err fault) h = (cc)
 
 module _ (profile : Profile) (named : Named) where
   -- a node before the limit
-  pub fault_at-below : (n : ℕ) (d : Data) → n < MAX_NODES → fault_at profile named n d ≡ fault_within profile named n d
-  fault_at-below n d below = rw (lt-leb MAX_NODES n below) refl
+  pub fault_at-below : (n : ℕ) (d : Data) → n < most_nodes → fault_at profile named n d ≡ fault_within profile named n d
+  fault_at-below n d below = rw (lt-leb most_nodes n below) refl
 
   module _ (o : Binary) (head a b : Data) (is : operation_at profile head ≡ Some (binary o)) where
     pub term_in-binary : term_in profile named (array (item head (item a (item b no_items))))
@@ -44,7 +44,7 @@ module _ (profile : Profile) (named : Named) where
         (dims_of (applied profile named (Some o) (item a (item b no_items))) named.tensors)) op (Some UnknownOp)) is
 
     -- a fault in the first operand, in the second, and of the operation
-    module _ (n : ℕ) (below : n < MAX_NODES) (d : Data) (whole : d ≡ array (item head (item a (item b no_items)))) where
+    module _ (n : ℕ) (below : n < most_nodes) (d : Data) (whole : d ≡ array (item head (item a (item b no_items)))) where
       pub IsWalked-first : (fault : Fault) → fault_at profile named (n + 1) a ≡ Some fault → fault_at profile named n d ≡ Some fault
       IsWalked-first fault h =
           let ahead = rw add-one at h in
@@ -86,7 +86,7 @@ module _ (profile : Profile) (named : Named) where
           elim checked [ inl memory ↦ inl memory | inr found ↦ inr (own first second one two ∙ found) ]
 
   -- an operation with another number of elements behind it
-  pub fault_at-arity : (o : Binary) (n : ℕ) (d head : Data) (rest : Items) → n < MAX_NODES → d ≡ array (item head rest)
+  pub fault_at-arity : (o : Binary) (n : ℕ) (d head : Data) (rest : Items) → n < most_nodes → d ≡ array (item head rest)
       → operation_at profile head ≡ Some (binary o) → (items_len rest ≡ 2 → ⊥) → fault_at profile named n d ≡ Some BadArity
   fault_at-arity o n d head rest below whole is other =
       rw (whole, fault_at-below n (array (item head rest)) below)
@@ -95,7 +95,7 @@ module _ (profile : Profile) (named : Named) where
       ∙ rw (ne_eqb (items_len rest) 2 other) refl)
 
   -- a name that has a number
-  pub IsRead-input : (n found : ℕ) (d : Data) (name : List ℕ) → n < MAX_NODES → d ≡ string name
+  pub IsRead-input : (n found : ℕ) (d : Data) (name : List ℕ) → n < most_nodes → d ≡ string name
       → number_of named.names name ≡ Some found → length named.names ≡ length named.tensors
       → IsRead profile named n d (record { term = term.input found; end = n + 1 })
   IsRead-input n found d name below whole is aligned =

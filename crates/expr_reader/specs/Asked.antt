@@ -4,4 +4,5 @@ use Rattle.expr_reader.specs.Request as text
 use Rattle.expr_reader.specs.declared.request.Request.{Request}
 
 abbrev pub asked_under : Request → text.Asked
-asked_under r = record { workers = r.workers; block = r.block; inputs = r.inputs; term = term_of r.expr }
+asked_under r =
+    record { workers = r.workers; block = r.block; inputs = r.inputs; term = term_of r.expr }

@@ -31,7 +31,8 @@ signed_of d = option_and_then as_i64 (as_number d)
 
 -- a whole number within these bounds
 abbrev pub within : ℕ → ℕ → Data → Option ℕ
-within least most d = option_and_then (λ n. if nat_le least n && nat_le n most then Some n else None) (whole_of d)
+within least most d =
+    option_and_then (λ n. if nat_le least n && nat_le n most then Some n else None) (whole_of d)
 
 -- a head and a rest, where there are both
 abbrev pub cons_of : {A : Type 0} → Option A → Option (List A) → Option (List A)
@@ -41,6 +42,10 @@ cons_of head rest = option_and_then (λ x. option_map (λ xs. x ∷ xs) rest) he
 abbrev pub each_of : {A : Type 0} → (Data → Option A) → Items → Option (List A)
 each_of f no_items = Some []
 each_of f (item d ds) = cons_of (f d) (each_of f ds)
+
+-- what follows from a member of this name, where there is one
+abbrev pub with_member : {A : Type 0} → Data → List ℕ → (Data → Option A) → Option A
+with_member d name next = option_and_then next (get name d)
 
 -- the five fields of a request
 pub record Fields : Type 0 where
@@ -54,7 +59,13 @@ pub record Fields : Type 0 where
 abbrev pub fields_of : Data → Option Fields
 fields_of d =
     if has_members 5 d then
-    option_and_then (λ version. option_and_then (λ workers. option_and_then (λ block. option_and_then (λ inputs. option_map (λ expr.
-    record { version = version; workers = workers; block = block; inputs = inputs; expr = expr })
-    (get (codes "expr") d)) (get (codes "inputs") d)) (get (codes "block") d)) (get (codes "workers") d)) (get (codes "version") d)
+    with_member d (codes "version") (λ version. with_member d (codes "workers") (λ workers.
+    with_member d (codes "block") (λ block. with_member d (codes "inputs") (λ inputs.
+    option_map (λ expr. record {
+      version = version;
+      workers = workers;
+      block = block;
+      inputs = inputs;
+      expr = expr;
+    }) (get (codes "expr") d)))))
     else None

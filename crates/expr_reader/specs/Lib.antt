@@ -8,12 +8,14 @@ pub use Rattle.tensor_ops.specs.Value
 pub mod Asked
 pub mod Faults
 pub mod Fields
+pub mod Limits
 pub mod Node
-pub mod Numbers
-pub mod Outcome
 pub mod Profile
 pub mod Request
-pub mod Shown
 pub mod Tensors
+-- for private clauses alone
+pub mod Numbers
+pub mod Outcome
+pub mod Shown
 pub mod Version
 pub mod Walked

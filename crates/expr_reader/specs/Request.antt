@@ -1,16 +1,19 @@
 -- The first fault of a text, and the request that it names.
-use Rattle.std.specs.Prelude.{ℕ, List, length, nat_lt, Option, Some, None, option_map, option_and_then, if◌then◌else◌}
+use Rattle.std.specs.Prelude.{ℕ, List, length, nat_lt, Option, Some, None, option_map}
+use Rattle.std.specs.Prelude.{option_and_then, if◌then◌else◌}
 use Rattle.std.specs.Option.{option_or, option_map_or}
 use Rattle.serde_json.specs.Data.{Data}
 use Rattle.tensor_ops.specs.Contents.{Contents}
 use Rattle.tensor_ops.specs.Term.{Term}
 use Rattle.expr_reader.specs.Fields.{Fields, fields_of, reading, whole_of, within}
+use Rattle.expr_reader.specs.Limits.{most_bytes, greatest_block}
 use Rattle.expr_reader.specs.Node.{term_in, fault_at}
 use Rattle.expr_reader.specs.Profile.{Profile, profile_of}
 use Rattle.expr_reader.specs.Tensors.{named_in}
 use Rattle.expr_reader.specs.declared.fault.Fault.{Fault}
-use Rattle.expr_reader.specs.declared.fault.Fault.TheVariants.{TooLong, NotJson, BadField, BadVersion, BadWorkers, BadBlock, BadTensor}
-use Rattle.expr_reader.specs.declared.TheConstants.{MAX_TEXT, MAX_BLOCK}
+use Rattle.expr_reader.specs.declared.fault.Fault.TheVariants.{TooLong, NotJson, BadField}
+use Rattle.expr_reader.specs.declared.fault.Fault.TheVariants.{BadVersion, BadWorkers, BadBlock}
+use Rattle.expr_reader.specs.declared.fault.Fault.TheVariants.{BadTensor}
 
 -- what the version allows
 abbrev pub profile_in : Fields → Option Profile
@@ -25,8 +28,9 @@ unless None fault = Some fault
 abbrev pub settings_fault : Fields → Profile → Option Fault
 settings_fault f p =
     option_or (unless (within 1 p.workers f.workers) BadWorkers)
-    (option_or (unless (within 1 MAX_BLOCK f.block) BadBlock)
-    (option_map_or (λ named. fault_at p named 0 f.expr) (named_in p.rank f.inputs) (Some BadTensor)))
+    (option_or (unless (within 1 greatest_block f.block) BadBlock)
+    (option_map_or (λ named. fault_at p named 0 f.expr) (named_in p.rank f.inputs)
+    (Some BadTensor)))
 
 abbrev pub fields_fault : Fields → Option Fault
 fields_fault f = option_map_or (settings_fault f) (profile_in f) (Some BadVersion)
@@ -37,7 +41,8 @@ data_fault d = option_map_or fields_fault (fields_of d) (Some BadField)
 -- the first fault of a text
 abbrev pub fault_of : List ℕ → Option Fault
 fault_of text =
-    if nat_lt MAX_TEXT (length text) then Some TooLong else option_map_or data_fault (reading text) (Some NotJson)
+    if nat_lt most_bytes (length text) then Some TooLong
+    else option_map_or data_fault (reading text) (Some NotJson)
 
 -- what a text asks for
 pub record Asked : Type 0 where
@@ -46,11 +51,22 @@ pub record Asked : Type 0 where
   pub inputs : List Contents
   pub term : Term
 
+-- what the inputs and the expression ask of so many workers, in blocks of this size
+abbrev pub work_asked : Fields → Profile → ℕ → ℕ → Option Asked
+work_asked f p workers block =
+    option_map (λ named. record {
+      workers = workers;
+      block = block;
+      inputs = named.tensors;
+      term = term_in p named f.expr;
+    }) (named_in p.rank f.inputs)
+
+abbrev pub blocks_asked : Fields → Profile → ℕ → Option Asked
+blocks_asked f p workers =
+    option_and_then (work_asked f p workers) (within 1 greatest_block f.block)
+
 abbrev pub settings_asked : Fields → Profile → Option Asked
-settings_asked f p =
-    option_and_then (λ workers. option_and_then (λ block. option_map (λ named.
-    record { workers = workers; block = block; inputs = named.tensors; term = term_in p named f.expr })
-    (named_in p.rank f.inputs)) (within 1 MAX_BLOCK f.block)) (within 1 p.workers f.workers)
+settings_asked f p = option_and_then (blocks_asked f p) (within 1 p.workers f.workers)
 
 abbrev pub fields_asked : Fields → Option Asked
 fields_asked f = option_and_then (settings_asked f) (profile_in f)

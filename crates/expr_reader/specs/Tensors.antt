@@ -1,33 +1,39 @@
 -- The inputs of a request: names and tensors.
-use Rattle.std.specs.Prelude.{ℕ, ℤ, ◌==◌, length, List, [], ◌∷◌, codes, Option, Some, None, option_map, option_and_then, if◌then◌else◌}
+use Rattle.std.specs.Prelude.{ℕ, ℤ, ◌==◌, length, List, [], ◌∷◌, codes, Option, Some, None}
+use Rattle.std.specs.Prelude.{option_map, option_and_then, if◌then◌else◌}
 use Rattle.std.specs.List.{position_from}
 use Rattle.std.specs.Str.{bytes_eq}
 use Rattle.serde_json.specs.Data.{Data, Members, no_members, member}
-use Rattle.serde_json.specs.Find.{get, as_array, as_object}
+use Rattle.serde_json.specs.Find.{as_array, as_object}
 use Rattle.tensor_ops.specs.Index.{size_of}
 use Rattle.tensor_ops.specs.Legal.{are_legal}
 use Rattle.tensor_ops.specs.Contents.{Contents}
-use Rattle.expr_reader.specs.Fields.{has_members, whole_of, signed_of, each_of, cons_of}
+use Rattle.expr_reader.specs.Fields.{has_members, with_member, whole_of, signed_of}
+use Rattle.expr_reader.specs.Fields.{each_of, cons_of}
 
 -- a list of whole numbers that are legal dims
 abbrev pub dims_in : ℕ → Data → Option (List ℕ)
 dims_in rank d =
-    option_and_then (λ dims. if are_legal rank dims then Some dims else None) (option_and_then (each_of whole_of) (as_array d))
+    option_and_then (λ dims. if are_legal rank dims then Some dims else None)
+    (option_and_then (each_of whole_of) (as_array d))
 
 -- a list of this many whole numbers
 abbrev pub values_in : ℕ → Data → Option (List ℤ)
 values_in size d =
-    option_and_then (λ values. if length values == size then Some values else None) (option_and_then (each_of signed_of) (as_array d))
+    option_and_then (λ values. if length values == size then Some values else None)
+    (option_and_then (each_of signed_of) (as_array d))
 
 -- as many values as the dims have places
 abbrev pub filled : Data → List ℕ → Option Contents
-filled d dims = option_map (λ values. record { dims = dims; values = values }) (values_in (size_of dims) d)
+filled d dims =
+    option_map (λ values. record { dims = dims; values = values }) (values_in (size_of dims) d)
 
 -- an object of exactly dims and data
 abbrev pub tensor_in : ℕ → Data → Option Contents
 tensor_in rank d =
     if has_members 2 d then
-    option_and_then (λ dims. option_and_then (λ values. option_and_then (filled values) (dims_in rank dims)) (get (codes "data") d)) (get (codes "dims") d)
+    with_member d (codes "dims") (λ dims. with_member d (codes "data") (λ values.
+    option_and_then (filled values) (dims_in rank dims)))
     else None
 
 -- the tensor of each member, in the members' order
@@ -46,7 +52,8 @@ pub record Named : Type 0 where
 
 abbrev pub named_in : ℕ → Data → Option Named
 named_in rank d =
-    option_and_then (λ ms. option_map (λ tensors. record { names = names_in ms; tensors = tensors }) (tensors_in rank ms)) (as_object d)
+    option_and_then (λ ms. option_map (λ tensors. record { names = names_in ms; tensors = tensors })
+    (tensors_in rank ms)) (as_object d)
 
 -- the number of a name
 abbrev pub number_of : List (List ℕ) → List ℕ → Option ℕ

@@ -1,5 +1,6 @@
 -- What the walk makes of a tree, for the reader's private clauses.
-use Rattle.std.specs.Prelude.{◌≡◌, ◌⊎◌, ◌+◌, ℕ, List, length, IsTrue, IsOk, Some, None, Result, MatchResult}
+use Rattle.std.specs.Prelude.{◌≡◌, ◌⊎◌, ◌+◌, ℕ, List, length, IsTrue, IsOk, Some, None, Result}
+use Rattle.std.specs.Prelude.{MatchResult}
 use Rattle.serde_json.specs.Data.{Data}
 use Rattle.tensor_ops.specs.Contents.{Contents}
 use Rattle.tensor_ops.specs.Term.{Term, has_inputs}
@@ -17,7 +18,8 @@ pub record Branch : Type 0 where
   pub end : ℕ
 
 -- a tree without a fault, read: it names this term, which has result dims
-pub record IsRead (profile : Profile) (named : Named) (before : ℕ) (d : Data) (tree : Branch) : Type 0 where
+pub record IsRead (profile : Profile) (named : Named) (before : ℕ) (d : Data) (tree : Branch)
+    : Type 0 where
   pub sound : fault_at profile named before d ≡ None
   pub term : tree.term ≡ term_in profile named d
   pub count : tree.end ≡ before + nodes_of tree.term
@@ -30,7 +32,8 @@ IsWalked profile named before d found =
     MatchResult found (IsRead profile named before d)
     (λ fault. (fault ≡ NoMemory) ⊎ (fault_at profile named before d ≡ Some fault))
 
--- a term whose operands were read is left, up to this end, or its own fault is found, or there is no memory
+-- a term whose operands were read is left, up to this end, or its own fault is found, or there is
+-- no memory
 abbrev pub IsChecked : Term → ℕ → List Contents → Result Branch Fault → Type 0
 IsChecked t end inputs found =
     MatchResult found (λ tree. (tree ≡ record { term = t; end = end }) × IsOk (dims_of t inputs))

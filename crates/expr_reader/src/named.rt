@@ -1,9 +1,11 @@
 //! The inputs of a request, by name and by number.
 
-ghost use Rattle.std.specs.Prelude.{◌≡◌, ◌≤◌, ◌⊎◌, ℕ, List, MatchResult, Some, None, OnOk, IfErr, if◌then◌else◌};
+ghost use Rattle.std.specs.Prelude.{◌≡◌, ◌≤◌, ◌⊎◌, ℕ, List, MatchResult, Some, None, OnOk, IfErr};
+ghost use Rattle.std.specs.Prelude.{if◌then◌else◌};
 ghost use Rattle.std.specs.Option.{option_or};
 ghost use Rattle.std.specs.Str.{bytes_eq};
 ghost use Rattle.serde_json.specs.View.{view, members_view};
+ghost use Rattle.tensor_ops.specs.Legal.{highest_rank};
 ghost use Rattle.expr_reader.specs.Numbers.{number_in};
 ghost use Rattle.expr_reader.specs.Shown.{IsNamed};
 ghost use Rattle.expr_reader.specs.Tensors.{Named, named_in, names_in, tensors_in, number_of};
@@ -13,7 +15,7 @@ use crate::tensors::read_tensor;
 use serde_json::{Map, Value};
 use std::alloc::Global;
 use std::collections::BTreeMap;
-use tensor_ops::{Inputs, MAX_RANK};
+use tensor_ops::Inputs;
 
 /// Inputs, and the number of each by its name. A map in order, so that no choice of names makes it
 /// slow.
@@ -30,7 +32,7 @@ impl<'v> NamedInputs<'v> {
         value: &'v Value,
         rank: usize,
     ) -> Result<NamedInputs<'v>, Fault>
-        requires { rank ≤ MAX_RANK }
+        requires { rank ≤ highest_rank }
         ensures { MatchResult result
             (λ found. (n : Named) × (named_in rank (view value.now) ≡ Some n) × IsNamed found n)
             (λ fault. (fault ≡ Fault.NoMemory)
@@ -54,12 +56,13 @@ fn read_members<'v>(
     members: &'v Map<String, Value>,
     rank: usize,
 ) -> Result<NamedInputs<'v>, Fault>
-    requires { rank ≤ MAX_RANK }
+    requires { rank ≤ highest_rank }
     ensures { MatchResult result
-        (λ found. (n : Named) × (tensors_in rank (members_view members.now.entries) ≡ Some n.tensors)
+        (λ found. (n : Named)
+        × (tensors_in rank (members_view members.now.entries) ≡ Some n.tensors)
         × (n.names ≡ names_in (members_view members.now.entries)) × IsNamed found n)
-        (λ fault. (fault ≡ Fault.NoMemory)
-        ⊎ ((fault ≡ Fault.BadTensor) × (tensors_in rank (members_view members.now.entries) ≡ None))) }
+        (λ fault. (fault ≡ Fault.NoMemory) ⊎ ((fault ≡ Fault.BadTensor)
+        × (tensors_in rank (members_view members.now.entries) ≡ None))) }
 {
     // A text of the greatest length has far fewer members.
     if members.len() >= u32::MAX as usize {
@@ -86,7 +89,8 @@ fn put_first<'v>(
     number: u32,
 ) -> Result<(), Fault>
     ensures ok { OnOk result ((other : List ℕ) → number_in numbers.new other
-        ≡ option_or (number_in numbers.old other) (if bytes_eq other name.now then Some number else None)) }
+        ≡ option_or (number_in numbers.old other)
+        (if bytes_eq other name.now then Some number else None)) }
     ensures err { IfErr result (λ fault. fault ≡ Fault.NoMemory) }
 {
     if numbers.contains_key(name) {

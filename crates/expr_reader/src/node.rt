@@ -73,7 +73,8 @@ pub(crate) fn read_node(
 /// The operation that the first element names.
 fn operation_of(version: Version, list: &Vec<Value>) -> Option<Operation>
     ensures { option_map operation_under result
-        ≡ option_and_then (operation_at (profile_under version)) (get_item 0 (items_view list.now.items)) }
+        ≡ option_and_then (operation_at (profile_under version))
+        (get_item 0 (items_view list.now.items)) }
 {
     let name = list.first()?.as_str()?;
     version.operation(name)
@@ -89,7 +90,8 @@ fn read_binary(
 ) -> Result<Subtree, Fault>
     requires left { IsTrue (has_inputs (term_of left.expr) (length named.now.inputs)) }
     requires right { IsTrue (has_inputs (term_of right.expr) (length named.now.inputs)) }
-    ensures { IsChecked (term.binary (binary_under operation) (term_of left.expr) (term_of right.expr))
+    ensures { IsChecked
+        (term.binary (binary_under operation) (term_of left.expr) (term_of right.expr))
         right.end named.now.inputs (subtree_under result) }
 {
     let Ok(first) = Box::new(alloc, left.expr) else {

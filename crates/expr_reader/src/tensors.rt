@@ -2,6 +2,7 @@
 
 ghost use Rattle.std.specs.Prelude.{◌≡◌, ◌≤◌};
 ghost use Rattle.serde_json.specs.View.{view};
+ghost use Rattle.tensor_ops.specs.Legal.{highest_rank};
 ghost use Rattle.expr_reader.specs.Outcome.{IsReadOr};
 ghost use Rattle.expr_reader.specs.Tensors.{dims_in, values_in, tensor_in};
 
@@ -14,7 +15,7 @@ use tensor_ops::{Dims, MAX_RANK, Tensor};
 
 /// A tensor: an object of exactly `dims` and `data`.
 pub(crate) fn read_tensor(alloc: Global, value: &Value, rank: usize) -> Result<Tensor, Fault>
-    requires { rank ≤ MAX_RANK }
+    requires { rank ≤ highest_rank }
     ensures { IsReadOr Fault.BadTensor (λ t. t) (tensor_in rank (view value.now)) result }
 {
     if !has_members(value, 2) {
@@ -29,7 +30,7 @@ pub(crate) fn read_tensor(alloc: Global, value: &Value, rank: usize) -> Result<T
 
 /// Legal dims of at most this rank. Takes no memory, however long the list is.
 fn read_dims(value: &Value, rank: usize) -> Option<Dims>
-    requires { rank ≤ MAX_RANK }
+    requires { rank ≤ highest_rank }
     ensures { result ≡ dims_in rank (view value.now) }
 {
     let list = value.as_array()?;
@@ -45,7 +46,8 @@ fn read_dims(value: &Value, rank: usize) -> Option<Dims>
 
 /// A list of this many whole numbers of the `i64` range.
 fn read_values(alloc: Global, value: &Value, size: u64) -> Result<Vec<i64>, Fault>
-    ensures { IsReadOr Fault.BadTensor (λ values. values.items) (values_in size (view value.now)) result }
+    ensures { IsReadOr Fault.BadTensor (λ values. values.items)
+        (values_in size (view value.now)) result }
 {
     let list = value.as_array().ok_or(Fault::BadTensor)?;
     if list.len() as u64 != size {

@@ -2,7 +2,8 @@
 
 ghost use Rattle.std.specs.Prelude.{◌≡◌, ◌⊎◌, Some, None, MatchResult, option_map};
 ghost use Rattle.expr_reader.specs.Asked.{asked_under};
-ghost use Rattle.expr_reader.specs.Request.{profile_in, fields_fault, fields_asked, fault_of, asked_of};
+ghost use Rattle.expr_reader.specs.Request.{profile_in, fields_fault, fields_asked};
+ghost use Rattle.expr_reader.specs.Request.{fault_of, asked_of};
 ghost use Rattle.expr_reader.specs.Shown.{fields_under};
 ghost use Rattle.expr_reader.specs.Version.{profile_under};
 
@@ -42,7 +43,8 @@ fn read_fields(alloc: Global, fields: &Fields<'_>) -> Result<Request, Fault>
     ensures { MatchResult result
         (λ request. (fields_fault (fields_under fields.now) ≡ None)
         × (fields_asked (fields_under fields.now) ≡ Some (asked_under request)))
-        (λ fault. (fault ≡ Fault.NoMemory) ⊎ (fields_fault (fields_under fields.now) ≡ Some fault)) }
+        (λ fault. (fault ≡ Fault.NoMemory)
+        ⊎ (fields_fault (fields_under fields.now) ≡ Some fault)) }
 {
     let Some(version) = version_of(fields) else {
         return Err(Fault::BadVersion);

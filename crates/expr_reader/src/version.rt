@@ -48,7 +48,8 @@ impl Version {
 
     /// The operation of a name.
     pub(crate) fn operation(self, name: &str) -> Option<Operation>
-        ensures { option_map operation_under result ≡ operation_named name.now (profile_under self).operations }
+        ensures { option_map operation_under result
+            ≡ operation_named name.now (profile_under self).operations }
     {
         match name {
             "add" => Some(Operation::Add),

@@ -6,23 +6,19 @@ use Rattle.std.proofs.Common.{subst, inl, inr, arith, length-set, get_or-set_sam
 use Rattle.std.proofs.lemmas.Bool.Decides.{nat_tests}
 use mathlib.Core.Option.{some, none}
 use lib.ListN.{get_elem?}
-use Rattle.atomic_table.specs.Table.{Me, step, keeps, stepped, Allows, Splits}
+use Rattle.atomic_table.specs.Table.{step, keeps, stepped, Allows, Splits}
 use Rattle.pool_barrier.specs.declared.rule.TheConstants.{STATE}
 use Rattle.pool_barrier.specs.declared.view.Phase.{Phase}
 use Rattle.pool_barrier.specs.declared.view.Phase.TheVariants.{Fresh, Flagged, Done}
 use Rattle.pool_barrier.specs.declared.view.View.{View}
 use Rattle.pool_barrier.specs.declared.view.View.TheVariants.{Whole, Gives, Waits}
 use Rattle.pool_barrier.specs.Views.{notices_in, given_in, waiter_in, flag_in, flag_of}
-use Rattle.pool_barrier.specs.Views.{after_split, split_off, after_flag, gives_one, sets_flag}
+use Rattle.pool_barrier.specs.Views.{Sat, after_split, split_off, after_flag, gives_one, sets_flag}
 use Rattle.pool_barrier.specs.BarrierWord.{BarrierState, total, barrier_word, IsCounted}
 use Rattle.pool_barrier.specs.Laws.{NoNoticeIsLeft}
 use Rattle.pool_barrier.proofs.Totals.{total-set, total-append, le_total, total_mono_but}
 use Rattle.pool_barrier.proofs.Totals.{All-total, Contains-set, Contains-append}
 use Rattle.pool_barrier.proofs.Words.{or-flag}
-
--- what a seat has: its view, and no slot
-abbrev Sat : Type 0
-Sat = Me (Unit {0}) View
 
 -- a step that changes one view, and writes the barrier word of the new views
 moves_on : (count : ℕ) (s : BarrierState) (id : ℕ) (v w : View) (word : ℕ)
@@ -134,7 +130,7 @@ gives count slots id n g some_left s rule _ at small =
       tt,
       moves_on count s id v w ((found + (2 ^ 64 - 2)) % 2 ^ 64) rule at
           (omega arith) (omega arith) refl (λ e. absurd (cc)) (omega arith),
-      refl,
+      (refl, refl),
     )
 
 -- a share with a notice left gives one
@@ -205,7 +201,7 @@ sets count slots id phase s rule _ at small =
       tt,
       moves_on count s id v w (bit_or found 1) rule at refl (omega arith) refl
           (λ e. let below = done_below (nat_lt found 2) found refl e in omega arith) (omega arith),
-      (refl, omega arith),
+      (refl, refl, omega arith),
     )
 
 -- the waiter sets its flag

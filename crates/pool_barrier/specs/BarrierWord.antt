@@ -1,10 +1,11 @@
 -- The barrier word, and the rule that keeps it.
 use Rattle.std.specs.Prelude.{◌≡◌, ℕ, ◌+◌, ◌*◌, ◌≤◌, List, [], ◌∷◌, length, slice_index, Contains}
 use Rattle.atomic_table.specs.Table.{State}
-use Rattle.pool_barrier.specs.declared.rule.TheConstants.{MOST_NOTICES, WORDS, STATE}
+use Rattle.pool_barrier.specs.declared.rule.TheConstants.{WORDS, STATE}
 use Rattle.pool_barrier.specs.declared.view.Phase.TheVariants.{Done}
 use Rattle.pool_barrier.specs.declared.view.View.{View}
 use Rattle.pool_barrier.specs.declared.view.View.TheVariants.{Waits}
+use Rattle.pool_barrier.specs.Limits.{most_notices}
 use Rattle.pool_barrier.specs.Views.{notices_in, given_in, waiter_in, flag_in}
 
 -- the words of a barrier's table, and what each of its seats knows
@@ -24,7 +25,7 @@ barrier_word views = 2 * total notices_in views + total flag_in views
 pub record IsCounted (count : ℕ) (s : BarrierState) : Type 0 where
   pub room : length s.words ≡ WORDS
   pub word : slice_index s.words STATE ≡ barrier_word s.views
-  pub few : count ≤ MOST_NOTICES
+  pub few : count ≤ most_notices
   pub account : total notices_in s.views + total given_in s.views ≡ count
   pub one_waiter : total waiter_in s.views ≡ 1
   pub done : Contains s.views (Waits Done) → total notices_in s.views ≡ 0

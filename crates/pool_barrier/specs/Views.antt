@@ -1,6 +1,7 @@
 -- What the seats at a barrier's table know, and how each step changes it.
 use Rattle.std.specs.Prelude.{◌≡◌, ℕ, ◌+◌, ◌-◌, ◌<◌, ◌^◌, nat_lt, if◌then◌else◌}
 use Rattle.atomic_table.specs.Table.{Me, Step}
+use Rattle.pool_barrier.specs.declared.rule.TheConstants.{STATE}
 use Rattle.pool_barrier.specs.declared.view.Phase.{Phase}
 use Rattle.pool_barrier.specs.declared.view.Phase.TheVariants.{Fresh, Flagged, Done}
 use Rattle.pool_barrier.specs.declared.view.View.{View}
@@ -66,10 +67,20 @@ after_notice share = Gives (notices_in share - 1) (given_in share + 1)
 abbrev pub after_flag : ℕ → View
 after_flag found = Waits (if nat_lt found 2 then Done else Flagged)
 
--- what a notice tells
-abbrev pub gives_one : Step (Unit {0}) → Me (Unit {0}) View → ℕ → Me (Unit {0}) View → Type 0
-gives_one step before found after = after ≡ (after_notice before.0, before.1)
+-- a seat's view, and the slots that it holds: none
+abbrev pub Sat : Type 0
+Sat = Me (Unit {0}) View
 
--- what setting the flag tells
-abbrev pub sets_flag : Step (Unit {0}) → Me (Unit {0}) View → ℕ → Me (Unit {0}) View → Type 0
-sets_flag step before found after = (after ≡ (after_flag found, before.1)) × (found < 2 ^ 32)
+-- a fact about a step: its operands, the seat before it, the number that it found, the seat after
+abbrev pub Told : Type 1
+Told = Step (Unit {0}) → Sat → ℕ → Sat → Type 0
+
+-- what a notice tells: it is a step on the barrier's word
+abbrev pub gives_one : Told
+gives_one step before found after =
+    (step.word ≡ STATE) × (after ≡ (after_notice before.0, before.1))
+
+-- what setting the flag tells: it is a step on the barrier's word
+abbrev pub sets_flag : Told
+sets_flag step before found after =
+    (step.word ≡ STATE) × (after ≡ (after_flag found, before.1)) × (found < 2 ^ 32)

@@ -1,6 +1,7 @@
 //! The barrier.
 ghost use Rattle.std.specs.Prelude.{◌≡◌, ◌+◌, ◌<◌, ◌≤◌, ◌↔◌, IfOk, IsErrOf};
-ghost use Rattle.pool_barrier.specs.declared.rule.TheConstants.{MOST_NOTICES, WORDS};
+ghost use Rattle.pool_barrier.specs.declared.rule.TheConstants.{WORDS};
+ghost use Rattle.pool_barrier.specs.Limits.{most_notices};
 
 use crate::fault::BarrierFault;
 use crate::plays::{GivesOne, SetsFlag};
@@ -37,7 +38,7 @@ impl<A: Allocator> Barrier<A> {
 
     /// A barrier of `count` notices, its waiter, and a share that has all of them.
     pub fn new(alloc: A, count: u64) -> Result<(Barrier<A>, Waiter, Share), BarrierFault>
-        ensures too_large { IsErrOf result BarrierFault.TooLarge ↔ (MOST_NOTICES < count) }
+        ensures too_large { IsErrOf result BarrierFault.TooLarge ↔ (most_notices < count) }
         ensures barrier { IfOk result (λ made. count_of made.0 ≡ count) }
         ensures waiter { IfOk result (λ made. IsWaiterOf made.0 made.1) }
         ensures fresh { IfOk result (λ made. IsFresh made.1) }
@@ -56,7 +57,7 @@ impl<A: Allocator> Barrier<A> {
         alloc: A,
         count: u64,
     ) -> Result<(Barrier<A>, Waiter, Share), AllocError>
-        requires { count ≤ MOST_NOTICES }
+        requires { count ≤ most_notices }
         ensures barrier { IfOk result (λ made. count_of made.0 ≡ count) }
         ensures waiter { IfOk result (λ made. IsWaiterOf made.0 made.1) }
         ensures fresh { IfOk result (λ made. IsFresh made.1) }

@@ -11,8 +11,6 @@ mod fault;
 mod laws;
 mod notification;
 mod plays;
-#[cfg(test)]
-mod refusing;
 mod rule;
 mod share;
 mod view;

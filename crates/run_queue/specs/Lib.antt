@@ -1,3 +1,4 @@
 pub mod Account
 pub mod Bag
-pub mod Grid
+mod Grid
+pub mod Limits

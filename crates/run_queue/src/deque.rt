@@ -1,7 +1,8 @@
-ghost use Rattle.std.specs.Prelude.{◌≡◌, ◌+◌, ◌<◌, ◌≤◌, ◌↔◌, List, [], ◌∷◌, ◌++◌, length, vec_len, vec_capacity};
-ghost use Rattle.std.specs.Prelude.{IsTrue, IsOk, IsErr, IfOk, IfErr, IfSome, IfNone, OnOk, OnErr};
+ghost use Rattle.std.specs.Prelude.{◌≡◌, ◌+◌, ◌<◌, ◌≤◌, ◌↔◌, List, [], ◌∷◌, ◌++◌, length, vec_len};
+ghost use Rattle.std.specs.Prelude.{vec_capacity, IsTrue, IsOk, IsErr, IfOk, IfErr, IfSome, IfNone};
+ghost use Rattle.std.specs.Prelude.{OnOk, OnErr};
 ghost use Rattle.std.specs.VecDeque.{deque_len, deque_capacity};
-ghost use Rattle.run_queue.specs.declared.deque.TheConstants.{ROW_JOBS};
+ghost use Rattle.run_queue.specs.Limits.{most_jobs};
 
 use std::alloc::{AllocError, Allocator, Global};
 use std::collections::VecDeque;
@@ -24,7 +25,7 @@ impl<J, A: Allocator> Model for Deque<J, A> {
 
     ghost view = { λ d. d.jobs.items };
 
-    ghost invariant = { λ d. (deque_len d.jobs ≤ ROW_JOBS) × (ROW_JOBS ≤ deque_capacity d.jobs) };
+    ghost invariant = { λ d. (deque_len d.jobs ≤ most_jobs) × (most_jobs ≤ deque_capacity d.jobs) };
 }
 
 impl<J, A: Allocator> Deque<J, A> {
@@ -40,7 +41,7 @@ impl<J, A: Allocator> Deque<J, A> {
     /// How many jobs are in the row.
     pub fn len(&self) -> usize
         ensures count { result ≡ length self.now }
-        ensures within { length self.now ≤ ROW_JOBS }
+        ensures within { length self.now ≤ most_jobs }
     {
         self.jobs.len()
     }
@@ -53,8 +54,8 @@ impl<J, A: Allocator> Deque<J, A> {
 
     /// Puts a job in front of the others, or gives it back where the row is full.
     pub fn push_front(&mut self, job: J) -> Result<(), J>
-        ensures room { IsOk result ↔ (length self.old < ROW_JOBS) }
-        ensures full { IsErr result ↔ (length self.old ≡ ROW_JOBS) }
+        ensures room { IsOk result ↔ (length self.old < most_jobs) }
+        ensures full { IsErr result ↔ (length self.old ≡ most_jobs) }
         ensures pushed { OnOk result (self.new ≡ job ∷ self.old) }
         ensures unchanged { OnErr result (self.new ≡ self.old) }
         ensures returned { IfErr result (λ back. back ≡ job) }
@@ -68,8 +69,8 @@ impl<J, A: Allocator> Deque<J, A> {
 
     /// Puts a job behind the others, or gives it back where the row is full.
     pub fn push_back(&mut self, job: J) -> Result<(), J>
-        ensures room { IsOk result ↔ (length self.old < ROW_JOBS) }
-        ensures full { IsErr result ↔ (length self.old ≡ ROW_JOBS) }
+        ensures room { IsOk result ↔ (length self.old < most_jobs) }
+        ensures full { IsErr result ↔ (length self.old ≡ most_jobs) }
         ensures pushed { OnOk result (self.new ≡ self.old ++ job ∷ []) }
         ensures unchanged { OnErr result (self.new ≡ self.old) }
         ensures returned { IfErr result (λ back. back ≡ job) }
@@ -101,9 +102,9 @@ impl<J, A: Allocator> Deque<J, A> {
     pub(crate) fn move_into(self, list: &mut Vec<J, A>)
     where
         J: Drop,
-        requires { vec_len list.old + ROW_JOBS ≤ vec_capacity list.old }
+        requires { vec_len list.old + most_jobs ≤ vec_capacity list.old }
         ensures items { list.new.items ≡ list.old.items ++ self }
-        ensures within { length self ≤ ROW_JOBS }
+        ensures within { length self ≤ most_jobs }
         ensures capacity { vec_capacity list.new ≡ vec_capacity list.old }
     {
         let Deque { mut jobs } = self;

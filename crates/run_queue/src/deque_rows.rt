@@ -1,8 +1,8 @@
-ghost use Rattle.std.specs.Prelude.{◌≡◌, ◌*◌, ◌<◌, ◌≤◌, ◌↔◌, List, [], ◌∷◌, ◌++◌};
-ghost use Rattle.std.specs.Prelude.{length, replicate, slice_set, vec_len, vec_capacity};
-ghost use Rattle.std.specs.Prelude.{IsOk, IfOk, IfErr, IfSome, IfNone, OnOk, OnErr};
+ghost use Rattle.std.specs.Prelude.{◌≡◌, ◌*◌, ◌<◌, ◌≤◌, ◌↔◌, List, [], ◌∷◌, ◌++◌, length};
+ghost use Rattle.std.specs.Prelude.{replicate, slice_set, vec_len, vec_capacity, IsOk, IfOk, IfErr};
+ghost use Rattle.std.specs.Prelude.{IfSome, IfNone, OnOk, OnErr};
 ghost use Rattle.std.specs.List.{flat_map};
-ghost use Rattle.run_queue.specs.declared.deque.TheConstants.{ROW_JOBS};
+ghost use Rattle.run_queue.specs.Limits.{most_jobs};
 ghost use Rattle.run_queue.specs.Grid.{row_of};
 
 use crate::deque::{Deque, ROW_JOBS};
@@ -23,7 +23,7 @@ impl<J, A: Allocator> Model for DequeRows<J, A> {
     ghost view = { λ r. r.deques.items };
 
     ghost invariant = { λ r.
-        (r.left.items ≡ []) × (vec_len r.deques * ROW_JOBS ≤ vec_capacity r.left) };
+        (r.left.items ≡ []) × (vec_len r.deques * most_jobs ≤ vec_capacity r.left) };
 }
 
 impl<J: Drop, A: Allocator> DequeRows<J, A> {
@@ -44,7 +44,7 @@ impl<J: Drop, A: Allocator> DequeRows<J, A> {
     /// How many jobs are in a row.
     pub(crate) fn row_len(&self, row: usize) -> usize
         ensures count { result ≡ length (row_of self.now row) }
-        ensures within { result ≤ ROW_JOBS }
+        ensures within { result ≤ most_jobs }
     {
         match self.deques.get(row) {
             Some(deque) => deque.len(),
@@ -54,7 +54,7 @@ impl<J: Drop, A: Allocator> DequeRows<J, A> {
 
     pub(crate) fn push_front(&mut self, row: usize, job: J) -> Result<(), J>
         ensures room { IsOk result
-            ↔ ((row < length self.old) × (length (row_of self.old row) < ROW_JOBS)) }
+            ↔ ((row < length self.old) × (length (row_of self.old row) < most_jobs)) }
         ensures pushed { OnOk result
             (self.new ≡ slice_set self.old row (job ∷ row_of self.old row)) }
         ensures unchanged { OnErr result (self.new ≡ self.old) }
@@ -68,7 +68,7 @@ impl<J: Drop, A: Allocator> DequeRows<J, A> {
 
     pub(crate) fn push_back(&mut self, row: usize, job: J) -> Result<(), J>
         ensures room { IsOk result
-            ↔ ((row < length self.old) × (length (row_of self.old row) < ROW_JOBS)) }
+            ↔ ((row < length self.old) × (length (row_of self.old row) < most_jobs)) }
         ensures pushed { OnOk result
             (self.new ≡ slice_set self.old row (row_of self.old row ++ job ∷ [])) }
         ensures unchanged { OnErr result (self.new ≡ self.old) }

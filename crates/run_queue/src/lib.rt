@@ -5,8 +5,6 @@
 mod deque;
 mod deque_rows;
 mod locked_rows;
-#[cfg(test)]
-mod refusing;
 mod rows;
 
 pub use deque::{Deque, ROW_JOBS};

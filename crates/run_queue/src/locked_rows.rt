@@ -1,6 +1,6 @@
 ghost use Rattle.std.specs.Prelude.{◌≡◌, ℕ, ◌+◌, ◌≤◌, List, [], map, IfOk, All};
 ghost use Rattle.std.specs.List.{range_with_len};
-ghost use Rattle.run_queue.specs.declared.deque.TheConstants.{ROW_JOBS};
+ghost use Rattle.run_queue.specs.Limits.{most_jobs};
 
 use crate::deque_rows::DequeRows;
 use crate::rows::{MOST_ROWS, Rows, RowsFault};
@@ -96,7 +96,7 @@ impl<J: Drop, A: Allocator + Clone> Rows<J, A> for LockedRows<J, A> {
     }
 
     fn row_length<R: Wait>(&self, rt: &R, _seat: &mut LockedSeat, row: u16) -> u64
-        ensures within { result ≤ ROW_JOBS }
+        ensures within { result ≤ most_jobs }
         ensures number { _seat.new ≡ _seat.old }
     {
         self.deques.lock(rt).row_len(usize::from(row)) as u64

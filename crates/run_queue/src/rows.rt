@@ -1,8 +1,9 @@
-ghost use Rattle.std.specs.Prelude.{◌≡◌, ℕ, ◌+◌, ◌<◌, ◌↔◌, List, [], ◌++◌, length, map, All};
-ghost use Rattle.std.specs.Prelude.{IfOk, IfErr, IsErrOf, option_to_list};
+ghost use Rattle.std.specs.Prelude.{◌≡◌, ℕ, ◌+◌, ◌<◌, ◌↔◌, List, [], ◌++◌, length, map, All, IfOk};
+ghost use Rattle.std.specs.Prelude.{IfErr, IsErrOf, option_to_list};
 ghost use Rattle.std.specs.List.{range_with_len};
 ghost use Rattle.run_queue.specs.declared.rows.RowsFault.TheVariants.{NoMemory};
 ghost use Rattle.run_queue.specs.Account.{AddsIfOk, AccountsFor};
+ghost use Rattle.run_queue.specs.Limits.{most_rows};
 
 use std::alloc::{AllocError, Allocator};
 use std::sync::Wait;
@@ -64,7 +65,7 @@ pub trait Rows<J, A: Allocator>: Sized + Drop {
 
     /// Empty rows and their seats, by number. This takes the memory of `drain_all` too.
     fn open(alloc: A, rows: u16, outsiders: u16) -> Result<(Self, Vec<Self::Seat, A>), RowsFault>
-        ensures too_many { IsErrOf result RowsFault.TooManyRows ↔ (MOST_ROWS < rows) }
+        ensures too_many { IsErrOf result RowsFault.TooManyRows ↔ (most_rows < rows) }
         ensures rows { IfOk result (λ r. row_count r.0 ≡ rows) }
         ensures seats { IfOk result (λ r. seat_count r.0 ≡ rows + outsiders) }
         ensures numbers { IfOk result (λ r.

@@ -35,7 +35,8 @@ numbers_text xs = join_with_byte 44 (map signed_decimal xs)
 
 abbrev pub tensor_line : Contents → List ℕ
 tensor_line t =
-    codes "{\"data\":[" ++ (numbers_text t.values ++ (codes "],\"dims\":[" ++ (numbers_text (map pos t.dims) ++ (codes "]}" ++ 10 ∷ []))))
+    codes "{\"data\":[" ++ (numbers_text t.values
+    ++ (codes "],\"dims\":[" ++ (numbers_text (map pos t.dims) ++ (codes "]}" ++ 10 ∷ []))))
 
 abbrev pub fault_line : Fault → List ℕ
 fault_line f = codes "error " ++ decimal (fault_number f) ++ 32 ∷ fault_name f ++ 10 ∷ []

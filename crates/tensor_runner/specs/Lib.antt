@@ -4,6 +4,9 @@ pub use Rattle.expr_reader.specs.Faults
 pub use Rattle.expr_reader.specs.Request
 pub use Rattle.expr_reader.specs.Value
 pub mod Answer
-pub mod Line
+pub mod Ending
 pub mod Run
 pub mod Streams
+-- for private clauses alone
+pub mod Line
+pub mod Pieces

@@ -5,7 +5,8 @@ use Rattle.serde_json.specs.Data.{Data, Items, number}
 use Rattle.serde_json.specs.View.{items_of}
 use Rattle.serde_json.specs.Find.{of_integer}
 use Rattle.expr_reader.specs.Contents.{Contents}
-use Rattle.tensor_runner.specs.Answer.{Answer, tensor, answer_of, line_of, status_of, tensor_line, IsAnswerTo}
+use Rattle.tensor_runner.specs.Answer.{Answer, tensor, answer_of, line_of, status_of, tensor_line}
+use Rattle.tensor_runner.specs.Answer.{IsAnswerTo}
 use Rattle.tensor_runner.specs.declared.answer.Line.{Line}
 
 -- a number as JSON

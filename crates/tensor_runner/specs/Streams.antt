@@ -1,6 +1,6 @@
 -- How often a stream was called, and how often it failed.
-use Rattle.std.specs.Prelude.{◌≡◌, ◌⊎◌, ◌+◌, ◌-◌, ◌^◌, ◌<◌, ℕ, zero, suc, min, Bool, true, false, if◌then◌else◌}
-use Rattle.std.specs.Prelude.{Result, Ok, Err}
+use Rattle.std.specs.Prelude.{◌≡◌, ◌⊎◌, ◌+◌, ◌-◌, ◌^◌, ◌<◌, ℕ, zero, suc, min, Bool, true, false}
+use Rattle.std.specs.Prelude.{if◌then◌else◌, Result, Ok, Err}
 
 -- one more, up to the greatest `u64`, where a number stays
 abbrev pub one_more : ℕ → ℕ

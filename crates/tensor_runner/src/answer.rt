@@ -48,7 +48,8 @@ pub(crate) fn no_memory() -> Line
 
 /// The line of a tensor, or the fault of the text.
 fn tensor_of(alloc: Global, text: &[u8]) -> Result<String, Fault>
-    ensures { MatchResult result (λ line. IsLineOfTensor text.now (string_bytes line)) (λ f. IsAnswerTo text.now (fault f)) }
+    ensures { MatchResult result (λ line. IsLineOfTensor text.now (string_bytes line))
+        (λ f. IsAnswerTo text.now (fault f)) }
 {
     let request = read_request(alloc, text)?;
     let Ok(tensor) = eval(alloc, &request) else {
@@ -59,7 +60,8 @@ fn tensor_of(alloc: Global, text: &[u8]) -> Result<String, Fault>
 
 /// The line of a fault, or of want of memory.
 fn refusal(alloc: Global, fault: Fault) -> Line
-    ensures text { (cow_str_bytes result.text ≡ fault_line fault) ⊎ (cow_str_bytes result.text ≡ fault_line Fault.NoMemory) }
+    ensures text { (cow_str_bytes result.text ≡ fault_line fault)
+        ⊎ (cow_str_bytes result.text ≡ fault_line Fault.NoMemory) }
     ensures status { result.status ≡ Status.Fault }
 {
     match format!(in alloc; "error {} {}\n", fault.number(), fault.name()) {

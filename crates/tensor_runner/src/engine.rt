@@ -2,7 +2,7 @@
 
 ghost use Rattle.std.specs.Prelude.{◌≡◌, ◌+◌, ◌≤◌, List, ℕ, Some, Err, OnOk, IfOk, IfErr};
 ghost use Rattle.tensor_runner.specs.Line.{IsLineFor};
-ghost use Rattle.tensor_runner.specs.Run.{Answers, CutsShort};
+ghost use Rattle.tensor_runner.specs.Run.{most_reads, Answers, CutsShort};
 ghost use Rattle.tensor_runner.specs.Streams.{HasFailed};
 
 use crate::answer::{Line, answer, no_memory};
@@ -31,18 +31,21 @@ pub fn run<R: Source, W: Sink>(
     reader: &mut R,
     writer: &mut W,
 ) -> Result<Status, StreamFault>
-    ensures answered { (text held : List ℕ) → R.remaining reader.old ≡ Some text → W.contents writer.old ≡ Some held
+    ensures answered { (text held : List ℕ) → R.remaining reader.old ≡ Some text
+        → W.contents writer.old ≡ Some held
         → IfOk result (Answers text held (W.contents writer.new)) }
-    ensures cut_short { (text held : List ℕ) → R.remaining reader.old ≡ Some text → W.contents writer.old ≡ Some held
-        → result ≡ Err StreamFault.WriteFault → CutsShort text held (W.contents writer.new) }
+    ensures cut_short { (text held : List ℕ) → R.remaining reader.old ≡ Some text
+        → W.contents writer.old ≡ Some held → result ≡ Err StreamFault.WriteFault
+        → CutsShort text held (W.contents writer.new) }
 
     ensures read_fault { result ≡ Err StreamFault.ReadFault
         → HasFailed (R.failures reader.old) (R.failures reader.new) × (writer.new ≡ writer.old) }
     ensures write_fault { result ≡ Err StreamFault.WriteFault
-        → (R.failures reader.new ≡ R.failures reader.old) × HasFailed (W.failures writer.old) (W.failures writer.new) }
-    ensures no_failure { OnOk result
-        ((R.failures reader.new ≡ R.failures reader.old) × (W.failures writer.new ≡ W.failures writer.old)) }
-    ensures reads { R.calls reader.new ≤ R.calls reader.old + MOST_READ }
+        → (R.failures reader.new ≡ R.failures reader.old)
+        × HasFailed (W.failures writer.old) (W.failures writer.new) }
+    ensures no_failure { OnOk result ((R.failures reader.new ≡ R.failures reader.old)
+        × (W.failures writer.new ≡ W.failures writer.old)) }
+    ensures reads { R.calls reader.new ≤ R.calls reader.old + most_reads }
 {
     let line = prepare(alloc, reader)?;
     write_line(writer, line.text.as_str().as_bytes())?;
@@ -51,11 +54,12 @@ pub fn run<R: Source, W: Sink>(
 
 /// The line that answers the text of a reader, whole in memory.
 fn prepare<R: Source>(alloc: Global, reader: &mut R) -> Result<Line, StreamFault>
-    ensures line { IfOk result (λ line. (text : List ℕ) → R.remaining reader.old ≡ Some text → IsLineFor text line) }
+    ensures line { IfOk result (λ line. (text : List ℕ) → R.remaining reader.old ≡ Some text
+        → IsLineFor text line) }
     ensures ok_failures { OnOk result (R.failures reader.new ≡ R.failures reader.old) }
     ensures err { IfErr result (λ fault. (fault ≡ StreamFault.ReadFault)
         × HasFailed (R.failures reader.old) (R.failures reader.new)) }
-    ensures calls { R.calls reader.new ≤ R.calls reader.old + MOST_READ }
+    ensures calls { R.calls reader.new ≤ R.calls reader.old + most_reads }
 {
     match read_text(alloc, reader) {
         Ok(text) => Ok(answer(alloc, text.as_slice())),

@@ -3,6 +3,7 @@
 #![tactic(auto)]
 
 mod answer;
+mod ending;
 mod engine;
 mod evaluation;
 mod reading;
@@ -12,6 +13,7 @@ mod status;
 mod text;
 mod writing;
 
+pub use ending::{Ending, serve};
 pub use engine::{MOST_READ, run};
 pub use evaluation::eval;
 pub use expr_reader::{Request, Tensor};

@@ -1,7 +1,8 @@
 //! Reading a text.
 
 ghost use Rattle.std.specs.Prelude.{◌≡◌, ◌+◌, ◌≤◌, ◌<◌, length, take, IfOk, IfSome};
-ghost use Rattle.tensor_runner.specs.Run.{IsUnread, Takes};
+ghost use Rattle.tensor_runner.specs.Pieces.{IsUnread, Takes};
+ghost use Rattle.tensor_runner.specs.Run.{most_reads};
 
 use crate::engine::MOST_READ;
 use crate::source::Source;
@@ -21,8 +22,9 @@ pub(crate) enum Unread {
 
 /// The bytes of a stream to its end, or its first [`MOST_READ`].
 pub(crate) fn read_text<R: Source>(alloc: Global, reader: &mut R) -> Result<Vec<u8>, Unread>
-    ensures text { IfOk result (λ text. IfSome (R.remaining reader.old) (λ all. text.items ≡ take MOST_READ all)) }
-    ensures calls { R.calls reader.new ≤ R.calls reader.old + MOST_READ }
+    ensures text { IfOk result (λ text. IfSome (R.remaining reader.old)
+        (λ all. text.items ≡ take most_reads all)) }
+    ensures calls { R.calls reader.new ≤ R.calls reader.old + most_reads }
     ensures failures { IsUnread result (R.failures reader.old) (R.failures reader.new) }
 {
     let mut text = Vec::new(alloc);
@@ -45,9 +47,10 @@ fn read_some<R: Source>(
     buffer: &mut [u8; CHUNK],
     text: &mut Vec<u8>,
 ) -> Result<usize, Unread>
-    requires { length text.old.items < MOST_READ }
+    requires { length text.old.items < most_reads }
     ensures taken { IfOk result (λ count.
-        Takes (R.remaining reader.old) (R.remaining reader.new) text.old.items text.new.items count) }
+        Takes (R.remaining reader.old) (R.remaining reader.new)
+        text.old.items text.new.items count) }
     ensures calls { R.calls reader.new ≤ R.calls reader.old + 1 }
     ensures failures { IsUnread result (R.failures reader.old) (R.failures reader.new) }
 {

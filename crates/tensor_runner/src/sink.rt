@@ -25,7 +25,8 @@ pub trait Sink {
         ensures bound { WritesAtMost result bytes.now }
         ensures bytes { WriteAppends (contents self.old) (contents self.new) result bytes.now }
         ensures calls { calls self.new ≡ one_more (calls self.old) }
-        ensures failures { failures self.new ≡ failures_after (took_some result) (failures self.old) };
+        ensures failures { failures self.new
+            ≡ failures_after (took_some result) (failures self.old) };
 }
 
 /// Any writer of std, as a list of bytes or the standard output, with its calls counted.

@@ -25,9 +25,9 @@ pub enum RunFault {
 #[derive(Clone, Copy, Debug, Drop, Eq, PartialEq, Error)]
 pub enum StreamFault {
     /// A read failed. Nothing was written.
-    #[error("error 16 ReadFault")]
+    #[error("a read failed")]
     ReadFault = 16,
     /// A write failed, or took nothing. What was written is the front of the line.
-    #[error("error 17 WriteFault")]
+    #[error("a write failed")]
     WriteFault = 17,
 }

@@ -1,6 +1,7 @@
 //! The line of a tensor, as compact JSON (RFC 8259).
 
-ghost use Rattle.std.specs.Prelude.{◌≡◌, ℤ, pos, [], ◌∷◌, ◌++◌, codes, map, IfOk, string_bytes, List};
+ghost use Rattle.std.specs.Prelude.{◌≡◌, ℤ, pos, [], ◌∷◌, ◌++◌, codes, map, IfOk, string_bytes};
+ghost use Rattle.std.specs.Prelude.{List};
 ghost use Rattle.serde_json.specs.View.{view};
 ghost use Rattle.serde_json.specs.Data.{object, array, member, no_members};
 ghost use Rattle.tensor_runner.specs.Answer.{tensor_line};

@@ -2,7 +2,7 @@
 
 ghost use Rattle.std.specs.Prelude.{◌≡◌, ◌<◌, ℕ, List, length, take, OnOk, IfErr};
 ghost use Rattle.std.specs.Io.KnownBytes.{Appends};
-ghost use Rattle.tensor_runner.specs.Run.{AppendsFront};
+ghost use Rattle.tensor_runner.specs.Pieces.{AppendsFront};
 ghost use Rattle.tensor_runner.specs.Streams.{HasFailed};
 
 use crate::sink::Sink;

@@ -13,7 +13,8 @@ IsIndexOf [] (i ∷ is) = ⊥
 IsIndexOf (d ∷ ds) [] = ⊥
 IsIndexOf (d ∷ ds) (i ∷ is) = (i < d) × IsIndexOf ds is
 
--- each index times its stride, added up; the stride of an axis is that of the first times the dims before it
+-- each index times its stride, added up; the stride of an axis is that of the first times the
+-- dims before it
 abbrev pub place_by : ℕ → List ℕ → List ℕ → ℕ
 place_by stride [] is = 0
 place_by stride (d ∷ ds) [] = 0

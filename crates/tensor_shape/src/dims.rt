@@ -2,7 +2,7 @@
 
 ghost use Rattle.std.specs.Prelude.{◌≡◌, ◌<◌, ◌≤◌, ◌↔◌, ℕ, List, length, Ok, Err, IsTrue, OnOk, IfOk, slice_index};
 ghost use Rattle.tensor_shape.specs.Index.{size_of, IsIndexOf, place};
-ghost use Rattle.tensor_shape.specs.Legal.{bulk_of, IsLegal};
+ghost use Rattle.tensor_shape.specs.Legal.{highest_rank, most_elements, bulk_of, IsLegal};
 
 #[cfg(test)]
 mod tests;
@@ -46,9 +46,9 @@ impl Dims {
     /// Dims of these sizes, the fastest axis first. Takes no memory.
     pub fn new(sizes: &[u64]) -> Result<Dims, ShapeFault>
         ensures ok { IfOk result (λ dims. (dims ≡ sizes.now) × IsLegal sizes.now) }
-        ensures rank { (result ≡ Err ShapeFault.RankTooHigh) ↔ (MAX_RANK < length sizes.now) }
+        ensures rank { (result ≡ Err ShapeFault.RankTooHigh) ↔ (highest_rank < length sizes.now) }
         ensures elements { (result ≡ Err ShapeFault.TooManyElements)
-            ↔ ((length sizes.now ≤ MAX_RANK) × (MAX_ELEMENTS < bulk_of sizes.now)) }
+            ↔ ((length sizes.now ≤ highest_rank) × (most_elements < bulk_of sizes.now)) }
     {
         if sizes.len() > MAX_RANK {
             return Err(ShapeFault::RankTooHigh);
@@ -77,7 +77,7 @@ impl Dims {
     /// The number of axes.
     pub fn rank(&self) -> usize
         ensures value { result ≡ length self.now }
-        ensures small { result ≤ MAX_RANK }
+        ensures small { result ≤ highest_rank }
     {
         self.sizes.len()
     }
@@ -93,7 +93,7 @@ impl Dims {
     /// The number of elements.
     pub fn size(&self) -> u64
         ensures value { result ≡ size_of self.now }
-        ensures small { result ≤ MAX_ELEMENTS }
+        ensures small { result ≤ most_elements }
     {
         product(self.sizes.as_slice())
     }
@@ -110,7 +110,7 @@ impl Dims {
 
 /// The sizes, held in place.
 fn held(sizes: &[u64]) -> ArrayVec<u64, CAPACITY>
-    requires { length sizes.now ≤ MAX_RANK }
+    requires { length sizes.now ≤ highest_rank }
     ensures { result.items ≡ sizes.now }
 {
     match ArrayVec::try_from(sizes) {
@@ -121,7 +121,7 @@ fn held(sizes: &[u64]) -> ArrayVec<u64, CAPACITY>
 
 /// Whether the product of the sizes, a 0 counted as 1, is within the limit.
 fn holds_few(sizes: &[u64]) -> bool
-    ensures { IsTrue result ↔ (bulk_of sizes.now ≤ MAX_ELEMENTS) }
+    ensures { IsTrue result ↔ (bulk_of sizes.now ≤ most_elements) }
 {
     let mut bulk: u64 = 1;
     for size in sizes {
@@ -136,7 +136,7 @@ fn holds_few(sizes: &[u64]) -> bool
 
 /// The product of sizes.
 fn product(sizes: &[u64]) -> u64
-    requires { bulk_of sizes.now ≤ MAX_ELEMENTS }
+    requires { bulk_of sizes.now ≤ most_elements }
     ensures { result ≡ size_of sizes.now }
 {
     let mut product: u64 = 1;
@@ -148,7 +148,7 @@ fn product(sizes: &[u64]) -> u64
 
 /// The place by Horner's rule, from the slowest axis: one multiplication an axis.
 fn place_of(sizes: &[u64], index: &[u64]) -> u64
-    requires legal { bulk_of sizes.now ≤ MAX_ELEMENTS }
+    requires legal { bulk_of sizes.now ≤ most_elements }
     requires index { IsIndexOf sizes.now index.now }
     ensures { result ≡ place sizes.now index.now }
 {

@@ -1,7 +1,6 @@
 ghost use Rattle.std.specs.Prelude.{◌≡◌, ◌<◌, ◌↔◌, [], All, IfOk, IsSome, IsTrue};
 ghost use Rattle.event_count.specs.Seats.{card_of, looked_of, sizes_of, seats_of, IsSeatOf, IsIdle};
 
-use crate::refusing::Sparing;
 use crate::{Committed, CountFault, EventCount, Phase, Seat, TryCancel, TryCommit, TryNotify};
 use std::alloc::{AllocError, Allocator, Global};
 use std::process::Abort;
@@ -151,33 +150,6 @@ fn a_count_of_no_seats(rt: HostRuntime) {
         word: 0x3FFF,
     };
     assert_eq!(rt; made_and_closed(rt.alloc(), 0, 0), Ok(wanted));
-}
-
-// The words take one block, the seats another, and a table two.
-#[test]
-fn each_allocation_is_refused_in_turn(rt: HostRuntime) {
-    let made = Closed {
-        seats: 3,
-        first: Some(0),
-        last: Some(2),
-        word: 0x3FFF,
-    };
-    for left in 0..5 {
-        let heap = Sparing::new(rt.alloc(), left);
-        let wanted = if left < 4 {
-            Err(CountFault::NoMemory)
-        } else {
-            Ok(made)
-        };
-        assert_eq!(rt;
-            made_and_closed(&heap, 2, 1),
-            wanted,
-            "a count after {left}"
-        );
-    }
-    let heap = Sparing::new(rt.alloc(), 0);
-    let refused = made_and_closed(&heap, 16_383, 1);
-    assert_eq!(rt; refused, Err(CountFault::TooManyWaiters));
 }
 
 #[test]

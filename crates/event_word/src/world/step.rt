@@ -1,5 +1,6 @@
 // The events, one function each.
-ghost use Rattle.std.specs.Prelude.{◌≡◌, ◌<◌, ◌↔◌, ◌==◌, IsTrue, length, position, slice_index_or, vec_capacity};
+ghost use Rattle.std.specs.Prelude.{◌≡◌, ◌<◌, ◌↔◌, ◌==◌, IsTrue, length, position, slice_index_or};
+ghost use Rattle.std.specs.Prelude.{vec_capacity};
 ghost use Rattle.event_word.specs.Lists.{without};
 ghost use Rattle.event_word.specs.Step.{IsFree};
 ghost use Rattle.event_word.specs.Play.{IsStep, Plays, SameSizes};
@@ -185,7 +186,8 @@ fn is_in(phases: &[Phase], place: usize, phase: Phase) -> bool
 // Whether the actor at this place runs, if it is a worker.
 fn runs_if_worker(phases: &[Phase], place: usize) -> bool
     ensures { IsTrue result
-        ↔ (place < length phases.now → slice_index_or phases.now place Phase.Ended ≡ Phase.Running) }
+        ↔ (place < length phases.now
+        → slice_index_or phases.now place Phase.Ended ≡ Phase.Running) }
 {
     place >= phases.len() || is_in(phases, place, Phase::Running)
 }

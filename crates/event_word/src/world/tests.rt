@@ -1,4 +1,3 @@
-use crate::refusing::Sparing;
 use crate::{Event, Phase, World};
 use std::test::Fail;
 
@@ -87,28 +86,5 @@ fn readers_tell_the_lists(rt: HostRuntime) -> Result<(), Fail> {
     assert!(rt; world.step(Event::Wake { seat: 2 }));
     assert_eq!(rt; world.phase(2), Phase::Running);
     assert!(rt; !world.token(2));
-    Ok(())
-}
-
-// Six lists, one allocation each: the seventh, of the rows, is empty.
-#[test]
-fn each_allocation_refused(rt: HostRuntime) -> Result<(), Fail> {
-    for let_through in 0..6 {
-        let few = Sparing::new(rt.alloc(), let_through);
-        assert!(rt;
-            World::new(&few, 2, 1, 0).is_err(),
-            "{let_through} let through"
-        );
-    }
-    let enough = Sparing::new(rt.alloc(), 6);
-    let mut world = World::new(&enough, 2, 1, 0)?;
-    let events = [
-        Event::Prewait { seat: 0 },
-        Event::Prewait { seat: 1 },
-        Event::PassFlag { seat: 1 },
-        Event::Commit { seat: 1 },
-        Event::NotifyAll { actor: 2 },
-    ];
-    assert_eq!(rt; world.play(&events), 5);
     Ok(())
 }

@@ -1,6 +1,5 @@
 ghost use Rattle.pool_barrier.specs.Shares.{IsShareOf, IsWaiterOf};
 
-use crate::refusing::Sparing;
 use crate::{Barrier, BarrierFault, Notification, Share};
 use std::sync::Wait;
 use std::test::Fail;
@@ -70,30 +69,6 @@ fn a_notification_that_was_notified(rt: HostRuntime) -> Result<(), Fail> {
     assert_eq!(rt; share.notices(), 0);
     notification.wait(&rt, &mut waiter);
     Ok(())
-}
-
-// A table takes two blocks.
-#[test]
-fn each_allocation_is_refused_in_turn(rt: HostRuntime) {
-    for left in 0..3 {
-        let heap = Sparing::new(rt.alloc(), left);
-        let fault = Barrier::new(&heap, 2).err();
-        let wanted = if left < 2 {
-            Some(BarrierFault::NoMemory)
-        } else {
-            None
-        };
-        assert_eq!(rt; fault, wanted, "a barrier after {left}");
-        let heap = Sparing::new(rt.alloc(), left);
-        assert_eq!(rt;
-            Notification::new(&heap).is_err(),
-            left < 2,
-            "a notification after {left}"
-        );
-    }
-    let heap = Sparing::new(rt.alloc(), 0);
-    let fault = Barrier::new(&heap, 2147483648).err();
-    assert_eq!(rt; fault, Some(BarrierFault::TooLarge));
 }
 
 #[test]

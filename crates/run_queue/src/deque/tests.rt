@@ -1,5 +1,4 @@
 use crate::deque::Deque;
-use crate::refusing::Sparing;
 use std::test::Fail;
 
 #[test]
@@ -31,19 +30,5 @@ fn both_ends(rt: HostRuntime) -> Result<(), Fail> {
     assert_eq!(rt; row.pop_back(), Some(3));
     assert_eq!(rt; row.len(), 1);
     assert!(rt; !row.is_empty());
-    Ok(())
-}
-
-// The block is the only allocation, so pushes go on where nothing more is let through.
-#[test]
-fn takes_its_room_at_once(rt: HostRuntime) -> Result<(), Fail> {
-    let none = Sparing::new(rt.alloc(), 0);
-    assert!(rt; Deque::<u64, _>::new(&none).is_err());
-    let one = Sparing::new(rt.alloc(), 1);
-    let mut row = Deque::new(&one)?;
-    for job in 0..1024u64 {
-        assert_eq!(rt; row.push_back(job), Ok(()), "job {job}");
-    }
-    assert_eq!(rt; row.push_back(1024), Err(1024));
     Ok(())
 }

@@ -1,5 +1,4 @@
 use crate::locked_rows::LockedRows;
-use crate::refusing::Sparing;
 use crate::rows::{Rows, RowsFault};
 use std::test::Fail;
 
@@ -55,35 +54,14 @@ fn full_row_gives_the_job_back(rt: HostRuntime) -> Result<(), Fail> {
 }
 
 #[test]
-fn limit_comes_before_memory(rt: HostRuntime) -> Result<(), Fail> {
+fn the_most_rows(rt: HostRuntime) -> Result<(), Fail> {
     assert_eq!(rt; RowsFault::TooManyRows as u8, 1);
     assert_eq!(rt; RowsFault::NoMemory as u8, 2);
-    let none = Sparing::new(rt.alloc(), 0);
-    let too_many = LockedRows::<u8, _>::open(&none, 65, 1);
+    let too_many = LockedRows::<u8>::open(rt.alloc(), 65, 1);
     assert_eq!(rt; too_many.err(), Some(RowsFault::TooManyRows));
     let (_rows, seats) = LockedRows::<u8>::open(rt.alloc(), 64, 1)?;
     assert_eq!(rt; seats.len(), 65);
     let text = format!(in rt.alloc(); "{}, {}", RowsFault::TooManyRows, RowsFault::NoMemory)?;
     assert_eq!(rt; text.as_str(), "more than 64 rows, out of memory");
-    Ok(())
-}
-
-// The room of all jobs, the list of rows, each of the two rows, and the seats.
-#[test]
-fn each_allocation_refused(rt: HostRuntime) -> Result<(), Fail> {
-    for let_through in 0..5 {
-        let few = Sparing::new(rt.alloc(), let_through);
-        let opened = LockedRows::<u64, _>::open(&few, 2, 1);
-        assert_eq!(rt;
-            opened.err(),
-            Some(RowsFault::NoMemory),
-            "{let_through} let through"
-        );
-    }
-    let enough = Sparing::new(rt.alloc(), 5);
-    let (rows, mut seats) = LockedRows::<u64, _>::open(&enough, 2, 1)?;
-    assert_eq!(rt; seats.len(), 3);
-    assert_eq!(rt; rows.put_back(&rt, &mut seats[0], 1, 7), Ok(()));
-    assert_eq!(rt; rows.drain_all(seats).as_slice(), [7].as_slice());
     Ok(())
 }

@@ -1,21 +1,5 @@
-ghost use Rattle.std.specs.Borrow.{ffalse};
-
 use super::*;
 use std::test::Fail;
-
-/// An allocator that has no memory.
-#[derive(Clone, Copy)]
-struct Nothing;
-
-unsafe impl Allocator for Nothing {
-    ghost dealloc_token = { λ _ _ _. ffalse };
-
-    fn allocate(&self, _size: usize, _align: usize) -> Result<*mut u8, AllocError> {
-        Err(AllocError)
-    }
-
-    unsafe fn deallocate(&self, _ptr: *mut u8, _size: usize, _align: usize) {}
-}
 
 #[test]
 fn lists_the_coprimes(rt: HostRuntime) -> Result<(), Fail> {
@@ -38,9 +22,4 @@ fn lists_the_coprimes_of_a_full_pool(rt: HostRuntime) -> Result<(), Fail> {
     assert_eq!(rt; coprimes.numbers().len(), 128);
     assert!(rt; coprimes.numbers().iter().all(|number| number % 2 == 1));
     Ok(())
-}
-
-#[test]
-fn answers_want_of_memory(rt: HostRuntime) {
-    assert!(rt; Coprimes::new(Nothing, 6).is_err());
 }

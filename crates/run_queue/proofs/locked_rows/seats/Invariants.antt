@@ -4,4 +4,5 @@ use Rattle.std.specs.List.{range_with_len}
 use Rattle.run_queue.proofs.locked_rows.seats.Given as goal
 
 abbrev pub invariant-loop-number : goal.invariant-loop-number
-invariant-loop-number g l = (l.seats.items ≡ range_with_len 0 l.number) × (vec_capacity l.seats ≡ l.count)
+invariant-loop-number g l =
+    (l.seats.items ≡ range_with_len 0 l.number) × (vec_capacity l.seats ≡ l.count)

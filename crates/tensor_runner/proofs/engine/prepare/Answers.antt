@@ -1,17 +1,17 @@
 use Rattle.std.proofs.Common.{◌≡◌, take, refl, ◌∙◌, subst, inr, arith}
 use Rattle.expr_reader.specs.declared.fault.Fault.TheVariants.{NoMemory}
 use Rattle.tensor_runner.specs.Answer.{fault, IsAnswerTo}
-use Rattle.tensor_runner.specs.declared.engine.TheConstants.{MOST_READ}
+use Rattle.tensor_runner.specs.Run.{most_reads}
 use Rattle.tensor_runner.proofs.Lines.{IsAnswerTo-take}
 use Rattle.tensor_runner.proofs.engine.prepare.Goals as goal
 
 pub returns-in-Ok-clause-line : goal.returns-in-Ok-clause-line
 returns-in-Ok-clause-line g c = λ text known.
     let read = rw known at c.in-Ok.ensures.text in
-    let front : c.as_slice.result.now ≡ take MOST_READ text = c.as_slice.ensures.value ∙ read in
+    let front : c.as_slice.result.now ≡ take most_reads text = c.as_slice.ensures.value ∙ read in
     record {
       answer = c.answer.ensures.answer;
-      answers = IsAnswerTo-take MOST_READ text c.answer.ensures.answer (omega arith)
+      answers = IsAnswerTo-take most_reads text c.answer.ensures.answer (omega arith)
           (subst (λ t. IsAnswerTo t c.answer.ensures.answer) front c.answer.ensures.answers);
       written = c.answer.ensures.written;
       status = c.answer.ensures.status;

@@ -1,7 +1,7 @@
 use Rattle.std.proofs.Common.{◌≡◌, ℕ, ◌<◌, Some, length, take, ◌∙◌, subst}
 use Rattle.std.specs.Io.KnownBytes.{Appends}
 use Rattle.tensor_runner.specs.Answer.{line_of}
-use Rattle.tensor_runner.specs.Run.{AppendsFront}
+use Rattle.tensor_runner.specs.Pieces.{AppendsFront}
 use Rattle.tensor_runner.proofs.Streams.{Appends-Some}
 use Rattle.tensor_runner.proofs.engine.run.Goals as goal
 

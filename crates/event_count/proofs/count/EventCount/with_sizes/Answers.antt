@@ -8,7 +8,7 @@ use Rattle.std.proofs.lemmas.List.Elements.{All-nil, All-cons, All-append}
 use Rattle.atomic_table.specs.Table.{opening}
 use Rattle.event_count.specs.declared.seat.Seat.{Seat}
 use Rattle.event_count.specs.Cards.{fresh, view, undealt}
-use Rattle.event_count.specs.Seats.{card_of, seat_id}
+use Rattle.event_count.specs.Seats.{card_of, seat_id, HasNoLook}
 use Rattle.event_count.specs.Shown.{ShowsWorld}
 use Rattle.event_count.proofs.First.{opens, fresh_cards, fresh_cards-more, some_left, next_card}
 use Rattle.event_count.proofs.First.{others_left}
@@ -56,6 +56,9 @@ loop-number-preserved g c =
       ours = subst (All ours) (sym items) (All-append ours seats (c.deal.result ∷ [])
           c.loop-number.invariant.ours (All-cons ours c.deal.result []
           (c.deal.ensures.seat ∙ c.loop-number.invariant.of) (All-nil ours)));
+      unlooked = subst (All HasNoLook) (sym items) (All-append HasNoLook seats
+          (c.deal.result ∷ []) c.loop-number.invariant.unlooked
+          (All-cons HasNoLook c.deal.result [] c.deal.ensures.unlooked (All-nil HasNoLook)));
       of = c.deal.ensures.of ∙ c.loop-number.invariant.of;
       left = others_left c.loop-number.keeper.me number (count - number)
           c.loop-number.invariant.left (omega arith) c.deal.new.keeper.me c.deal.ensures.left

@@ -2,7 +2,7 @@
 use Rattle.std.proofs.Common.{◌≡◌, ◌-◌, All, map, vec_capacity, []}
 use Rattle.std.specs.List.{range_with_len}
 use Rattle.event_count.specs.Cards.{fresh, view}
-use Rattle.event_count.specs.Seats.{card_of, seat_id}
+use Rattle.event_count.specs.Seats.{card_of, seat_id, HasNoLook}
 use Rattle.event_count.proofs.count.EventCount.with_sizes.Given as goal
 
 abbrev pub invariant-loop-number : goal.invariant-loop-number
@@ -10,6 +10,7 @@ invariant-loop-number g l = record {
   cards : map card_of l.seats.items ≡ map fresh (range_with_len 0 l.number);
   room : vec_capacity l.seats ≡ l.count;
   ours : All (λ seat. seat_id seat ≡ l.table.shared.table_id) l.seats.items;
+  unlooked : All HasNoLook l.seats.items;
   of : l.keeper.table_id ≡ l.table.shared.table_id;
   left : l.keeper.me ≡ (view (map fresh (range_with_len l.number (l.count - l.number))), []);
 }

@@ -2,7 +2,8 @@ use Rattle.std.proofs.Common.{◌∷◌, refl, ap, ◌∙◌, arith, length-set}
 use Rattle.std.proofs.lemmas.Bool.{cond-true}
 use Rattle.std.specs.Result.{is_ok}
 use Rattle.event_word.specs.declared.phase.Phase.TheVariants.{Pre}
-use Rattle.event_word.proofs.Stored.{stored_step, phase_found, may_commit, room_to_push, consume_view, push_view}
+use Rattle.event_word.proofs.Stored.{stored_step, phase_found, may_commit, room_to_push}
+use Rattle.event_word.proofs.Stored.{consume_view, push_view}
 use Rattle.event_word.specs.declared.event.Event.TheVariants.{Commit}
 use Rattle.event_word.proofs.world.World.commit.Goals as goal
 

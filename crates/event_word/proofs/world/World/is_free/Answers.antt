@@ -1,4 +1,5 @@
-use Rattle.std.proofs.Common.{◌==◌, ◌<◌, ◌+◌, ◌≡◌, List, length, get_or, position, sym, ap, ◌∙◌, subst, arith}
+use Rattle.std.proofs.Common.{◌==◌, ◌<◌, ◌+◌, ◌≡◌, List, length, get_or, position, sym, ap, ◌∙◌}
+use Rattle.std.proofs.Common.{subst, arith}
 use Rattle.std.specs.Option.{is_some}
 use Rattle.event_word.specs.declared.phase.Phase.{Phase}
 use Rattle.event_word.specs.declared.phase.Phase.TheVariants.{Running, Ended}

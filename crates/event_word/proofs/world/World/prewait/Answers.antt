@@ -2,7 +2,8 @@ use Rattle.std.proofs.Common.{arith, refl, length-set}
 use Rattle.event_word.specs.Step.{Possible}
 use Rattle.event_word.specs.Stored.{world_view}
 use Rattle.event_word.specs.declared.event.Event.TheVariants.{Prewait}
-use Rattle.event_word.proofs.Stored.{stored_step, nobody_announces, room_to_prewait, prewait_view, stepped, free_same}
+use Rattle.event_word.proofs.Stored.{stored_step, nobody_announces, room_to_prewait, prewait_view}
+use Rattle.event_word.proofs.Stored.{stepped, free_same}
 use Rattle.event_word.proofs.world.World.prewait.Goals as goal
 
 pub push_reserved-requires : goal.push_reserved-requires

@@ -3,7 +3,8 @@ use Rattle.steal_walk.specs.Walk.{rows_of}
 use Rattle.steal_walk.proofs.Cycle.{place-one, place-one_past}
 use Rattle.steal_walk.proofs.Visits.{rows_of-none, rows_of-more}
 use Rattle.steal_walk.proofs.walk.WalkIterator.next.Goals as goal
-use Rattle.steal_walk.proofs.walk.WalkIterator.next.Goals.{then-self-wraps_from, else-self-wraps_from}
+use Rattle.steal_walk.proofs.walk.WalkIterator.next.Goals.{then-self-wraps_from}
+use Rattle.steal_walk.proofs.walk.WalkIterator.next.Goals.{else-self-wraps_from}
 
 pub returns-then-self-eq0-clause-steps : goal.returns-then-self-eq0-clause-steps
 returns-then-self-eq0-clause-steps c =

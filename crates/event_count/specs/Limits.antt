@@ -1,0 +1,6 @@
+-- What a count may have at most.
+use Rattle.std.specs.Prelude.{ℕ}
+
+-- the most waiters of one count
+abbrev pub most_waiters : ℕ
+most_waiters = 16382

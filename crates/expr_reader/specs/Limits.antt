@@ -1,0 +1,14 @@
+-- The limits of a text.
+use Rattle.std.specs.Prelude.{ℕ}
+
+-- the most bytes of a text
+abbrev pub most_bytes : ℕ
+most_bytes = 16777216
+
+-- the greatest block
+abbrev pub greatest_block : ℕ
+greatest_block = 1048576
+
+-- the most nodes of an expression
+abbrev pub most_nodes : ℕ
+most_nodes = 1000

@@ -1,0 +1,32 @@
+use crate::refusing::Sparing;
+use event_count::{CountFault, EventCount};
+use std::alloc::Allocator;
+
+// How many seats a new count has, for one notifier, and the word that it is closed at.
+fn seats_and_word<A: Allocator + Clone>(
+    alloc: A,
+    waiters: u16,
+) -> Result<(usize, u64), CountFault> {
+    let (count, seats) = EventCount::new(alloc, waiters, 1)?;
+    Ok((seats.len(), count.close(seats)))
+}
+
+// The words take one block, the seats another, and a table two.
+#[test]
+fn each_allocation_of_a_count(rt: HostRuntime) {
+    for left in 0..4 {
+        let heap = Sparing::new(rt.alloc(), left);
+        let fault = seats_and_word(&heap, 2);
+        assert_eq!(rt; fault, Err(CountFault::NoMemory), "after {left}");
+    }
+    let heap = Sparing::new(rt.alloc(), 4);
+    assert_eq!(rt; seats_and_word(&heap, 2), Ok((3, 0x3FFF)));
+    assert_eq!(rt; seats_and_word(rt.alloc(), 2), Ok((3, 0x3FFF)));
+}
+
+#[test]
+fn too_many_waiters_come_before_memory(rt: HostRuntime) {
+    let none = Sparing::new(rt.alloc(), 0);
+    let fault = seats_and_word(&none, 16_383);
+    assert_eq!(rt; fault, Err(CountFault::TooManyWaiters));
+}

@@ -1,0 +1,18 @@
+//! Tests that refuse each allocation of a call in turn.
+//!
+//! Where one is refused the call answers want of memory, and where it gets those that it takes, no
+//! more, it answers as it does with ample memory.
+#![tactic(auto)]
+
+#[cfg(test)]
+mod barriers;
+#[cfg(test)]
+mod coprimes;
+#[cfg(test)]
+mod counts;
+#[cfg(test)]
+mod refusing;
+#[cfg(test)]
+mod rows;
+#[cfg(test)]
+mod worlds;

@@ -1,0 +1,40 @@
+-- What the program ends with.
+use Rattle.std.specs.Prelude.{◌≡◌, ℕ, List, [], ◌∷◌, ◌++◌, codes, Option, Some, None, option_map}
+use Rattle.std.specs.Prelude.{Result, Ok, Err}
+use Rattle.tensor_runner.specs.Run.{Answers, CutsShort}
+use Rattle.tensor_runner.specs.declared.ending.Ending.{Ending}
+use Rattle.tensor_runner.specs.declared.status.Status.{Status}
+use Rattle.tensor_runner.specs.declared.status.Status.TheVariants.{Tensor, Fault}
+use Rattle.tensor_runner.specs.declared.status.StreamFault.{StreamFault}
+use Rattle.tensor_runner.specs.declared.status.StreamFault.TheVariants.{ReadFault, WriteFault}
+
+-- the exit status of a line
+abbrev pub status_number : Status → ℕ
+status_number Tensor = 0
+status_number Fault = 1
+
+-- the line of a stream fault, with its line feed
+abbrev pub complaint_of : StreamFault → List ℕ
+complaint_of ReadFault = codes "error 16 ReadFault" ++ 10 ∷ []
+complaint_of WriteFault = codes "error 17 WriteFault" ++ 10 ∷ []
+
+-- what stands on standard error
+abbrev pub complaint_in : Ending → Option (List ℕ)
+complaint_in e = option_map (λ line. line.now) e.complaint
+
+-- what the program ends with after a run
+abbrev pub IsEndingOf : Result Status StreamFault → Ending → Type 0
+IsEndingOf (Ok status) e = (e.status ≡ status_number status) × (complaint_in e ≡ None)
+IsEndingOf (Err fault) e = (e.status ≡ 1) × (complaint_in e ≡ Some (complaint_of fault))
+
+-- with the status of the line that was written; what that line answers is said where the text and
+-- what the writer held are known
+pub record EndsAnswered (text held contents : Option (List ℕ)) (e : Ending) : Type 0 where
+  pub status : Status
+  pub ended : IsEndingOf (Ok status) e
+  pub answered : (t h : List ℕ) → text ≡ Some t → held ≡ Some h → Answers t h contents status
+
+-- with the line of a write fault, and the front of an answer's line written
+pub record EndsCutShort (text held contents : Option (List ℕ)) (e : Ending) : Type 0 where
+  pub ended : IsEndingOf (Err WriteFault) e
+  pub cut_short : (t h : List ℕ) → text ≡ Some t → held ≡ Some h → CutsShort t h contents
