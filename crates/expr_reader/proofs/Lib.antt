@@ -1,6 +1,9 @@
+pub mod Counted
 pub mod Data
 pub mod Elements
+pub mod Grammar
 pub mod Lists
 pub mod Members
 pub mod Numbers
+pub mod Tokens
 pub mod Walk

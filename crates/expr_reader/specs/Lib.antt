@@ -14,6 +14,7 @@ pub mod Profile
 pub mod Request
 pub mod Tensors
 -- for private clauses alone
+pub mod Counted
 pub mod Numbers
 pub mod Outcome
 pub mod Shown

@@ -1,11 +1,13 @@
 //! The inputs of a request, by name and by number.
 
-ghost use Rattle.std.specs.Prelude.{◌≡◌, ◌≤◌, ◌⊎◌, ℕ, List, MatchResult, Some, None, OnOk, IfErr};
-ghost use Rattle.std.specs.Prelude.{if◌then◌else◌};
+ghost use Rattle.std.specs.Prelude.{◌≡◌, ◌+◌, ◌≤◌, ◌⊎◌, ℕ, List, length, MatchResult, Some, None};
+ghost use Rattle.std.specs.Prelude.{OnOk, IfErr, if◌then◌else◌};
 ghost use Rattle.std.specs.Option.{option_or};
 ghost use Rattle.std.specs.Str.{bytes_eq};
 ghost use Rattle.serde_json.specs.View.{view, members_view};
 ghost use Rattle.tensor_ops.specs.Legal.{highest_rank};
+ghost use Rattle.expr_reader.specs.Counted.{member_count};
+ghost use Rattle.expr_reader.specs.Limits.{most_bytes};
 ghost use Rattle.expr_reader.specs.Numbers.{number_in};
 ghost use Rattle.expr_reader.specs.Shown.{IsNamed};
 ghost use Rattle.expr_reader.specs.Tensors.{Named, named_in, names_in, tensors_in, number_of};
@@ -32,7 +34,8 @@ impl<'v> NamedInputs<'v> {
         value: &'v Value,
         rank: usize,
     ) -> Result<NamedInputs<'v>, Fault>
-        requires { rank ≤ highest_rank }
+        requires rank { rank ≤ highest_rank }
+        requires few { member_count (view value.now) ≤ most_bytes + 1 }
         ensures { MatchResult result
             (λ found. (n : Named) × (named_in rank (view value.now) ≡ Some n) × IsNamed found n)
             (λ fault. (fault ≡ Fault.NoMemory)
@@ -56,7 +59,8 @@ fn read_members<'v>(
     members: &'v Map<String, Value>,
     rank: usize,
 ) -> Result<NamedInputs<'v>, Fault>
-    requires { rank ≤ highest_rank }
+    requires rank { rank ≤ highest_rank }
+    requires few { length members.now.entries ≤ most_bytes + 1 }
     ensures { MatchResult result
         (λ found. (n : Named)
         × (tensors_in rank (members_view members.now.entries) ≡ Some n.tensors)
@@ -64,10 +68,6 @@ fn read_members<'v>(
         (λ fault. (fault ≡ Fault.NoMemory) ⊎ ((fault ≡ Fault.BadTensor)
         × (tensors_in rank (members_view members.now.entries) ≡ None))) }
 {
-    // A text of the greatest length has far fewer members.
-    if members.len() >= u32::MAX as usize {
-        return Err(Fault::NoMemory);
-    }
     let mut numbers = BTreeMap::new(alloc);
     let mut tensors = Vec::new(alloc);
     for (name, value) in members {

@@ -1,7 +1,10 @@
 //! From the bytes of a text to its request.
 
-ghost use Rattle.std.specs.Prelude.{◌≡◌, ◌⊎◌, Some, None, MatchResult, option_map};
+ghost use Rattle.std.specs.Prelude.{◌≡◌, ◌+◌, ◌≤◌, ◌⊎◌, Some, None, MatchResult, option_map};
+ghost use Rattle.serde_json.specs.View.{view};
 ghost use Rattle.expr_reader.specs.Asked.{asked_under};
+ghost use Rattle.expr_reader.specs.Counted.{member_count};
+ghost use Rattle.expr_reader.specs.Limits.{most_bytes};
 ghost use Rattle.expr_reader.specs.Request.{profile_in, fields_fault, fields_asked};
 ghost use Rattle.expr_reader.specs.Request.{fault_of, asked_of};
 ghost use Rattle.expr_reader.specs.Shown.{fields_under};
@@ -40,6 +43,7 @@ pub fn read_request(alloc: Global, text: &[u8]) -> Result<Request, Fault>
 
 /// The request of fields.
 fn read_fields(alloc: Global, fields: &Fields<'_>) -> Result<Request, Fault>
+    requires { member_count (view fields.now.inputs.now) ≤ most_bytes + 1 }
     ensures { MatchResult result
         (λ request. (fields_fault (fields_under fields.now) ≡ None)
         × (fields_asked (fields_under fields.now) ≡ Some (asked_under request)))

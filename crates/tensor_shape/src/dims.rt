@@ -1,6 +1,7 @@
 //! Dims, seen as a list of numbers.
 
-ghost use Rattle.std.specs.Prelude.{◌≡◌, ◌<◌, ◌≤◌, ◌↔◌, ℕ, List, length, Ok, Err, IsTrue, OnOk, IfOk, slice_index};
+ghost use Rattle.std.specs.Prelude.{◌≡◌, ◌<◌, ◌≤◌, ◌↔◌, ℕ, List, length, Ok, Err, IsTrue};
+ghost use Rattle.std.specs.Prelude.{OnOk, IfOk, slice_index};
 ghost use Rattle.tensor_shape.specs.Index.{size_of, IsIndexOf, place};
 ghost use Rattle.tensor_shape.specs.Legal.{highest_rank, most_elements, bulk_of, IsLegal};
 
