@@ -1,7 +1,9 @@
--- Sums over lists, and numbers in lists.
+-- Sums over lists, numbers in lists, and lists of one element.
 use Rattle.std.proofs.Common.{◌≡◌, ◌≢◌, ℕ, zero, suc, ◌+◌, ◌≤◌, ◌<◌, ◌==◌, Bool, true, false, List}
 use Rattle.std.proofs.Common.{[], ◌∷◌, ◌++◌, length, get_or, set, sym, ap, refl, ◌∙◌, subst, ⊎_elim}
 use Rattle.std.proofs.Common.{eq-eqb, ne_eqb, arith, length-set, get_or-set_same, get_or-set_other}
+use Rattle.std.proofs.Common.{replicate}
+use Rattle.std.specs.List.{remove}
 use Rattle.std.proofs.lemmas.Bool.{cases_eq, cases_lt, cond-true, cond-false}
 use Rattle.std.proofs.lemmas.List.{get_or_past}
 use Rattle.event_word.specs.Lists.{one_if, total, times, without}
@@ -138,3 +140,21 @@ module _ {A : Type 0} where
       let e = ap f (same 0 (omega arith)) in
       let r = total-one_place f d xs ys i (omega arith) (λ j ne. same (suc j) (omega arith)) in
       omega arith
+
+module _ {A : Type 0} where
+  -- where all are the same, one more of them changes nothing
+  pub set-replicate : (n : ℕ) (x : A) (i : ℕ) → set (replicate n x) i x ≡ replicate n x
+  set-replicate zero x i = refl
+  set-replicate (suc n) x zero = refl
+  set-replicate (suc n) x (suc i) = ap (λ xs. x ∷ xs) (set-replicate n x i)
+
+  pub get_or-replicate_same : (n : ℕ) (x : A) (i : ℕ) → get_or (replicate n x) i x ≡ x
+  get_or-replicate_same zero x i = refl
+  get_or-replicate_same (suc n) x zero = refl
+  get_or-replicate_same (suc n) x (suc i) = get_or-replicate_same n x i
+
+  -- what is taken from the front, and the rest
+  pub front-remove : (xs : List A) (x : A) → 0 < length xs → x ≡ get_or xs 0 x
+      → xs ≡ x ∷ remove xs 0
+  front-remove [] x h e = absurd (omega arith)
+  front-remove (y ∷ ys) x h e = ap (λ z. z ∷ ys) (sym e)

@@ -25,7 +25,8 @@ use Rattle.event_word.specs.Lawful.{Lawful, HasSizes}
 use Rattle.event_word.specs.Debts.{debt, seats_owed, owed_lists, AreKnown}
 use Rattle.event_word.specs.Stored.{world_view, IsStored}
 use Rattle.event_word.specs.Play.{IsOpen, IsStep}
-use Rattle.event_word.proofs.Lists.{times-append, times-le-length}
+use Rattle.event_word.proofs.Lists.{times-append, times-le-length, set-replicate}
+use Rattle.event_word.proofs.Lists.{get_or-replicate_same}
 use Rattle.event_word.proofs.Keeps.{lawful_effect, pre_known, is_waiting, owed_is_stacked}
 use Rattle.event_word.proofs.Sizes.{sizes_effect}
 use Rattle.event_word.proofs.Owing.{position-None, seats_owed-append, seats_owed-map_debt}
@@ -35,23 +36,6 @@ use Rattle.event_word.proofs.Owing.{AreKnown-append, AreKnown-map_debt, AreKnown
 use Rattle.event_word.proofs.Owing.{actor_known, length-owed_lists, get_or-owed_lists}
 use Rattle.event_word.proofs.Owing.{owed_lists-set, total-owed_lists}
 use Rattle.event_word.proofs.Rooms.{length-pre, length-standing}
-
-module _ {A : Type 0} where
-  pub set-replicate : (n : ℕ) (x : A) (i : ℕ) → set (replicate n x) i x ≡ replicate n x
-  set-replicate zero x i = refl
-  set-replicate (suc n) x zero = refl
-  set-replicate (suc n) x (suc i) = ap (λ xs. x ∷ xs) (set-replicate n x i)
-
-  pub get_or-replicate_same : (n : ℕ) (x : A) (i : ℕ) → get_or (replicate n x) i x ≡ x
-  get_or-replicate_same zero x i = refl
-  get_or-replicate_same (suc n) x zero = refl
-  get_or-replicate_same (suc n) x (suc i) = get_or-replicate_same n x i
-
-  -- what is taken from the front, and the rest
-  pub front-remove : (xs : List A) (x : A) → 0 < length xs → x ≡ get_or xs 0 x
-      → xs ≡ x ∷ remove xs 0
-  front-remove [] x h e = absurd (omega arith)
-  front-remove (y ∷ ys) x h e = ap (λ z. z ∷ ys) (sym e)
 
 length_seats : (debts : List Debt) → length (map (λ (d : Debt). d.seat) debts) ≡ length debts
 length_seats [] = refl

@@ -3,13 +3,13 @@ use std::alloc::{AllocError, Allocator};
 use std::cell::Cell;
 
 /// Lets some allocations through, and refuses those after them.
-pub struct Sparing<B: Allocator> {
+pub(crate) struct Sparing<B: Allocator> {
     inner: B,
     left: Cell<u64>,
 }
 
 impl<B: Allocator> Sparing<B> {
-    pub fn new(inner: B, left: u64) -> Sparing<B> {
+    pub(crate) fn new(inner: B, left: u64) -> Sparing<B> {
         Sparing {
             inner,
             left: Cell::new(left),
