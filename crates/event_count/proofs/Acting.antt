@@ -1,7 +1,6 @@
 -- Events of one actor.
 use Rattle.std.proofs.Common.{◌≡◌, ◌≢◌, ℕ, ◌==◌, List, [], ◌∷◌, ◌++◌, sym, ap, refl, ◌∙◌, eq-eqb}
-use Rattle.std.proofs.Common.{ne_eqb}
-use Rattle.std.proofs.Common.{append-nil}
+use Rattle.std.proofs.Common.{ne_eqb, append-nil}
 use Rattle.std.proofs.lemmas.Bool.{cond-true, cond-false}
 use Rattle.std.proofs.lemmas.List.Elements.{filter-append}
 use Rattle.event_word.specs.declared.event.Event.{Event}
@@ -9,7 +8,7 @@ use Rattle.event_word.specs.World.{World, phase_of, owed_by}
 use Rattle.event_word.specs.Step.{actor_of, effect}
 use Rattle.event_word.specs.Runs.{Runs}
 use Rattle.event_word.proofs.Frames.{alone_effect}
-use Rattle.event_count.specs.Shown.{events_of}
+use Rattle.event_count.specs.Known.{events_of}
 
 -- each event is the actor's
 abbrev pub AreBy : ℕ → List Event → Type 0

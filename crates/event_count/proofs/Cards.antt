@@ -1,7 +1,6 @@
 -- Facts of each card of each view.
 use Rattle.std.proofs.Common.{◌≡◌, ◌≢◌, ℕ, ◌+◌, ◌<◌, nat_lt, List, [], ◌∷◌, map, length, set, ap}
-use Rattle.std.proofs.Common.{refl}
-use Rattle.std.proofs.Common.{◌∙◌, subst, ⊎_elim, arith, All}
+use Rattle.std.proofs.Common.{refl, ◌∙◌, subst, ⊎_elim, arith, All}
 use Rattle.std.proofs.lemmas.Bool.{cases_eq, cases_lt, le-ltb}
 use Rattle.std.proofs.lemmas.List.Elements.{All-nil, All-cons, All-head, All-tail}
 use mathlib.Core.Option.{some}
@@ -13,7 +12,7 @@ use Rattle.event_count.specs.declared.rule.Sizes.{Sizes}
 use Rattle.event_count.specs.declared.view.Card.{Card}
 use Rattle.event_count.specs.declared.view.View.{View}
 use Rattle.event_count.specs.Cards.{only}
-use Rattle.event_count.specs.Shown.{numbers_in, AreDealt, Each}
+use Rattle.event_count.specs.Known.{numbers_in, AreDealt, Each}
 use Rattle.event_count.proofs.Totals.{le_total, two_le_total, total-set_at}
 
 -- the numbers of cards

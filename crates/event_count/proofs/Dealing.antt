@@ -1,10 +1,10 @@
 -- Cards that move from one view to another keep the rule.
-use Rattle.std.proofs.Common.{◌≡◌, ℕ, ◌+◌, ◌<◌, List, [], ◌∷◌, ◌++◌, length, set, ap}
-use Rattle.std.proofs.Common.{◌∙◌, subst, ⊎_elim, arith, All, length-append}
+use Rattle.std.proofs.Common.{◌≡◌, ℕ, ◌+◌, ◌<◌, List, [], ◌∷◌, ◌++◌, length, set, ap, ◌∙◌, subst}
+use Rattle.std.proofs.Common.{⊎_elim, arith, All, length-append}
 use Rattle.std.proofs.lemmas.List.{map-append}
 use Rattle.std.proofs.lemmas.List.Elements.{All-nil, All-cons, All-head, All-tail, All-append}
-use Rattle.atomic_table.specs.Table.{Splits, Joins, Enters, step}
 use mathlib.Core.Option.{none}
+use Rattle.atomic_table.specs.Table.{Splits, Joins, Enters, step}
 use Rattle.atomic_table.proofs.Lists.{at_set, at_snoc}
 use Rattle.event_word.specs.Lists.{times}
 use Rattle.event_word.proofs.Lists.{times-append, total-append}
@@ -14,8 +14,9 @@ use Rattle.event_count.specs.declared.view.View.{View}
 use Rattle.event_count.specs.Cards.{first_card, other_cards, after_deal, dealt, together, spent}
 use Rattle.event_count.specs.declared.rule.TheConstants.{STATE}
 use Rattle.event_count.specs.Plays.{Sat, arrives}
-use Rattle.event_count.specs.Shown.{CountState, numbers_in, Agrees, Keeps, AreDealt, Each}
-use Rattle.event_count.specs.Shown.{ShowsWorld}
+use Rattle.event_count.specs.Shown.{CountState, ShowsWorld}
+use Rattle.event_count.specs.Known.{numbers_in, Agrees, AreDealt, Each, next_epoch}
+use Rattle.event_count.specs.Kept.{Knows, Links}
 use Rattle.event_count.proofs.Cards.{numbers}
 use Rattle.event_count.proofs.Totals.{total-set_at}
 
@@ -25,20 +26,18 @@ reseated : (k : Sizes) (s : CountState) (views : List View)
     → (AreDealt k s.views → AreDealt k views)
     → ShowsWorld k s → ShowsWorld k record { words = s.words; homes = s.homes; views = views }
 reseated k s views each deals shows =
-    let history = shows.0 in let w = shows.1 in let epochs = shows.2 in let r = shows.3 in (
+    let history = shows.0 in let w = shows.1 in let r = shows.2 in (
       history,
       w,
-      epochs,
       record {
         runs = r.runs;
         few = r.few;
-        pushes = r.pushes;
         written = r.written;
-        known = each (Agrees k history w epochs) r.known;
-        kept = each (Keeps s.words w epochs) r.kept;
+        known = each (Agrees k history w) r.known;
+        kept = each (Knows s.words w (next_epoch k history)) r.kept;
         dealt = deals r.dealt;
         rowless = r.rowless;
-        unparked = r.unparked;
+        linked = each (Links s.words) r.linked;
       },
     )
 

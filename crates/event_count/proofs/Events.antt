@@ -1,31 +1,39 @@
 -- What each kind of event does to the World that a count shows, and to its word.
-use Rattle.std.proofs.Common.{◌≡◌, ℕ, ◌+◌, ◌-◌, ◌≤◌, ◌<◌, nat_lt, true, false, List, []}
-use Rattle.std.proofs.Common.{◌∷◌, length, sym, ap, refl, ◌∙◌, ⊎_elim, arith, get_or-set_same}
-use Rattle.std.proofs.Common.{get_or-set_other, get_or}
-use Rattle.std.proofs.lemmas.Bool.{cases_eq, cases_lt, cond-true, lt-ltb}
+use Rattle.std.proofs.Common.{◌≡◌, ℕ, ◌+◌, ◌-◌, ◌≤◌, ◌<◌, ◌==◌, ◌++◌, if◌then◌else◌, nat_lt, true}
+use Rattle.std.proofs.Common.{false, List, [], ◌∷◌, length, sym, ap, refl, ◌∙◌, ⊎_elim, arith}
+use Rattle.std.proofs.Common.{get_or-set_same, get_or-set_other, get_or}
+use Rattle.std.proofs.lemmas.Bool.{cases_eq, cases_lt, cond-true, cond-false, lt-ltb, le-ltb}
 use mathlib.Core.Option.{some}
 use lib.ListN.{get_elem?}
-use Rattle.event_word.specs.declared.phase.Phase.TheVariants.{Running, Pre, Ended}
+use Rattle.event_word.specs.declared.phase.Phase.TheVariants.{Running, Pre, Stacked, Ended}
 use Rattle.event_word.specs.declared.event.Event.{Event}
 use Rattle.event_word.specs.declared.event.Event.TheVariants.{Prewait, PassFlag, Cancel, Commit}
-use Rattle.event_word.specs.declared.event.Event.TheVariants.{Notify}
+use Rattle.event_word.specs.declared.event.Event.TheVariants.{Notify, NotifyAll, Unpark, Wake}
 use Rattle.event_word.specs.declared.word.Fields.{Fields}
-use Rattle.event_word.specs.Word.{prewaited, cancelled, consumed, signalled}
-use Rattle.event_word.specs.Shown.{shown}
-use Rattle.event_word.specs.World.{World, phase_of, is_announcing}
+use Rattle.event_word.specs.Word.{prewaited, cancelled, consumed, signalled, pushed, popped}
+use Rattle.event_word.specs.Word.{all_notified}
+use Rattle.event_word.specs.Shown.{shown, top_of}
+use Rattle.event_word.specs.World.{World, phase_of, owed_by, has_token, is_announcing}
 use Rattle.event_word.specs.Step.{Possible, IsFree, effect, leave, park, announced, signal, pop}
+use Rattle.event_word.specs.Step.{unpark}
 use Rattle.event_word.specs.Lawful.{Lawful, HasSizes}
-use Rattle.event_word.proofs.Keeps.{lawful_effect, pre_known}
-use Rattle.event_word.proofs.Lists.{get_or-set_default}
+use Rattle.event_word.proofs.Keeps.{lawful_effect, pre_known, stacked_known, owed_is_stacked}
+use Rattle.event_word.proofs.Lists.{get_or-set_default, one_if-same}
 use Rattle.event_word.proofs.Rooms.{length-pre}
 use Rattle.event_word.proofs.Histories.{lawful_history}
-use Rattle.event_word.proofs.Following.{word_follows}
+use Rattle.event_word.proofs.Following.{word_follows, notify-pop}
+use Rattle.event_word.specs.Balance.{push_of}
+use Rattle.event_word.specs.Lists.{one_if}
+use Rattle.event_word.specs.Fields.{fields_of}
 use Rattle.event_count.specs.declared.rule.Sizes.{Sizes}
 use Rattle.event_count.specs.declared.view.Exchange.{Exchange}
 use Rattle.event_count.specs.declared.view.Card.{Card}
 use Rattle.event_count.specs.declared.view.View.{View}
-use Rattle.event_count.specs.Cards.{only, prewaiting, consuming, cancelling, signalling}
-use Rattle.event_count.specs.Shown.{HasNoRows, NobodyParks, CountState, Agrees, Shows}
+use Rattle.event_count.specs.Cards.{only}
+use Rattle.event_count.specs.Gains.{polling, prewaiting, consuming, cancelling, signalling, pushing}
+use Rattle.event_count.specs.Gains.{popping, unparking, waking, behind, taking}
+use Rattle.event_count.specs.Shown.{HasNoRows, CountState, Shows}
+use Rattle.event_count.specs.Known.{Agrees}
 use Rattle.event_count.proofs.Cards.{is_seat}
 use Rattle.event_count.proofs.Steps.{Fitting, truth}
 
@@ -37,8 +45,8 @@ taken w seat = leave (effect w (PassFlag seat)) seat Running (w.signals - 1)
 abbrev pub answered : World → ℕ → World
 answered w actor = signal (announced w actor)
 
-module _ (k : Sizes) (s : CountState) (history : List Event) (w : World) (epochs : List ℕ)
-    (r : Shows k s history w epochs) (id : ℕ) (v : View) (c : Card)
+module _ (k : Sizes) (s : CountState) (history : List Event) (w : World)
+    (r : Shows k s history w) (id : ℕ) (v : View) (c : Card)
     (at : get_elem? s.views id ≡ some v) (is : v ≡ only c) where
   pub law : Lawful w
   law = (lawful_history k.waiters k.notifiers 0 history w r.runs).0
@@ -47,8 +55,8 @@ module _ (k : Sizes) (s : CountState) (history : List Event) (w : World) (epochs
   sizes = (lawful_history k.waiters k.notifiers 0 history w r.runs).1
 
   -- what its card says
-  told : Agrees k history w epochs c
-  told = truth k s history w epochs r id v c at is
+  told : Agrees k history w c
+  told = truth k s history w r id v c at is
 
   -- a count has at most so many pre-waiters
   pub few_pre : length w.pre ≤ 16382
@@ -62,11 +70,11 @@ module _ (k : Sizes) (s : CountState) (history : List Event) (w : World) (epochs
       (cases_lt c.number k.waiters)
 
   -- a seat that runs and owes nothing is free
-  free : c.phase ≡ Running → IsFree w c.number
-  free running = record {
+  pub free : c.phase ≡ Running → c.owing ≡ [] → IsFree w c.number
+  free running owes_none = record {
     known = let here = is_seat k s.views id v c r.dealt at is in let actors = sizes.owed in
         omega arith;
-    owes_none = r.unparked.owed c.number;
+    owes_none = sym told.owing ∙ owes_none;
     runs = λ less. let phases = sizes.phases in sym (told.waits (omega arith)) ∙ running;
   }
 
@@ -77,37 +85,27 @@ module _ (k : Sizes) (s : CountState) (history : List Event) (w : World) (epochs
     silent = λ actor. ap (λ xs. get_or xs actor false) announcing ∙ r.rowless.silent actor;
   }
 
-  -- where stack, debts and tokens don't change
-  unparked_on : (u : World) → u.stack ≡ w.stack → u.owed ≡ w.owed → u.tokens ≡ w.tokens
-      → NobodyParks u
-  unparked_on u stack owed tokens = record {
-    stack = stack ∙ r.unparked.stack;
-    owed = λ actor. ap (λ xs. get_or xs actor []) owed ∙ r.unparked.owed actor;
-    tokens = λ seat. ap (λ xs. get_or xs seat false) tokens ∙ r.unparked.tokens seat;
-  }
-
-  pub prewait_fits : c.number < k.waiters → c.phase ≡ Running
+  pub prewait_fits : c.number < k.waiters → c.phase ≡ Running → c.owing ≡ []
       → Fitting k w (effect w (Prewait c.number)) (Prewait c.number ∷ []) c (prewaiting c)
-  prewait_fits waiter running = let phases = sizes.phases in record {
-    runs = ((omega arith, (free running, r.rowless.silent c.number)), refl);
+  prewait_fits waiter running none = let phases = sizes.phases in record {
+    runs = ((omega arith, (free running none, r.rowless.silent c.number)), refl);
     by = (refl, tt);
+    waiters = refl;
     number = refl;
     gains = refl;
     waits = λ less. sym (get_or-set_same w.phases c.number Pre Ended (omega arith));
     notifies = λ le. absurd (omega arith);
     owing = told.owing;
-    epoch = refl;
-    reads = λ words es x kept. kept;
+    epoch = omega arith;
     rowless = rowless_on (effect w (Prewait c.number)) refl refl;
-    unparked = unparked_on (effect w (Prewait c.number)) refl refl refl;
   }
 
-  pub prewait_shows : (f : Fields) → f ≡ shown w 0
-      → prewaited f ≡ shown (effect w (Prewait c.number)) 0
-  prewait_shows f here = ap prewaited here ∙ (word_follows w 0 law).prewait c.number
+  pub prewait_shows : (f : Fields) (e : ℕ) → f ≡ shown w e
+      → prewaited f ≡ shown (effect w (Prewait c.number)) e
+  prewait_shows f e here = ap prewaited here ∙ (word_follows w e law).prewait c.number
 
   -- the World once the seat has passed the flag
-  abbrev passed : World
+  abbrev pub passed : World
   passed = effect w (PassFlag c.number)
 
   may_pass : c.phase ≡ Pre → Possible w (PassFlag c.number)
@@ -129,50 +127,54 @@ module _ (k : Sizes) (s : CountState) (history : List Event) (w : World) (epochs
   takes there = cond-true (nat_lt 0 w.signals) (taken w c.number) (park passed c.number)
       (lt-ltb 0 w.signals there)
 
+  -- and pushes nobody
+  pushes_not : (x : World) → 0 < x.signals → push_of c.number x (Commit c.number) ≡ 0
+  pushes_not x there = cond-true (nat_lt 0 x.signals) 0 (one_if (c.number == c.number))
+      (lt-ltb 0 x.signals there)
+
   pub consume_fits : (x : Exchange) → c.phase ≡ Pre → 0 < w.signals
       → Fitting k w (taken w c.number) (PassFlag c.number ∷ Commit c.number ∷ []) c (consuming c x)
   consume_fits x pre there = let known = pre_known w c.number (is_pre pre) in record {
     runs = (may_pass pre, (may_commit pre, takes there));
     by = (refl, (refl, tt));
+    waiters = refl;
     number = refl;
     gains = refl;
     waits = λ less. sym (get_or-set_same w.phases c.number Running Ended known);
     notifies = λ le. refl;
     owing = told.owing;
-    epoch = refl;
-    reads = λ words es y kept. kept;
+    epoch = let none = pushes_not passed there in omega arith;
     rowless = rowless_on (taken w c.number) refl refl;
-    unparked = unparked_on (taken w c.number) refl refl refl;
   }
 
-  pub consume_shows : (f : Fields) → f ≡ shown w 0 → c.phase ≡ Pre → 0 < w.signals
-      → consumed f ≡ shown (taken w c.number) 0
-  consume_shows f here pre there =
+  pub consume_shows : (f : Fields) (e : ℕ) → f ≡ shown w e → c.phase ≡ Pre → 0 < w.signals
+      → consumed f ≡ shown (taken w c.number) e
+  consume_shows f e here pre there =
       let phases = sizes.phases in
       let lawful =
       lawful_effect w (PassFlag c.number) (sizes.tokens ∙ sym phases) law (may_pass pre) in
-      ap consumed here ∙ ((word_follows passed 0 lawful).consume c.number (may_commit pre) there
-      ∙ ap (λ u. shown u 0) (takes there))
+      ap consumed here ∙ ((word_follows passed e lawful).consume c.number (may_commit pre) there
+      ∙ ap (λ u. shown u e) (takes there))
 
   pub cancel_fits : (x : Exchange) → c.phase ≡ Pre
       → Fitting k w (effect w (Cancel c.number)) (Cancel c.number ∷ []) c (cancelling c x)
   cancel_fits x pre = let known = pre_known w c.number (is_pre pre) in record {
     runs = (is_pre pre, refl);
     by = (refl, tt);
+    waiters = refl;
     number = refl;
     gains = refl;
     waits = λ less. sym (get_or-set_same w.phases c.number Running Ended known);
     notifies = λ le. refl;
     owing = told.owing;
-    epoch = refl;
-    reads = λ words es y kept. kept;
+    epoch = omega arith;
     rowless = rowless_on (effect w (Cancel c.number)) refl refl;
-    unparked = unparked_on (effect w (Cancel c.number)) refl refl refl;
   }
 
-  pub cancel_shows : (f : Fields) → f ≡ shown w 0 → c.phase ≡ Pre
-      → cancelled f ≡ shown (effect w (Cancel c.number)) 0
-  cancel_shows f here pre = ap cancelled here ∙ (word_follows w 0 law).cancel c.number (is_pre pre)
+  pub cancel_shows : (f : Fields) (e : ℕ) → f ≡ shown w e → c.phase ≡ Pre
+      → cancelled f ≡ shown (effect w (Cancel c.number)) e
+  cancel_shows f e here pre =
+      ap cancelled here ∙ (word_follows w e law).cancel c.number (is_pre pre)
 
   -- a notification with a pre-waiter that has no signal gives it one
   gives : w.signals < length w.pre → effect w (Notify c.number) ≡ answered w c.number
@@ -188,23 +190,168 @@ module _ (k : Sizes) (s : CountState) (history : List Event) (w : World) (epochs
       (λ ne. get_or-set_other w.announcing c.number actor false false ne ∙ r.rowless.silent actor)
       (cases_eq actor c.number)
 
-  pub signal_fits : (x : Exchange) → c.phase ≡ Running → w.signals < length w.pre
+  pub signal_fits : (x : Exchange) → c.phase ≡ Running → c.owing ≡ [] → w.signals < length w.pre
       → Fitting k w (answered w c.number) (Notify c.number ∷ []) c (signalling c x)
-  signal_fits x running less = record {
-    runs = (free running, gives less);
+  signal_fits x running none less = record {
+    runs = (free running none, gives less);
     by = (refl, tt);
+    waiters = refl;
     number = refl;
     gains = refl;
     waits = told.waits;
     notifies = told.notifies;
     owing = told.owing;
-    epoch = refl;
-    reads = λ words es y kept. kept;
+    epoch = omega arith;
     rowless = record { stop = r.rowless.stop; silent = still_silent };
-    unparked = unparked_on (answered w c.number) refl refl refl;
   }
 
-  pub signal_shows : (f : Fields) → f ≡ shown w 0 → w.signals < length w.pre
-      → signalled f ≡ shown (answered w c.number) 0
-  signal_shows f here less = ap signalled here
-      ∙ ((word_follows w 0 law).signal c.number less ∙ ap (λ u. shown u 0) (gives less))
+  pub signal_shows : (f : Fields) (e : ℕ) → f ≡ shown w e → w.signals < length w.pre
+      → signalled f ≡ shown (answered w c.number) e
+  signal_shows f e here less = ap signalled here
+      ∙ ((word_follows w e law).signal c.number less ∙ ap (λ u. shown u e) (gives less))
+
+  -- a commit without a signal pushes
+  parks : w.signals ≡ 0 → effect passed (Commit c.number) ≡ park passed c.number
+  parks none = cond-false (nat_lt 0 w.signals) (taken w c.number) (park passed c.number)
+      (le-ltb 0 w.signals (omega arith))
+
+  push_once : w.signals ≡ 0 → push_of c.number passed (Commit c.number) ≡ 1
+  push_once none = cond-false (nat_lt 0 w.signals) 0 (one_if (c.number == c.number))
+      (le-ltb 0 w.signals (omega arith)) ∙ one_if-same c.number c.number refl
+
+  pub push_fits : (x : Exchange) → c.phase ≡ Pre → w.signals ≡ 0
+      → Fitting k w (park passed c.number) (PassFlag c.number ∷ Commit c.number ∷ []) c
+      (pushing c x)
+  push_fits x pre none = let known = pre_known w c.number (is_pre pre) in record {
+    runs = (may_pass pre, (may_commit pre, parks none));
+    by = (refl, (refl, tt));
+    waiters = refl;
+    number = refl;
+    gains = refl;
+    waits = λ less. sym (get_or-set_same w.phases c.number Stacked Ended known);
+    notifies = λ le. let phases = sizes.phases in absurd (omega arith);
+    owing = told.owing;
+    epoch = let once = push_once none in omega arith;
+    rowless = rowless_on (park passed c.number) refl refl;
+  }
+
+  pub push_shows : (f : Fields) (e at : ℕ) → f ≡ shown w e → c.phase ≡ Pre → w.signals ≡ 0
+      → pushed f c.number at ≡ shown (park passed c.number) at
+  push_shows f e at here pre none =
+      let phases = sizes.phases in
+      let lawful =
+      lawful_effect w (PassFlag c.number) (sizes.tokens ∙ sym phases) law (may_pass pre) in
+      ap (λ g. pushed g c.number at) here
+      ∙ ((word_follows passed e lawful).push c.number at (may_commit pre) none
+      ∙ ap (λ u. shown u at) (parks none))
+
+  -- a notification without a pre-waiter to answer pops
+  abbrev pub taken_off : ℕ → List ℕ → World
+  taken_off top rest = pop (announced w c.number) c.number (top ∷ rest)
+
+  pub pop_fits : (x : Exchange) (top : ℕ) (rest : List ℕ) → c.phase ≡ Running → c.owing ≡ []
+      → w.signals ≡ length w.pre → w.stack ≡ top ∷ rest → (fields_of x.expected).top ≡ top
+      → Fitting k w (taken_off top rest) (Notify c.number ∷ []) c (popping c x)
+  pop_fits x top rest running none full stack looked =
+      let here = is_seat k s.views id v c r.dealt at is in let actors = sizes.owed in
+      let mine = get_or-set_same w.owed c.number (owed_by w c.number ++ top ∷ []) []
+      (omega arith) in record {
+        runs = (free running none, notify-pop w c.number (top ∷ rest) full stack);
+        by = (refl, tt);
+        waiters = refl;
+        number = refl;
+        gains = refl;
+        waits = told.waits;
+        notifies = told.notifies;
+        owing = ap (λ xs. xs ++ (fields_of x.expected).top ∷ []) told.owing
+            ∙ (ap (λ n. owed_by w c.number ++ n ∷ []) looked ∙ sym mine);
+        epoch = omega arith;
+        rowless = record { stop = r.rowless.stop; silent = still_silent };
+      }
+
+  pub pop_shows : (f next : Fields) (e top : ℕ) (rest : List ℕ) → f ≡ shown w e
+      → w.signals ≡ length w.pre → w.stack ≡ top ∷ rest → next.top ≡ top_of rest
+      → popped f next ≡ shown (taken_off top rest) next.epoch
+  pop_shows f next e top rest here full stack below = ap (λ g. popped g next) here
+      ∙ ((word_follows w e law).pop c.number top rest next full stack below
+      ∙ ap (λ u. shown u next.epoch) (notify-pop w c.number (top ∷ rest) full stack))
+
+  -- the seat that is owed gets its token
+  abbrev pub unparked : ℕ → List ℕ → World
+  unparked seat rest = unpark w c.number (seat ∷ rest)
+
+  owes : (seat : ℕ) (rest : List ℕ) → c.owing ≡ seat ∷ rest → owed_by w c.number ≡ seat ∷ rest
+  owes seat rest owing = sym told.owing ∙ owing
+
+  pub owed_known : (seat : ℕ) (rest : List ℕ) → c.owing ≡ seat ∷ rest → seat < k.waiters
+  owed_known seat rest owing = let phases = sizes.phases in
+      let is_known = owed_is_stacked w law c.number seat rest (owes seat rest owing) in
+      let known = is_known.1 in omega arith
+
+  pub unpark_fits : (seat : ℕ) (rest : List ℕ) → c.owing ≡ seat ∷ rest
+      → Fitting k w (unparked seat rest) (Unpark c.number ∷ []) c (unparking c)
+  unpark_fits seat rest owing =
+      let here = is_seat k s.views id v c r.dealt at is in let actors = sizes.owed in record {
+        runs = (
+          let one = ap length (owes seat rest owing) in omega arith,
+          ap (λ xs. unpark w c.number xs) (owes seat rest owing),
+        );
+        by = (refl, tt);
+        waiters = refl;
+        number = refl;
+        gains = refl;
+        waits = told.waits;
+        notifies = told.notifies;
+        owing = ap behind owing ∙ sym (get_or-set_same w.owed c.number rest [] (omega arith));
+        epoch = omega arith;
+        rowless = rowless_on (unparked seat rest) refl refl;
+      }
+
+  -- a seat whose card says that it is stacked is
+  pub is_stacked : c.phase ≡ Stacked → phase_of w c.number ≡ Stacked
+  is_stacked stacked = ⊎_elim (λ less. sym (told.waits less) ∙ stacked)
+      (λ le. absurd (let runs = sym (told.notifies le) ∙ stacked in cc))
+      (cases_lt c.number k.waiters)
+
+  pub wake_fits : c.phase ≡ Stacked → has_token w c.number ≡ true
+      → Fitting k w (effect w (Wake c.number)) (Wake c.number ∷ []) c (waking (polling c))
+  wake_fits stacked there = let known = stacked_known w c.number (is_stacked stacked) in record {
+    runs = ((is_stacked stacked, there), refl);
+    by = (refl, tt);
+    waiters = refl;
+    number = refl;
+    gains = refl;
+    waits = λ less. sym (get_or-set_same w.phases c.number Running Ended known);
+    notifies = λ le. refl;
+    owing = told.owing;
+    epoch = omega arith;
+    rowless = rowless_on (effect w (Wake c.number)) refl refl;
+  }
+
+  -- a notification of all, which nobody stops
+  abbrev pub emptied : World
+  emptied = effect w (NotifyAll c.number)
+
+  pub all_fits : (x : Exchange) → c.phase ≡ Running → c.owing ≡ []
+      → Fitting k w emptied (NotifyAll c.number ∷ []) c (taking w.stack c x)
+  all_fits x running none =
+      let here = is_seat k s.views id v c r.dealt at is in let actors = sizes.owed in record {
+        runs = (free running none, refl);
+        by = (refl, tt);
+        waiters = refl;
+        number = refl;
+        gains = refl;
+        waits = told.waits;
+        notifies = told.notifies;
+        owing = ap (λ xs. xs ++ w.stack) told.owing
+            ∙ sym (get_or-set_same w.owed c.number (owed_by w c.number ++ w.stack) []
+            (omega arith));
+        epoch = omega arith;
+        rowless = record {
+          stop = ap (λ m. if m == 1 then 2 else m) r.rowless.stop;
+          silent = still_silent;
+        };
+      }
+
+  pub all_shows : (f : Fields) (e : ℕ) → f ≡ shown w e → all_notified f ≡ shown emptied 0
+  all_shows f e here = ap all_notified here ∙ (word_follows w e law).all c.number

@@ -1,8 +1,7 @@
 -- The rule holds when nobody has done anything.
 use Rattle.std.proofs.Common.{◌≡◌, ℕ, zero, suc, ◌+◌, ◌-◌, ◌++◌, ◌≤◌, ◌<◌, nat_lt, false, List, []}
-use Rattle.std.proofs.Common.{◌∷◌, length, map}
-use Rattle.std.proofs.Common.{replicate, slice_index, sym, ap, refl, ◌∙◌, subst, ⊎_elim, arith, All}
-use Rattle.std.proofs.Common.{length-set, get_or-set_same, get_or-set_other}
+use Rattle.std.proofs.Common.{◌∷◌, length, map, replicate, slice_index, sym, ap, refl, ◌∙◌, subst}
+use Rattle.std.proofs.Common.{⊎_elim, arith, All, length-set, get_or-set_same, get_or-set_other}
 use Rattle.std.specs.List.{range_with_len}
 use Rattle.std.proofs.lemmas.Bool.{cases_eq, cases_lt, lt-ltb, le-ltb}
 use Rattle.std.proofs.lemmas.List.{length-replicate, get_or-replicate}
@@ -14,38 +13,41 @@ use Rattle.event_word.specs.declared.phase.Phase.TheVariants.{Running, Ended}
 use Rattle.event_word.specs.Fields.{fields_of}
 use Rattle.event_word.specs.Word.{nobody}
 use Rattle.event_word.specs.Lists.{one_if, times}
-use Rattle.event_word.specs.World.{opening_world}
 use Rattle.event_word.proofs.Lists.{one_if-same, one_if-other}
-use Rattle.event_word.proofs.Stored.{get_or-replicate_same}
+use Rattle.event_word.proofs.Lists.{get_or-replicate_same}
 use Rattle.event_count.specs.declared.rule.TheConstants.{STATE}
 use Rattle.event_count.specs.declared.rule.Sizes.{Sizes}
 use Rattle.event_count.specs.declared.view.Card.{Card}
 use Rattle.event_count.specs.declared.view.View.{View}
-use Rattle.event_count.specs.Places.{parker_place, words_for, words_at_first}
+use Rattle.event_count.specs.Places.{parker_place, next_place, words_for, words_at_first}
 use Rattle.event_count.specs.Cards.{fresh, view, first_card, other_cards, card_in, undealt}
 use Rattle.event_count.specs.Cards.{after_deal}
 use Rattle.event_count.specs.Plays.{Sat}
-use Rattle.event_count.specs.Shown.{IsChain, Written, Agrees, Keeps, Each, ShowsWorld}
+use Rattle.event_count.specs.Written.{Written}
+use Rattle.event_count.specs.Known.{first_world, next_epoch, Agrees, Each}
+use Rattle.event_count.specs.Kept.{Knows, Links}
+use Rattle.event_count.specs.Shown.{ShowsWorld}
 use Rattle.event_count.proofs.Cards.{numbers}
 
-abbrev pub fresh_cards : ℕ → ℕ → List Card
-fresh_cards from count = map fresh (range_with_len from count)
+-- the cards from a number on
+abbrev pub fresh_from : Sizes → ℕ → ℕ → List Card
+fresh_from k from count = map (fresh k) (range_with_len from count)
 
-All-fresh : (P : Card → Type 0) → ((n : ℕ) → P (fresh n)) → (from count : ℕ)
-    → All P (fresh_cards from count)
-All-fresh P each from zero = All-nil P
-All-fresh P each from (suc count) =
-    All-cons P (fresh from) (fresh_cards (from + 1) count) (each from)
-    (All-fresh P each (from + 1) count)
+All-fresh : (k : Sizes) (P : Card → Type 0) → ((n : ℕ) → P (fresh k n)) → (from count : ℕ)
+    → All P (fresh_from k from count)
+All-fresh k P each from zero = All-nil P
+All-fresh k P each from (suc count) =
+    All-cons P (fresh k from) (fresh_from k (from + 1) count) (each from)
+    (All-fresh k P each (from + 1) count)
 
-module _ (n : ℕ) where
-  times-below : (from count : ℕ) → n < from → times n (numbers (fresh_cards from count)) ≡ 0
+module _ (k : Sizes) (n : ℕ) where
+  times-below : (from count : ℕ) → n < from → times n (numbers (fresh_from k from count)) ≡ 0
   times-below from zero less = refl
   times-below from (suc count) less = let other = one_if-other from n (λ e. absurd (omega arith)) in
       let rest = times-below (from + 1) count (omega arith) in omega arith
 
   times-within : (from count : ℕ) → from ≤ n → n < from + count
-      → times n (numbers (fresh_cards from count)) ≡ 1
+      → times n (numbers (fresh_from k from count)) ≡ 1
   times-within from zero le less = absurd (omega arith)
   times-within from (suc count) le less = ⊎_elim
       (λ is. let here = one_if-same from n is in
@@ -55,12 +57,12 @@ module _ (n : ℕ) where
       (cases_eq from n)
 
   times-past : (from count : ℕ) → from + count ≤ n
-      → times n (numbers (fresh_cards from count)) ≡ 0
+      → times n (numbers (fresh_from k from count)) ≡ 0
   times-past from zero le = refl
   times-past from (suc count) le = let other = one_if-other from n (λ e. absurd (omega arith)) in
       let rest = times-past (from + 1) count (omega arith) in omega arith
 
-  times-fresh : (count : ℕ) → times n (numbers (fresh_cards 0 count)) ≡ one_if (nat_lt n count)
+  times-fresh : (count : ℕ) → times n (numbers (fresh_from k 0 count)) ≡ one_if (nat_lt n count)
   times-fresh count = ⊎_elim
       (λ less. times-within 0 count (omega arith) (omega arith)
       ∙ sym (ap one_if (lt-ltb n count less)))
@@ -76,8 +78,7 @@ abbrev no_words : ℕ → List ℕ
 no_words waiters = replicate (words_for waiters) 0
 
 written_first : (k : Sizes)
-    → Written k (words_at_first k.waiters) (opening_world k.waiters k.notifiers 0)
-    (replicate k.waiters 0)
+    → Written k (words_at_first k.waiters) (first_world k) (next_epoch k [])
 written_first k =
     let long : length (no_words k.waiters) ≡ words_for k.waiters =
     length-replicate (words_for k.waiters) 0 in
@@ -88,8 +89,6 @@ written_first k =
       pre = ap (λ n. (fields_of n).pre) here;
       signals = ap (λ n. (fields_of n).signals) here;
       stack = (ap (λ n. (fields_of n).top) here, ap (λ n. (fields_of n).epoch) here);
-      owed = λ actor. subst (IsChain (words_at_first k.waiters))
-          (sym (get_or-replicate_same (k.waiters + k.notifiers) [] actor)) tt;
       tokens = λ seat less.
           get_or-set_other (no_words k.waiters) STATE (parker_place seat) nobody 0
           (λ e. absurd (omega arith))
@@ -98,74 +97,81 @@ written_first k =
     }
 
 true_first : (k : Sizes) (n : ℕ)
-    → Agrees k [] (opening_world k.waiters k.notifiers 0) (replicate k.waiters 0) (fresh n)
+    → Agrees k [] (first_world k) (fresh k n)
 true_first k n = record {
+  waiters = refl;
   waits = λ less. sym (get_or-replicate k.waiters n Running Ended less);
   notifies = λ le. refl;
   owing = sym (get_or-replicate_same (k.waiters + k.notifiers) [] n);
   events = refl;
-  epoch = sym (get_or-replicate_same k.waiters 0 n);
+  epoch = omega arith;
+}
+
+known_first : (k : Sizes) (n : ℕ)
+    → Knows (words_at_first k.waiters) (first_world k) (next_epoch k []) (fresh k n)
+known_first k n = record {
+  stores = get_or-set_other (no_words k.waiters) STATE (next_place n) nobody 0
+      (λ e. absurd (omega arith))
+      ∙ get_or-replicate_same (words_for k.waiters) 0 (next_place n);
+  past = λ ne. absurd (ne refl);
 }
 
 pub opens : (k : Sizes) → k.waiters ≤ 16382
     → ShowsWorld k (opening (words_at_first k.waiters) [] (undealt k))
 opens k few =
-    let w = opening_world k.waiters k.notifiers 0 in let epochs : List ℕ = replicate k.waiters 0 in
+    let w = first_world k in
+    let words = words_at_first k.waiters in
     let count = k.waiters + k.notifiers in (
       [],
       w,
-      epochs,
       record {
         runs = refl;
         few = few;
-        pushes = length-replicate k.waiters 0;
         written = written_first k;
-        known = each_one (Agrees k [] w epochs) (undealt k)
-            (All-fresh (Agrees k [] w epochs) (true_first k) 0 count);
-        kept = each_one (Keeps (words_at_first k.waiters) w epochs) (undealt k)
-            (All-fresh (Keeps (words_at_first k.waiters) w epochs) (λ n. tt) 0 count);
+        known = each_one (Agrees k [] w) (undealt k)
+            (All-fresh k (Agrees k [] w) (true_first k) 0 count);
+        kept = each_one (Knows words w (next_epoch k [])) (undealt k)
+            (All-fresh k (Knows words w (next_epoch k [])) (known_first k) 0 count);
         dealt = record {
-          once = λ n. let all = times-fresh n count in omega arith;
-          all = let all = length-map-range_with_len fresh 0 count in omega arith;
+          once = λ n. let all = times-fresh k n count in omega arith;
+          all = let all = length-map-range_with_len (fresh k) 0 count in omega arith;
         };
         rowless = record { stop = refl; silent = get_or-replicate_same count false };
-        unparked = record {
-          stack = refl;
-          owed = get_or-replicate_same count [];
-          tokens = get_or-replicate_same k.waiters false;
-        };
+        linked = each_one (Links words) (undealt k)
+            (All-fresh k (Links words) (λ n. omega arith) 0 count);
       },
     )
 
 -- the first of the cards that are left, and the others
-fresh_cards-first : (from count : ℕ) → 0 < count
-    → fresh_cards from count ≡ fresh from ∷ fresh_cards (from + 1) (count - 1)
-fresh_cards-first from zero more = absurd (omega arith)
-fresh_cards-first from (suc count) more =
+fresh_from-first : (k : Sizes) (from count : ℕ) → 0 < count
+    → fresh_from k from count ≡ fresh k from ∷ fresh_from k (from + 1) (count - 1)
+fresh_from-first k from zero more = absurd (omega arith)
+fresh_from-first k from (suc count) more =
     let same : count ≡ suc count - 1 = omega arith in
-    ap (λ n. fresh from ∷ fresh_cards (from + 1) n) same
+    ap (λ n. fresh k from ∷ fresh_from k (from + 1) n) same
 
 -- one card more
-pub fresh_cards-more : (from count : ℕ)
-    → fresh_cards from (count + 1) ≡ fresh_cards from count ++ fresh (from + count) ∷ []
-fresh_cards-more from zero = let same : from ≡ from + 0 = omega arith in ap (λ n. fresh n ∷ []) same
-fresh_cards-more from (suc count) =
+pub fresh_from-more : (k : Sizes) (from count : ℕ)
+    → fresh_from k from (count + 1) ≡ fresh_from k from count ++ fresh k (from + count) ∷ []
+fresh_from-more k from zero =
+    let same : from ≡ from + 0 = omega arith in ap (λ n. fresh k n ∷ []) same
+fresh_from-more k from (suc count) =
     let same : from + 1 + count ≡ from + suc count = omega arith in
     let one_more : suc count + 1 ≡ suc (count + 1) = omega arith in
-    ap (λ n. fresh_cards from n) one_more
-    ∙ ap (λ cards. fresh from ∷ cards) (fresh_cards-more (from + 1) count
-    ∙ ap (λ n. fresh_cards (from + 1) count ++ fresh n ∷ []) same)
+    ap (λ n. fresh_from k from n) one_more
+    ∙ ap (λ cards. fresh k from ∷ cards) (fresh_from-more k (from + 1) count
+    ∙ ap (λ n. fresh_from k (from + 1) count ++ fresh k n ∷ []) same)
 
-module _ (me : Sat) (from count : ℕ) (is : me ≡ (view (fresh_cards from count), []))
+module _ (k : Sizes) (me : Sat) (from count : ℕ) (is : me ≡ (view (fresh_from k from count), []))
     (more : 0 < count) where
   pub some_left : 0 < length me.0.cards
-  some_left = let same = ap (λ m. length m.0.cards) is in
-      let all = length-map-range_with_len fresh from count in omega arith
+  some_left = let same = ap (λ x. length x.0.cards) is in
+      let all = length-map-range_with_len (fresh k) from count in omega arith
 
-  pub next_card : card_in me.0 ≡ fresh from
-  next_card = ap (λ m. card_in m.0) is ∙ ap first_card (fresh_cards-first from count more)
+  pub next_card : card_in me.0 ≡ fresh k from
+  next_card = ap (λ x. card_in x.0) is ∙ ap first_card (fresh_from-first k from count more)
 
   pub others_left : (after : Sat) → after ≡ (after_deal me.0, me.1)
-      → after ≡ (view (fresh_cards (from + 1) (count - 1)), [])
-  others_left after dealt = dealt ∙ (ap (λ m. (after_deal m.0, m.1)) is
-      ∙ ap (λ cards. (view (other_cards cards), [])) (fresh_cards-first from count more))
+      → after ≡ (view (fresh_from k (from + 1) (count - 1)), [])
+  others_left after dealt = dealt ∙ (ap (λ x. (after_deal x.0, x.1)) is
+      ∙ ap (λ cards. (view (other_cards cards), [])) (fresh_from-first k from count more))

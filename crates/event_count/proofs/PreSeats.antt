@@ -1,7 +1,6 @@
 -- The pre-waiters are the seats whose phase says so.
-use Rattle.std.proofs.Common.{◌≡◌, ℕ, suc, ◌+◌, ◌≤◌, ◌<◌, ◌==◌, List, [], ◌∷◌, filter}
-use Rattle.std.proofs.Common.{sym, ap, refl, ◌∙◌, ⊎_elim, arith, All, length, get_or, ◌*◌}
-use Rattle.std.proofs.Common.{if◌then◌else◌}
+use Rattle.std.proofs.Common.{◌≡◌, ℕ, suc, ◌+◌, ◌≤◌, ◌<◌, ◌==◌, List, [], ◌∷◌, filter, sym, ap}
+use Rattle.std.proofs.Common.{refl, ◌∙◌, ⊎_elim, arith, All, length, get_or, ◌*◌, if◌then◌else◌}
 use Rattle.std.proofs.lemmas.Bool.{cases_eq, cases_lt, lt-ltb}
 use Rattle.std.proofs.lemmas.List.Elements.{All-head, All-tail}
 use Rattle.std.proofs.lemmas.List.{get_or_past}
@@ -17,7 +16,8 @@ use Rattle.event_word.proofs.Lists.{one_if-same, one_if-other}
 use Rattle.event_count.specs.declared.rule.Sizes.{Sizes}
 use Rattle.event_count.specs.declared.view.Card.{Card}
 use Rattle.event_count.specs.declared.view.View.{View}
-use Rattle.event_count.specs.Shown.{numbers_in, ShowsWorld}
+use Rattle.event_count.specs.Known.{numbers_in}
+use Rattle.event_count.specs.Shown.{ShowsWorld}
 use Rattle.event_count.specs.Laws.{is_pre, pre_numbers_in, PreSeatsWait}
 use Rattle.event_count.proofs.Cards.{numbers}
 use Rattle.event_count.proofs.Closing.{is_lawful, waits-cases}
@@ -88,9 +88,8 @@ pre_seats k s shows = (
   shows.0,
   shows.1,
   shows.2,
-  shows.3,
   λ n.
-      let w = shows.1 in let r = shows.3 in let law = is_lawful k s shows in
+      let w = shows.1 in let r = shows.2 in let law = is_lawful k s shows in
       let waiting = law.0.waiting n in let p = waits-cases (phase_of w n) in
       let sum = pre_total n (waits (phase_of w n)) s.views p.0 (λ id v at i d less.
       waits-card k w (get_or v.cards i d) n (r.known id v at i d less).waits

@@ -1,141 +1,152 @@
--- A step on the state word by one seat, with its events or with none, keeps the rule.
-use Rattle.std.proofs.Common.{◌≡◌, ◌≢◌, ℕ, ◌≤◌, ◌<◌, List, [], ◌++◌, sym, ap, refl, ◌∙◌, arith}
-use Rattle.std.proofs.Common.{append-nil, slice_index, slice_set, ◌∷◌, Option, Some, None, IfSome}
+-- A step by one seat, with its events or with none, keeps the rule.
+use Rattle.std.proofs.Common.{◌≡◌, ◌≢◌, ℕ, ◌+◌, ◌≤◌, ◌<◌, List, [], ◌∷◌, ◌++◌, sym, ap, refl, ◌∙◌}
+use Rattle.std.proofs.Common.{arith, append-nil, slice_set}
 use mathlib.Core.Option.{some}
 use lib.ListN.{get_elem?}
 use Rattle.atomic_table.specs.Table.{stepped, keeps}
 use Rattle.event_word.specs.declared.phase.Phase.TheVariants.{Running}
 use Rattle.event_word.specs.declared.event.Event.{Event}
-use Rattle.event_word.specs.Fields.{fields_of}
-use Rattle.event_word.specs.Shown.{shown}
-use Rattle.event_word.specs.World.{World, phase_of, owed_by, opening_world}
+use Rattle.event_word.specs.Step.{effect}
+use Rattle.event_word.specs.World.{World, phase_of, owed_by}
 use Rattle.event_word.specs.Runs.{Runs}
+use Rattle.event_word.specs.Balance.{push_of, over}
 use Rattle.event_word.proofs.Histories.{Runs-append}
-use Rattle.event_count.specs.declared.rule.TheConstants.{STATE}
+use Rattle.event_word.proofs.Balancing.{over-append, no_push}
 use Rattle.event_count.specs.declared.rule.Sizes.{Sizes}
 use Rattle.event_count.specs.declared.view.Card.{Card}
 use Rattle.event_count.specs.declared.view.View.{View}
 use Rattle.event_count.specs.Cards.{only}
-use Rattle.event_count.specs.Shown.{CountState, events_of, Agrees, IsKept, Keeps, HasNoRows}
-use Rattle.event_count.specs.Shown.{NobodyParks}
-use Rattle.event_count.specs.Shown.{Shows, ShowsWorld}
+use Rattle.event_count.specs.Shown.{CountState, HasNoRows, Shows, ShowsWorld}
+use Rattle.event_count.specs.Known.{first_world, events_of, Agrees, next_epoch}
+use Rattle.event_count.specs.Kept.{Knows, Links}
+use Rattle.event_count.specs.Written.{Written}
 use Rattle.event_count.proofs.Acting.{AreBy, left_alone, events_of-mine, events_of-theirs}
 use Rattle.event_count.proofs.Cards.{of_only, each_set, dealt_set}
-use Rattle.event_count.proofs.Words.{shown_fields-shown, written_set}
 
--- what events of a seat do to the World, and what the seat's card c becomes by them
+-- what events of a seat do to history and World, and what the seat's card c becomes by them
 pub record Fitting (k : Sizes) (w u : World) (events : List Event) (c d : Card) : Type 0 where
   pub runs : Runs w events u
   pub by : AreBy c.number events
+  pub waiters : d.waiters ≡ c.waiters
   pub number : d.number ≡ c.number
   pub gains : d.events ≡ c.events ++ events
   pub waits : c.number < k.waiters → d.phase ≡ phase_of u c.number
   pub notifies : k.waiters ≤ c.number → d.phase ≡ Running
   pub owing : d.owing ≡ owed_by u c.number
-  pub epoch : d.epoch ≡ c.epoch
-  pub reads : (words epochs : List ℕ) (x : World) → Keeps words x epochs c → Keeps words x epochs d
+  pub epoch : d.epoch ≡ c.epoch + over (push_of c.number) w events
   pub rowless : HasNoRows u
-  pub unparked : NobodyParks u
 
--- while nobody parks, a kept read stays right
-kept_on : (words words' epochs : List ℕ) (w u : World) (seat epoch : ℕ) (next : Option ℕ)
-    → NobodyParks u → IfSome next (IsKept words w epochs seat epoch)
-    → IfSome next (IsKept words' u epochs seat epoch)
-kept_on words words' epochs w u seat epoch None still was = tt
-kept_on words words' epochs w u seat epoch (Some next) still was = record {
-  past = was.past;
-  right = λ above below e. absurd (no_seat above below (sym still.stack ∙ e));
-}
-  where
-    no_seat : (above below : List ℕ) → [] ≡ above ++ seat ∷ below → ⊥
-    no_seat [] below e = absurd (cc)
-    no_seat (x ∷ above) below e = absurd (cc)
+-- what the step does to the words, and to what cards know of them
+pub record Wording (k : Sizes) (words words' : List ℕ) (w u : World) (es es' : ℕ → ℕ) (c d : Card)
+    : Type 0 where
+  pub written : Written k words' u es'
+  pub mine : Knows words w es c → Knows words' u es' d
+  pub others : (x : Card) → x.number ≢ c.number → Knows words w es x → Knows words' u es' x
+  pub links : Links words c → Links words' d
+  pub others_links : (x : Card) → x.number ≢ c.number → x.owing ≡ owed_by w x.number
+      → Links words x → Links words' x
 
-module _ (k : Sizes) (s : CountState) (history : List Event) (w : World) (epochs : List ℕ)
-    (r : Shows k s history w epochs) (id : ℕ) (v : View) (c : Card)
+-- events of one seat push no other
+pub pushes_none : (actor n : ℕ) → n ≢ actor → (w : World) (events : List Event)
+    → AreBy actor events → over (push_of n) w events ≡ 0
+pushes_none actor n ne w [] by = refl
+pushes_none actor n ne w (e ∷ events) by =
+    let here = no_push n w e (λ is. ne (is ∙ by.0)) in
+    let rest = pushes_none actor n ne (effect w e) events by.1 in omega arith
+
+module _ (k : Sizes) (s : CountState) (history : List Event) (w : World)
+    (r : Shows k s history w) (id : ℕ) (v : View) (c : Card)
     (at : get_elem? s.views id ≡ some v) (is : v ≡ only c) where
   -- what the card says agrees
-  pub truth : Agrees k history w epochs c
-  truth = of_only (Agrees k history w epochs) v c is (r.known id v at)
+  pub truth : Agrees k history w c
+  truth = of_only (Agrees k history w) v c is (r.known id v at)
+
+  -- and what it knows of words
+  pub knowledge : Knows s.words w (next_epoch k history) c
+  knowledge = of_only (Knows s.words w (next_epoch k history)) v c is (r.kept id v at)
+
+  -- and how the seats that it owes are linked
+  pub linkage : Links s.words c
+  linkage = of_only (Links s.words) v c is (r.linked id v at)
+
+  -- how many pushes there are after the events
+  pub epochs_after : (events : List Event) (n : ℕ)
+      → next_epoch k (history ++ events) n ≡ next_epoch k history n + over (push_of n) w events
+  epochs_after events n =
+      let more = over-append (push_of n) (first_world k) history w events r.runs in omega arith
 
   -- the card after the events agrees too
   true_after : (events : List Event) (u : World) (d : Card) → Fitting k w u events c d
-      → Agrees k (history ++ events) u epochs d
+      → Agrees k (history ++ events) u d
   true_after events u d f = let number = f.number in record {
+    waiters = f.waiters ∙ truth.waiters;
     waits = λ less. f.waits (omega arith) ∙ ap (λ n. phase_of u n) (sym f.number);
     notifies = λ le. f.notifies (omega arith);
     owing = f.owing ∙ ap (λ n. owed_by u n) (sym f.number);
     events = f.gains ∙ (ap (λ es. es ++ events) truth.events
         ∙ (sym (events_of-mine c.number history events f.by)
         ∙ ap (λ n. events_of n (history ++ events)) (sym f.number)));
-    epoch = f.epoch ∙ (truth.epoch ∙ ap (λ n. slice_index epochs n) (sym f.number));
+    epoch = f.epoch ∙ (ap (λ e. e + over (push_of c.number) w events) truth.epoch
+        ∙ (sym (epochs_after events c.number)
+        ∙ ap (λ n. next_epoch k (history ++ events) n) (sym f.number)));
   }
 
   -- and so is each other seat's
   others_after : (events : List Event) (u : World) → AreBy c.number events → Runs w events u
-      → (x : Card) → x.number ≢ c.number → Agrees k history w epochs x
-      → Agrees k (history ++ events) u epochs x
+      → (x : Card) → x.number ≢ c.number → Agrees k history w x
+      → Agrees k (history ++ events) u x
   others_after events u by runs x ne was =
       let alone = left_alone c.number x.number ne w events u by runs in record {
+        waiters = was.waiters;
         waits = λ less. was.waits less ∙ sym alone.0;
         notifies = was.notifies;
         owing = was.owing ∙ sym alone.1;
         events = was.events ∙ sym (events_of-theirs c.number x.number history events ne by);
-        epoch = was.epoch;
+        epoch = let e = was.epoch in let more = epochs_after events x.number in
+            let none = pushes_none c.number x.number ne w events by in omega arith;
       }
 
-  kept_after : (words : List ℕ) (u : World) → NobodyParks u → (x : Card)
-      → Keeps s.words w epochs x → Keeps words u epochs x
-  kept_after words u still x was =
-      kept_on s.words words epochs w u (fields_of x.looked).top (fields_of x.looked).epoch x.next
-      still was
-
-  -- a step that is these events
-  pub acts : (events : List Event) (u : World) (d : Card) (n : ℕ) (held : List (ℕ × Unit {0}))
-      → Fitting k w u events c d → fields_of n ≡ shown u 0
-      → ShowsWorld k (stepped s STATE n id held (only d) keeps)
-  acts events u d n held f shows = (
+  -- a step that is these events, and makes this of the word at a place
+  pub acts : (events : List Event) (u : World) (d : Card) (place n : ℕ)
+      (held : List (ℕ × Unit {0})) → Fitting k w u events c d
+      → Wording k s.words (slice_set s.words place n) w u (next_epoch k history)
+      (next_epoch k (history ++ events)) c d
+      → ShowsWorld k (stepped s place n id held (only d) keeps)
+  acts events u d place n held f writes = (
     history ++ events,
     u,
-    epochs,
     record {
-      runs = Runs-append (opening_world k.waiters k.notifiers 0) history w events u r.runs f.runs;
+      runs = Runs-append (first_world k) history w events u r.runs f.runs;
       few = r.few;
-      pushes = r.pushes;
-      written = written_set k s.words epochs w r.written r.unparked u n f.unparked shows;
-      known = each_set k s.views id v c r.dealt at is (Agrees k history w epochs)
-          (Agrees k (history ++ events) u epochs) d (true_after events u d f)
+      written = writes.written;
+      known = each_set k s.views id v c r.dealt at is (Agrees k history w)
+          (Agrees k (history ++ events) u) d (true_after events u d f)
           (others_after events u f.by f.runs) r.known;
-      kept = each_set k s.views id v c r.dealt at is (Keeps s.words w epochs)
-          (Keeps (slice_set s.words STATE n) u epochs) d
-          (f.reads (slice_set s.words STATE n) epochs u
-          (kept_after (slice_set s.words STATE n) u f.unparked c
-          (of_only (Keeps s.words w epochs) v c is (r.kept id v at))))
-          (λ x _ was. kept_after (slice_set s.words STATE n) u f.unparked x was) r.kept;
+      kept = each_set k s.views id v c r.dealt at is (Knows s.words w (next_epoch k history))
+          (Knows (slice_set s.words place n) u (next_epoch k (history ++ events))) d
+          (writes.mine knowledge) writes.others r.kept;
       dealt = dealt_set k s.views id v c r.dealt at is d f.number;
       rowless = f.rowless;
-      unparked = f.unparked;
+      linked = each_set k s.views id v c r.dealt at is
+          (λ x. (x.owing ≡ owed_by w x.number) × Links s.words x)
+          (Links (slice_set s.words place n)) d (writes.links linkage)
+          (λ x ne was. writes.others_links x ne was.0 was.1)
+          (λ j y there i e less. ((r.known j y there i e less).owing, r.linked j y there i e less));
     },
   )
 
-  -- a step that is none: the card may have counted a load or an exchange
-  pub rests : (d : Card) (held : List (ℕ × Unit {0})) → d.number ≡ c.number → d.phase ≡ c.phase
-      → d.owing ≡ c.owing → d.events ≡ c.events → d.epoch ≡ c.epoch
-      → ((words epochs : List ℕ) (x : World) → Keeps words x epochs c → Keeps words x epochs d)
-      → ShowsWorld k (stepped s STATE (slice_index s.words STATE) id held (only d) keeps)
-  rests d held number phase owing events epoch reads =
-      acts [] w d (slice_index s.words STATE) held
-      record {
-        runs = refl;
-        by = tt;
-        number = number;
-        gains = events ∙ sym (append-nil c.events);
-        waits = λ less. phase ∙ truth.waits less;
-        notifies = λ le. phase ∙ truth.notifies le;
-        owing = owing ∙ truth.owing;
-        epoch = epoch;
-        reads = reads;
-        rowless = r.rowless;
-        unparked = r.unparked;
-      }
-      (shown_fields-shown k s.words epochs w r.written r.unparked)
+  -- a step that is none leaves history and World
+  pub fits_none : (d : Card) → d.waiters ≡ c.waiters → d.number ≡ c.number → d.phase ≡ c.phase
+      → d.owing ≡ c.owing → d.events ≡ c.events → d.epoch ≡ c.epoch → Fitting k w w [] c d
+  fits_none d waiters number phase owing events epoch = record {
+    runs = refl;
+    by = tt;
+    waiters = waiters;
+    number = number;
+    gains = events ∙ sym (append-nil c.events);
+    waits = λ less. phase ∙ truth.waits less;
+    notifies = λ le. phase ∙ truth.notifies le;
+    owing = owing ∙ truth.owing;
+    epoch = omega arith;
+    rowless = r.rowless;
+  }

@@ -1,7 +1,6 @@
 -- Sums over a list in which one element changes.
 use Rattle.std.proofs.Common.{◌≡◌, ◌≢◌, ℕ, zero, suc, ◌+◌, ◌≤◌, ◌<◌, List, [], ◌∷◌, set, sym, ap}
-use Rattle.std.proofs.Common.{refl}
-use Rattle.std.proofs.Common.{⊎_elim, arith}
+use Rattle.std.proofs.Common.{refl, ⊎_elim, arith}
 use Rattle.std.proofs.lemmas.Bool.{cases_eq}
 use mathlib.Core.Option.{some, some-injective, some-ne-none}
 use lib.ListN.{get_elem?}

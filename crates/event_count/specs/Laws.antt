@@ -1,14 +1,22 @@
 -- What holds in every state that a count's rule allows.
-use Rattle.std.specs.Prelude.{◌≡◌, ℕ, ◌+◌, ◌≤◌, Bool, true, false, List, map, filter}
+use Rattle.std.specs.Prelude.{◌≡◌, ℕ, ◌+◌, ◌<◌, ◌≤◌, Bool, true, false, List, ◌∷◌, ◌++◌, map}
+use Rattle.std.specs.Prelude.{filter}
 use Rattle.event_word.specs.declared.event.Event.{Event}
+use Rattle.event_word.specs.declared.event.Event.TheVariants.{Commit}
 use Rattle.event_word.specs.declared.phase.Phase.{Phase}
 use Rattle.event_word.specs.declared.phase.Phase.TheVariants.{Running, Pre, Stacked, Ended}
 use Rattle.event_word.specs.Lists.{total, times}
 use Rattle.event_word.specs.Lawful.{Lawful, HasSizes}
-use Rattle.event_word.specs.World.{World}
+use Rattle.event_word.specs.Runs.{Runs}
+use Rattle.event_word.specs.Balance.{Balance}
+use Rattle.event_word.specs.World.{World, phase_of}
+use Rattle.event_word.specs.Step.{effect}
 use Rattle.event_count.specs.declared.rule.Sizes.{Sizes}
 use Rattle.event_count.specs.declared.view.View.{View}
-use Rattle.event_count.specs.Shown.{CountState, Shows, shown_fields}
+use Rattle.event_count.specs.Written.{shown_fields}
+use Rattle.event_count.specs.Known.{first_world, Each}
+use Rattle.event_count.specs.Shown.{CountState, Shows}
+use Rattle.event_count.specs.Counts.{CardCounts}
 
 -- a rule for counts, by their sizes
 abbrev Rule : Type 1
@@ -18,8 +26,8 @@ Rule = Sizes → CountState → Type 0
 abbrev pub ShowsLawfulWorld : Rule → Type 0
 ShowsLawfulWorld holds =
     (k : Sizes) (s : CountState) → holds k s
-    → (history : List Event) × (w : World) × (epochs : List ℕ)
-    × Shows k s history w epochs × Lawful w × HasSizes k.waiters (k.waiters + k.notifiers) 0 w
+    → (history : List Event) × (w : World)
+    × Shows k s history w × Lawful w × HasSizes k.waiters (k.waiters + k.notifiers) 0 w
 
 -- the state word has no more signals than pre-waiters
 abbrev pub SignalsAreAnswered : Rule → Type 0
@@ -42,6 +50,32 @@ pre_numbers_in v = map (λ c. c.number) (filter (λ c. is_pre c.phase) v.cards)
 abbrev pub PreSeatsWait : Rule → Type 0
 PreSeatsWait holds =
     (k : Sizes) (s : CountState) → holds k s
-    → (history : List Event) × (w : World) × (epochs : List ℕ) × Shows k s history w epochs
+    → (history : List Event) × (w : World) × Shows k s history w
     × ((n : ℕ) → (times n w.pre ≤ 1)
     × (times n w.pre ≡ total (λ v. times n (pre_numbers_in v)) s.views))
+
+-- each seat stands on the stack once at most
+abbrev pub SeatsStandOnce : Rule → Type 0
+SeatsStandOnce holds =
+    (k : Sizes) (s : CountState) → holds k s
+    → (history : List Event) × (w : World) × Shows k s history w
+    × ((seat : ℕ) → times seat w.stack ≤ 1)
+
+-- wherever a commit in the history pushed its seat, there was no signal before it
+abbrev pub PushesFoundNoSignal : Rule → Type 0
+PushesFoundNoSignal holds =
+    (k : Sizes) (s : CountState) → holds k s
+    → (history : List Event) × (w : World) × Shows k s history w
+    × ((before after : List Event) (seat : ℕ) (u : World) → history ≡ before ++ Commit seat ∷ after
+    → Runs (first_world k) before u → phase_of (effect u (Commit seat)) seat ≡ Stacked
+    → u.signals ≡ 0)
+
+-- Each waiter was taken off the stack as often as it was pushed, but for once where it is on it;
+-- unparked as often as it was taken, but for once where it is owed; woken as often as it was
+-- unparked, but for once where it has a token. Its card tells its pushes and its wakes.
+abbrev pub CountsFollow : Rule → Type 0
+CountsFollow holds =
+    (k : Sizes) (s : CountState) → holds k s
+    → (history : List Event) × (w : World) × Shows k s history w
+    × ((seat : ℕ) → seat < k.waiters → Balance (first_world k) history w seat)
+    × Each (CardCounts k history) s.views

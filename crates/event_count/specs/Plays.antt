@@ -1,13 +1,16 @@
 -- What each step tells the seat that makes it, and on which word it is.
-use Rattle.std.specs.Prelude.{◌≡◌, ◌≢◌, ℕ, ◌==◌, [], MatchBool}
+use Rattle.std.specs.Prelude.{◌≡◌, ◌≢◌, ℕ, ◌==◌, true, List, [], MatchBool}
 use Rattle.atomic_table.specs.Table.{Me, Step}
+use Rattle.event_word.specs.Fields.{fields_of}
 use Rattle.event_count.specs.declared.rule.TheConstants.{STATE}
 use Rattle.event_count.specs.declared.view.Exchange.{Exchange}
 use Rattle.event_count.specs.declared.view.Card.{Card}
 use Rattle.event_count.specs.declared.view.View.{View}
-use Rattle.event_count.specs.Cards.{exchange_of, spent, only, card_in, looking, exchanging}
-use Rattle.event_count.specs.Cards.{prewaiting}
-use Rattle.event_count.specs.Cards.{consuming, cancelling, signalling, Fits}
+use Rattle.event_count.specs.Places.{next_place, parker_place}
+use Rattle.event_count.specs.Cards.{exchange_of, spent, only, card_in}
+use Rattle.event_count.specs.Gains.{looking, reading, storing, polling, exchanging, prewaiting}
+use Rattle.event_count.specs.Gains.{consuming, pushing, cancelling, signalling, popping, taking}
+use Rattle.event_count.specs.Gains.{foremost, behind, unparking, waking, Fits, NamesFirst}
 
 -- a seat's view, and the slots that it holds: none
 abbrev pub Sat : Type 0
@@ -26,6 +29,12 @@ looks step before found after =
     (step.word ≡ STATE) × (after ≡ (only (looking (card_in before.0) found), before.1))
     × Fits (looking (card_in before.0) found) found
 
+-- the next word of the looked top is kept
+abbrev pub reads : Told
+reads step before found after =
+    (step.word ≡ next_place (fields_of (card_in before.0).looked).top)
+    × (after ≡ (only (reading (card_in before.0) found), before.1))
+
 abbrev pub prewaits : Told
 prewaits step before found after =
     (step.word ≡ STATE) × (after ≡ (only (prewaiting (card_in before.0)), before.1))
@@ -42,8 +51,49 @@ exchanges gains step before found after =
 abbrev pub consumes : Told
 consumes = exchanges consuming
 
+abbrev pub pushes : Told
+pushes = exchanges pushing
+
 abbrev pub cancels : Told
 cancels = exchanges cancelling
 
 abbrev pub signals : Told
 signals = exchanges signalling
+
+abbrev pub pops : Told
+pops = exchanges popping
+
+-- where the state word was the expected one its seats are owed, the top first
+abbrev pub takes_all : Told
+takes_all step before found after =
+    (step.word ≡ STATE) × (after.1 ≡ before.1) × MatchBool (found == step.first)
+    ((taken : List ℕ) × NamesFirst (card_in before.0).waiters step.first taken × (after.0
+    ≡ only (taking taken (card_in before.0) (exchange_of step.first step.second step.first))))
+    ((found ≢ step.first)
+    × (after.0 ≡ only (exchanging (card_in before.0) (exchange_of step.first step.second found))))
+
+-- the seat's own next word is stored
+abbrev pub stores : Told
+stores step before found after =
+    (step.word ≡ next_place (card_in before.0).number)
+    × (after ≡ (only (storing (card_in before.0) step.first), before.1))
+
+-- the next word of the first seat owed names the one behind it
+abbrev pub follows : Told
+follows step before found after =
+    (step.word ≡ next_place (foremost (card_in before.0).owing)) × (after ≡ before)
+    × ((card_in before.0).linked ≡ true
+    → NamesFirst (card_in before.0).waiters found (behind (card_in before.0).owing))
+
+-- the first seat owed has its token
+abbrev pub unparks : Told
+unparks step before found after =
+    (step.word ≡ parker_place (foremost (card_in before.0).owing))
+    × (after ≡ (only (unparking (card_in before.0)), before.1))
+
+-- the seat has taken its token, where it was there
+abbrev pub wakes : Told
+wakes step before found after =
+    (step.word ≡ parker_place (card_in before.0).number) × (after.1 ≡ before.1)
+    × MatchBool (found == 0) (after.0 ≡ only (polling (card_in before.0)))
+    (after.0 ≡ only (waking (polling (card_in before.0))))

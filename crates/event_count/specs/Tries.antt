@@ -1,21 +1,24 @@
--- What the calls of a count answer, and what they make of the seat.
-use Rattle.std.specs.Prelude.{◌≡◌, ◌≢◌, ℕ, ◌≤◌, Bool, true, false, nat_lt, MatchBool}
+-- What the tries answer, and what they make of the seat.
+use Rattle.std.specs.Prelude.{◌≡◌, ◌≢◌, ℕ, ◌<◌, ◌⊎◌, Bool, true, false, Some, List}
 use Rattle.event_word.specs.declared.after.AfterCommit.TheVariants as after_commit
 use Rattle.event_word.specs.declared.after.AfterNotify.TheVariants as after_notify
+use Rattle.event_word.specs.declared.after.AfterNotifyAll.TheVariants as after_all
 use Rattle.event_word.specs.Fields.{fields_of}
-use Rattle.event_word.specs.Word.{cancelled, IsCommit, IsNotify}
+use Rattle.event_word.specs.Word.{cancelled, popped, IsSettled, IsCommit, IsNotify, IsNotifyAll}
 use Rattle.event_count.specs.declared.answers.TryCommit.{TryCommit}
 use Rattle.event_count.specs.declared.answers.TryCommit.TheVariants as commit
 use Rattle.event_count.specs.declared.answers.TryCancel.{TryCancel}
 use Rattle.event_count.specs.declared.answers.TryCancel.TheVariants as cancel
 use Rattle.event_count.specs.declared.answers.TryNotify.{TryNotify}
 use Rattle.event_count.specs.declared.answers.TryNotify.TheVariants as notify
-use Rattle.event_count.specs.declared.answers.Committed.{Committed}
-use Rattle.event_count.specs.declared.answers.Committed.TheVariants as committed
+use Rattle.event_count.specs.declared.answers.TryNotifyAll.{TryNotifyAll}
+use Rattle.event_count.specs.declared.answers.TryNotifyAll.TheVariants as notify_all
 use Rattle.event_count.specs.declared.view.Exchange.{Exchange}
 use Rattle.event_count.specs.declared.view.Card.{Card}
-use Rattle.event_count.specs.Cards.{exchange_of, looking, exchanging, consuming, cancelling}
-use Rattle.event_count.specs.Cards.{signalling}
+use Rattle.event_count.specs.Limits.{epoch_limit}
+use Rattle.event_count.specs.Cards.{exchange_of}
+use Rattle.event_count.specs.Gains.{exchanging, storing, consuming, pushing, cancelling}
+use Rattle.event_count.specs.Gains.{signalling, popping, taking, NamesFirst}
 
 -- an exchange of the looked word for this one that found another: nothing else has changed
 abbrev pub Misses : Card → ℕ → ℕ → Card → Type 0
@@ -31,73 +34,83 @@ abbrev pub Meets : (Card → Exchange → Card) → Card → ℕ → ℕ → Boo
 Meets gains c word offered true d = Hits gains c word offered d
 Meets gains c word offered false d = Misses c word offered d
 
--- the word after a commit of the seat that has looked at this word, or after a cancel where there
--- is no signal
-abbrev pub IsAfterCommit : Card → ℕ → ℕ → Type 0
-IsAfterCommit c word offered =
-    MatchBool (nat_lt 0 (fields_of word).signals)
-    (IsCommit (fields_of word) c.number c.epoch (after_commit.Consumed offered))
-    (fields_of offered ≡ cancelled (fields_of word))
-
--- a commit takes a signal that the looked word has; where it has none, the seat cancels
-abbrev pub IsTryCommit : Card → ℕ → TryCommit → Card → Type 0
-IsTryCommit c word commit.Consumed d = (offered : ℕ)
+-- an epoch is left, and the word offered takes a signal that the looked one has
+abbrev pub OffersConsume : Card → ℕ → ℕ → Type 0
+OffersConsume c word offered = (c.epoch < epoch_limit)
     × IsCommit (fields_of word) c.number c.epoch (after_commit.Consumed offered)
-    × Hits consuming c word offered d
-IsTryCommit c word commit.Pushed d = ⊥
-IsTryCommit c word commit.Spent d = (offered : ℕ) × ((fields_of word).signals ≡ 0)
-    × (fields_of offered ≡ cancelled (fields_of word)) × Hits cancelling c word offered d
-IsTryCommit c word commit.Contended d =
-    (offered : ℕ) × IsAfterCommit c word offered × Misses c word offered d
+
+-- an epoch is left, and the word offered has the seat on top, over the stack in its next word
+abbrev pub OffersPush : Card → ℕ → ℕ → ℕ → Type 0
+OffersPush c word offered next = (c.epoch < epoch_limit)
+    × IsCommit (fields_of word) c.number c.epoch (after_commit.Pushed offered next)
+
+-- the word offered is that of a cancel
+abbrev pub OffersCancel : ℕ → ℕ → Type 0
+OffersCancel word offered = fields_of offered ≡ cancelled (fields_of word)
+
+-- all epochs are used, and the word offered is that of a cancel
+abbrev pub OffersSpent : Card → ℕ → ℕ → Type 0
+OffersSpent c word offered = (c.epoch ≡ epoch_limit) × OffersCancel word offered
+
+-- a commit takes a signal that the looked word has; where it has none, the seat is pushed, over the
+-- stack and epoch that it stored before. Where no epoch is left, it cancels.
+abbrev pub IsTryCommit : Card → ℕ → TryCommit → Card → Type 0
+IsTryCommit c word commit.Consumed d =
+    (offered : ℕ) × OffersConsume c word offered × Hits consuming c word offered d
+IsTryCommit c word commit.Pushed d = (offered next : ℕ)
+    × OffersPush c word offered next × Hits pushing (storing c next) word offered d
+IsTryCommit c word commit.Spent d =
+    (offered : ℕ) × OffersSpent c word offered × Hits cancelling c word offered d
+IsTryCommit c word commit.Contended d = (offered next : ℕ)
+    × ((OffersConsume c word offered × Misses c word offered d)
+    ⊎ ((OffersPush c word offered next × Misses (storing c next) word offered d)
+    ⊎ (OffersSpent c word offered × Misses c word offered d)))
 
 -- a cancel takes the seat from the pre-waiters
 abbrev pub IsTryCancel : Card → ℕ → TryCancel → Card → Type 0
-IsTryCancel c word cancel.Done d = (offered : ℕ)
-    × (fields_of offered ≡ cancelled (fields_of word)) × Hits cancelling c word offered d
-IsTryCancel c word cancel.Contended d = (offered : ℕ)
-    × (fields_of offered ≡ cancelled (fields_of word)) × Misses c word offered d
+IsTryCancel c word cancel.Done d =
+    (offered : ℕ) × OffersCancel word offered × Hits cancelling c word offered d
+IsTryCancel c word cancel.Contended d =
+    (offered : ℕ) × OffersCancel word offered × Misses c word offered d
 
--- a notification gives a signal where the looked word has a pre-waiter without one, and there is
--- nothing to do exactly where it has nobody to notify
+-- the word offered has one signal more, where the looked one has a pre-waiter without one
+abbrev pub OffersSignal : ℕ → ℕ → Type 0
+OffersSignal word offered = IsNotify (fields_of word) (after_notify.Signalled offered)
+
+-- the word offered has the looked top popped, over the next word that was read with it
+abbrev pub OffersPop : Card → ℕ → ℕ → ℕ → Type 0
+OffersPop c word seat offered = IsNotify (fields_of word) (after_notify.Pop seat)
+    × ((next : ℕ) × (c.next ≡ Some next)
+    × (fields_of offered ≡ popped (fields_of word) (fields_of next)))
+
+-- a notification gives a signal where the looked word has a pre-waiter without one, and else pops
+-- the top; there is nothing to do exactly where the word has nobody to notify
 abbrev pub IsTryNotify : Card → ℕ → TryNotify → Card → Type 0
-IsTryNotify c word notify.Nothing d = IsNotify (fields_of word) after_notify.Nothing × (d ≡ c)
-IsTryNotify c word notify.Signalled d = (offered : ℕ)
-    × IsNotify (fields_of word) (after_notify.Signalled offered) × Hits signalling c word offered d
-IsTryNotify c word (notify.Popped seat) d = ⊥
-IsTryNotify c word notify.Contended d = (offered : ℕ)
-    × IsNotify (fields_of word) (after_notify.Signalled offered) × Misses c word offered d
+IsTryNotify c word notify.Nothing d = IsSettled (fields_of word) × (d ≡ c)
+IsTryNotify c word notify.Signalled d =
+    (offered : ℕ) × OffersSignal word offered × Hits signalling c word offered d
+IsTryNotify c word (notify.Popped seat) d =
+    (offered : ℕ) × OffersPop c word seat offered × Hits popping c word offered d
+IsTryNotify c word notify.Contended d = (offered seat : ℕ)
+    × (OffersSignal word offered ⊎ OffersPop c word seat offered) × Misses c word offered d
 
--- the same seat after looks and exchanges that found another word
-pub record IsLater (c d : Card) : Type 0 where
-  pub number : d.number ≡ c.number
-  pub phase : d.phase ≡ c.phase
-  pub owing : d.owing ≡ c.owing
-  pub events : d.events ≡ c.events
-  pub epoch : d.epoch ≡ c.epoch
-  pub loads : c.loads ≤ d.loads
-  pub exchanges : c.exchanges ≤ d.exchanges
+-- the exchange of a notification of all: where it found the looked word, the seats of that word's
+-- stack are owed, the top first
+abbrev pub MeetsAll : Card → ℕ → ℕ → Bool → Card → Type 0
+MeetsAll c word offered true d = (taken : List ℕ) × NamesFirst c.waiters word taken
+    × Hits (taking taken) c word offered d
+MeetsAll c word offered false d = Misses c word offered d
 
--- an answer to a word that was loaded during the call, before which there were only looks and
--- exchanges that found another word
-abbrev pub Rests : (Card → ℕ → Card → Type 0) → Card → Card → Type 0
-Rests IsAnswer c d =
-    (before : Card) × IsLater c before × ((word : ℕ) × IsAnswer (looking before word) word d)
+-- the word offered has a signal for each pre-waiter, and nobody on the stack
+abbrev pub OffersAll : ℕ → ℕ → Type 0
+OffersAll word offered =
+    IsNotifyAll (fields_of word) (after_all.Taken offered (fields_of word).top)
 
--- a commit that has ended rests on one try that did
-abbrev pub RestsOnCommit : Card → Committed → Card → Type 0
-RestsOnCommit c committed.Consumed d =
-    Rests (λ before word. IsTryCommit before word commit.Consumed) c d
-RestsOnCommit c committed.Unparked d = ⊥
-RestsOnCommit c committed.Spent d =
-    Rests (λ before word. IsTryCommit before word commit.Spent) c d
-
--- a cancel that has ended rests on one try that did
-abbrev pub RestsOnCancel : Card → Card → Type 0
-RestsOnCancel c d =
-    Rests (λ before word. IsTryCancel before word cancel.Done) c d
-
--- a notification that has ended rests on one try that found nothing to do, or gave a signal
-abbrev pub RestsOnNotify : Card → Card → Type 0
-RestsOnNotify c d = Rests
-    (λ before word after. (answer : TryNotify) × (answer ≢ notify.Contended)
-    × IsTryNotify before word answer after) c d
+-- a notification of all answers each pre-waiter and takes the stack; there is nothing to do exactly
+-- where the looked word has nobody to notify
+abbrev pub IsTryNotifyAll : Card → ℕ → TryNotifyAll → Card → Type 0
+IsTryNotifyAll c word notify_all.Nothing d = IsSettled (fields_of word) × (d ≡ c)
+IsTryNotifyAll c word notify_all.Taken d =
+    (offered : ℕ) × OffersAll word offered × MeetsAll c word offered true d
+IsTryNotifyAll c word notify_all.Contended d =
+    (offered : ℕ) × OffersAll word offered × MeetsAll c word offered false d

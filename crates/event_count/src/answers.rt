@@ -45,3 +45,14 @@ pub enum Committed {
     /// The seat has no push left: it cancelled.
     Spent,
 }
+
+/// How a try to notify all ended.
+#[derive(Clone, Copy, Debug, PartialEq, Eq)]
+pub enum TryNotifyAll {
+    /// The looked word has nobody to notify.
+    Nothing,
+    /// Each pre-waiter has a signal, and the notifier owes each seat of the stack an unpark.
+    Taken,
+    /// Another step came between the look and the exchange: nothing has changed.
+    Contended,
+}

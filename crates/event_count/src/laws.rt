@@ -1,5 +1,6 @@
 //! What holds between any two steps on a count's table, whatever threads take them.
 ghost use Rattle.event_count.specs.Laws.{ShowsLawfulWorld, SignalsAreAnswered, PreSeatsWait};
+ghost use Rattle.event_count.specs.Laws.{SeatsStandOnce, PushesFoundNoSignal, CountsFollow};
 
 use crate::rule::{Law, Sizes};
 use crate::view::View;
@@ -19,4 +20,19 @@ pub fn signals_are_answered()
 /// The pre-waiters are the seats whose phase says so, each once.
 pub fn pre_seats_wait()
     ensures { PreSeatsWait ⟦<Law as TableRule<(), View, Sizes>>⟧.holds }
+{}
+
+/// Each seat stands on the stack once at most.
+pub fn seats_stand_once()
+    ensures { SeatsStandOnce ⟦<Law as TableRule<(), View, Sizes>>⟧.holds }
+{}
+
+/// An exchange that pushed a seat found no signal.
+pub fn pushes_found_no_signal()
+    ensures { PushesFoundNoSignal ⟦<Law as TableRule<(), View, Sizes>>⟧.holds }
+{}
+
+/// Each waiter's pushes, takings off the stack, unparks and wakes follow one another.
+pub fn counts_follow()
+    ensures { CountsFollow ⟦<Law as TableRule<(), View, Sizes>>⟧.holds }
 {}

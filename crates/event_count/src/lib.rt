@@ -1,28 +1,85 @@
-//! An event count: threads wait for a condition that others make true, without a lock.
+//! An event count: threads wait for a condition that others make true, without a lock. It is
+//! Eigen's `EventCount.h` over the words of one table.
 //!
-//! The shape is that of Eigen's `EventCount.h`: one packed word has the parked waiters' top, the
-//! pre-waiters and the signals. A waiter does a prewait, checks its condition once more, and then
-//! commits or cancels; a notifier makes the condition true, looks, and notifies. Here nobody parks
-//! yet: a commit that finds no signal cancels, and answers that it is spent.
+//! # Use
+//!
+//! A waiter says that it is about to wait, checks its condition, and then waits or gives up:
+//!
+//!     count.prewait(&mut seat);
+//!     if condition_is_true() {
+//!         count.cancel(rt, &mut seat);
+//!     } else {
+//!         count.commit(rt, &mut seat);
+//!     }
+//!
+//! `commit` sleeps where nobody was notified for it since its prewait. Once it returns the waiter
+//! begins again, since another may have made the condition false meanwhile. A notifier makes the
+//! condition true, and then notifies one waiter or all:
+//!
+//!     make_condition_true();
+//!     count.notify(rt, &mut seat);
+//!
+//! # Words and tokens
+//!
+//! | Word | Bits | Says |
+//! |---|---|---|
+//! | state word | 0 to 13 | the top of the stack of parked waiters, or 16,383 |
+//! | | 14 to 27 | how many pre-waiters there are |
+//! | | 28 to 41 | how many of them have a signal |
+//! | | 42 to 63 | the epoch of the top's push, or 0 |
+//! | next word of a waiter | all | the top and the epoch that were there when it was pushed |
+//! | parker word of a waiter | all | 1 where it has a token |
+//!
+//! | Who waits | Its answer | Who gives it | Who takes it |
+//! |---|---|---|---|
+//! | a pre-waiter | a signal | a notification, to one that has none | a commit |
+//! | | | | a cancel, where all have one |
+//! | a seat on the stack | a token | the notifier that popped or took it | the seat |
+//!
+//! # Why no wake-up is lost
+//!
+//! Every step on a word is sequentially consistent. Say that a waiter's check, after its prewait,
+//! found the condition false, and that it became true only then. The notifier looks after that, so
+//! its word counts the waiter as a pre-waiter, or has it on the stack, or the waiter was answered.
+//!
+//! - Where that word has fewer signals than pre-waiters, the notification adds one. A commit takes
+//!   a signal that it finds, and pushes only by an exchange that found none; so one of the
+//!   pre-waiters takes it, and runs.
+//! - Where each pre-waiter has a signal, none of them will sleep, and the notification pops the top
+//!   of the stack and gives that seat its token.
+//! - Where there is nobody on the stack either, there is nobody to notify.
+//!
+//! A step that comes between a look and its exchange makes the exchange find another word, and the
+//! look is made again. A word can't come back unnoticed: its epoch is that of the top's push, each
+//! push of a seat has an epoch of its own, and a seat that has used all of them never parks again.
 #![tactic(auto)]
 
 mod answers;
 mod count;
+mod exchanges;
 mod fault;
+mod gathering;
 mod laws;
+mod loads;
 mod opening;
 mod plays;
 mod rule;
 mod seat;
 mod tries;
+mod unparks;
 mod view;
+mod wait_point;
 mod waits;
 
-pub use answers::{Committed, TryCancel, TryCommit, TryNotify};
+pub use answers::{Committed, TryCancel, TryCommit, TryNotify, TryNotifyAll};
 pub use count::EventCount;
 pub use event_word::{Event, Phase};
 pub use fault::CountFault;
-pub use laws::{pre_seats_wait, signals_are_answered, table_shows_a_lawful_world};
-pub use rule::{Law, MOST_WAITERS, Sizes};
+pub use laws::{
+    counts_follow, pre_seats_wait, pushes_found_no_signal, seats_stand_once, signals_are_answered,
+    table_shows_a_lawful_world,
+};
+pub use rule::{EPOCHS, Law, MOST_WAITERS, Sizes};
 pub use seat::Seat;
 pub use view::{Card, Exchange, View};
+pub use wait_point::WaitPoint;

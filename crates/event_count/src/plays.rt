@@ -55,3 +55,75 @@ impl Play<(), View> for Signals {
 
     ghost then = { signals };
 }
+
+/// The next word of the looked top is loaded.
+pub struct Reads;
+
+impl Play<(), View> for Reads {
+    ghost use Rattle.event_count.specs.Plays.{reads};
+
+    ghost then = { reads };
+}
+
+/// The seat's own next word is stored.
+pub struct Stores;
+
+impl Play<(), View> for Stores {
+    ghost use Rattle.event_count.specs.Plays.{stores};
+
+    ghost then = { stores };
+}
+
+/// A pre-waiter goes onto the stack, where the word is the looked one.
+pub struct Pushes;
+
+impl Play<(), View> for Pushes {
+    ghost use Rattle.event_count.specs.Plays.{pushes};
+
+    ghost then = { pushes };
+}
+
+/// The top is popped, where the word is the looked one.
+pub struct Pops;
+
+impl Play<(), View> for Pops {
+    ghost use Rattle.event_count.specs.Plays.{pops};
+
+    ghost then = { pops };
+}
+
+/// The first seat owed gets its token.
+pub struct Unparks;
+
+impl Play<(), View> for Unparks {
+    ghost use Rattle.event_count.specs.Plays.{unparks};
+
+    ghost then = { unparks };
+}
+
+/// A seat takes its token.
+pub struct Wakes;
+
+impl Play<(), View> for Wakes {
+    ghost use Rattle.event_count.specs.Plays.{wakes};
+
+    ghost then = { wakes };
+}
+
+/// The next word of the first seat owed is loaded.
+pub struct Follows;
+
+impl Play<(), View> for Follows {
+    ghost use Rattle.event_count.specs.Plays.{follows};
+
+    ghost then = { follows };
+}
+
+/// The stack is taken, where the word is the looked one.
+pub struct TakesAll;
+
+impl Play<(), View> for TakesAll {
+    ghost use Rattle.event_count.specs.Plays.{takes_all};
+
+    ghost then = { takes_all };
+}

@@ -7,18 +7,23 @@ use atomic_table::{Join, Split, TableRule};
 /// and every count of pre-waiters fits.
 pub const MOST_WAITERS: u16 = 16_382;
 
-/// How many words apart two words lie that are used, so that no cache line of 64 bytes has two of
-/// them, wherever the block begins.
+/// The epochs of a seat are below this: its pushes use them from its first on, each once.
+pub const EPOCHS: u32 = 4_194_304;
+
+/// How many words a line has: no cache line of 64 bytes has words of two lines that are used, where
+/// the block begins at an even word.
 pub const LINE: usize = 8;
 
-/// The place of the state word.
+/// The place of the state word. The line of waiter n begins at `LINE * (2 + n)`: its next word, and
+/// then its parker word.
 pub const STATE: usize = LINE;
 
-/// How many seats a count has.
+/// How many seats a count has, and the first epoch of each.
 #[derive(Clone, Copy, Debug, PartialEq, Eq)]
 pub struct Sizes {
     pub waiters: u16,
     pub notifiers: u16,
+    pub first: u32,
 }
 
 /// In every state the table shows a World that one history leads to.

@@ -1,8 +1,14 @@
 //! The right to use a count.
-ghost use Rattle.std.specs.Prelude.{◌≡◌, ◌≢◌, ◌<◌, ◌^◌, ◌↔◌, [], Some, None};
-ghost use Rattle.std.specs.Prelude.{IsSome, IsTrue, option_to_list};
+ghost use Rattle.std.specs.Prelude.{◌≡◌, ◌≢◌, ◌<◌, ◌≤◌, ◌↔◌, [], false, Some, None};
+ghost use Rattle.std.specs.Prelude.{IsSome, IsTrue};
 ghost use Rattle.std.specs.Option.{ForSome};
-ghost use Rattle.event_count.specs.Cards.{only, card_in, Fits};
+ghost use Rattle.event_word.specs.declared.phase.Phase.TheVariants.{Stacked};
+ghost use Rattle.event_word.specs.Fields.{fields_of};
+ghost use Rattle.event_word.specs.Word.{nobody};
+ghost use Rattle.event_count.specs.Limits.{epoch_limit};
+ghost use Rattle.event_count.specs.Places.{words_for};
+ghost use Rattle.event_count.specs.Cards.{only, card_in};
+ghost use Rattle.event_count.specs.Gains.{first_of, behind, Fits};
 
 use crate::view::View;
 use event_word::Phase;
@@ -14,20 +20,34 @@ use event_word::Phase;
 pub struct Seat {
     pub(crate) seat: atomic_table::Seat<(), View>,
     pub(crate) number: u32,
+    // How many seats of its count may wait.
+    pub(crate) waiters: u16,
     pub(crate) phase: Phase,
     // The first seat that it owes an unpark.
     pub(crate) owed: Option<u16>,
+    // Whether those behind that one are found by next words. Else there are none.
+    pub(crate) linked: bool,
     // The epoch of its next push.
     pub(crate) epoch: u32,
     // The word of its last look, until a step uses it up.
     pub(crate) looked: Option<u64>,
+    // The next word of that word's top, where there is one.
+    pub(crate) next: Option<u64>,
     ghost alone: { seat.me.0 ≡ only (card_in seat.me.0) },
     ghost none_held: { seat.me.1 ≡ [] },
+    ghost sized: { (card_in seat.me.0).waiters ≡ waiters },
+    ghost placed: { seat.table_id.words ≡ words_for waiters },
     ghost numbered: { (card_in seat.me.0).number ≡ number },
     ghost phased: { (card_in seat.me.0).phase ≡ phase },
-    ghost owes: { (card_in seat.me.0).owing ≡ option_to_list owed },
-    ghost next_push: { ((card_in seat.me.0).epoch ≡ epoch) × (epoch < 2 ^ 22) },
+    ghost stacked: { phase ≡ Stacked → number < waiters },
+    ghost owes: { owed ≡ first_of (card_in seat.me.0).owing },
+    ghost debt: { ForSome owed (λ other. other < waiters) },
+    ghost chained: { (card_in seat.me.0).linked ≡ linked },
+    ghost alone_owed: { linked ≡ false → behind (card_in seat.me.0).owing ≡ [] },
+    ghost next_push: { ((card_in seat.me.0).epoch ≡ epoch) × (epoch ≤ epoch_limit) },
     ghost keeps: { ForSome looked (λ word. (card_in seat.me.0).looked ≡ word) },
+    ghost below: { (card_in seat.me.0).next ≡ next },
+    ghost reads: { ForSome looked (λ word. (fields_of word).top ≢ nobody → IsSome next) },
     ghost fits: { ForSome looked (Fits (card_in seat.me.0)) },
 }
 
@@ -68,9 +88,13 @@ impl Seat {
         ensures looked { looked_of self.old ≡ Some result }
         ensures used { looked_of self.new ≡ None }
         ensures fits { Fits (card_of self.old) result }
+        ensures word { (card_of self.old).looked ≡ result }
+        ensures reads { (fields_of result).top ≢ nobody → IsSome self.new.next }
+        ensures next { self.new.next ≡ self.old.next }
         ensures seat { self.new.seat ≡ self.old.seat }
         ensures number { self.new.number ≡ self.old.number }
         ensures epoch { self.new.epoch ≡ self.old.epoch }
+        ensures waiters { self.new.waiters ≡ self.old.waiters }
     {
         let Some(word) = self.looked else {
             unreachable!()

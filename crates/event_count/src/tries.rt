@@ -1,36 +1,23 @@
-//! The calls that wait for nobody: each is at most one step on the state word.
-ghost use Rattle.std.specs.Prelude.{◌≡◌, ◌<◌, [], Some, None, IfSome, IsSome, MatchBool};
+//! The tries: each makes at most one exchange of the state word, against the word of a look.
+ghost use Rattle.std.specs.Prelude.{◌≡◌, ◌<◌, [], None, IfSome, IsSome};
 ghost use Rattle.event_word.specs.declared.phase.Phase.TheVariants.{Running, Pre};
 
-use crate::answers::{TryCancel, TryCommit, TryNotify};
+use crate::answers::{TryCancel, TryCommit, TryNotify, TryNotifyAll};
 use crate::count::EventCount;
-use crate::plays::{Cancels, Consumes, Looks, Prewaits, Signals};
-use crate::rule::STATE;
+use crate::plays::Prewaits;
+use crate::rule::{EPOCHS, STATE};
 use crate::seat::Seat;
 use event_word::{
-    AfterCommit, AfterNotify, PRE_WAITER, Phase, after_cancel, after_commit, after_notify,
+    AfterCommit, AfterNotify, AfterNotifyAll, PRE_WAITER, Phase, after_cancel, after_commit,
+    after_notify, after_notify_all, after_pop,
 };
 use std::alloc::Allocator;
 
 impl<A: Allocator> EventCount<A> {
-    ghost use Rattle.event_word.specs.Fields.{fields_of};
-    ghost use Rattle.event_word.specs.Word.{cancelled, consumed, signalled};
-    ghost use Rattle.event_count.specs.Cards.{looking, prewaiting, consuming, cancelling};
-    ghost use Rattle.event_count.specs.Cards.{signalling, Fits};
+    ghost use Rattle.event_count.specs.Gains.{prewaiting};
     ghost use Rattle.event_count.specs.Seats.{card_of, looked_of, sizes_of, IsSeatOf};
-    ghost use Rattle.event_count.specs.Tries.{IsTryCommit, IsTryCancel, IsTryNotify, Meets};
-
-    /// Loads the state word, and keeps it in the seat until a step uses it up.
-    pub fn look(&self, seat: &mut Seat) -> u64
-        requires { IsSeatOf self.now seat.old }
-        ensures of { IsSeatOf self.now seat.new }
-        ensures looked { looked_of seat.new ≡ Some result }
-        ensures card { card_of seat.new ≡ looking (card_of seat.old) result }
-    {
-        let word = self.table.shared.load::<Looks>(&mut seat.seat, STATE);
-        seat.looked = Some(word);
-        word
-    }
+    ghost use Rattle.event_count.specs.Tries.{IsTryCommit, IsTryCancel};
+    ghost use Rattle.event_count.specs.Tries.{IsTryNotify, IsTryNotifyAll};
 
     /// The seat becomes a pre-waiter: from now on it is notified. It then checks its condition, and
     /// commits or cancels.
@@ -50,7 +37,8 @@ impl<A: Allocator> EventCount<A> {
         seat.looked = None;
     }
 
-    /// A pre-waiter that has looked takes a signal, or cancels where there is none.
+    /// A pre-waiter that has looked takes a signal, or goes onto the stack where there is none. It
+    /// is then to sleep until it takes its token. Where its epochs are used up, it cancels.
     pub fn try_commit(&self, seat: &mut Seat) -> TryCommit
         requires of { IsSeatOf self.now seat.old }
         requires pre { (card_of seat.old).phase ≡ Pre }
@@ -61,6 +49,13 @@ impl<A: Allocator> EventCount<A> {
             IsTryCommit (card_of seat.old) word result (card_of seat.new)) }
     {
         let word = seat.take_look();
+        if seat.epoch == EPOCHS {
+            return if self.leave(seat, word, after_cancel(word)) {
+                TryCommit::Spent
+            } else {
+                TryCommit::Contended
+            };
+        }
         match after_commit(word, seat.number as u16, seat.epoch) {
             AfterCommit::Consumed(offered) => {
                 if self.consume(seat, word, offered) {
@@ -69,10 +64,13 @@ impl<A: Allocator> EventCount<A> {
                     TryCommit::Contended
                 }
             }
-            AfterCommit::Pushed { .. } => {
-                let cancelled = after_cancel(word);
-                if self.leave(seat, word, cancelled) {
-                    TryCommit::Spent
+            AfterCommit::Pushed {
+                word: offered,
+                next,
+            } => {
+                self.store_next(seat, next);
+                if self.push(seat, word, offered) {
+                    TryCommit::Pushed
                 } else {
                     TryCommit::Contended
                 }
@@ -98,10 +96,10 @@ impl<A: Allocator> EventCount<A> {
         }
     }
 
-    /// A seat that runs and has looked notifies one pre-waiter that has no signal.
+    /// A seat that runs and has looked notifies one: it gives a pre-waiter that has no signal one,
+    /// or else pops the top of the stack, and then owes that seat an unpark.
     ///
-    /// Where the looked word has none, that is the answer. It speaks of the moment of the look, so
-    /// look after the condition was made true.
+    /// `Nothing` speaks of the moment of the look, so look after the condition was made true.
     pub fn try_notify(&self, seat: &mut Seat) -> TryNotify
         requires of { IsSeatOf self.now seat.old }
         requires running { (card_of seat.old).phase ≡ Running }
@@ -122,68 +120,41 @@ impl<A: Allocator> EventCount<A> {
                     TryNotify::Contended
                 }
             }
-            AfterNotify::Pop(_) => unreachable!(),
+            AfterNotify::Pop(top) => {
+                let Some(next) = seat.next else {
+                    unreachable!()
+                };
+                if self.pop(seat, word, next, after_pop(word, next)) {
+                    TryNotify::Popped(top)
+                } else {
+                    TryNotify::Contended
+                }
+            }
         }
     }
 
-    // A pre-waiter takes a signal: whether the word was still the looked one.
-    fn consume(&self, seat: &mut Seat, word: u64, offered: u64) -> bool
-        requires of { IsSeatOf self.now seat.old }
-        requires pre { (card_of seat.old).phase ≡ Pre }
-        requires used { looked_of seat.old ≡ None }
-        requires some { 0 < (fields_of word).signals }
-        requires offered { fields_of offered ≡ consumed (fields_of word) }
-        ensures of { IsSeatOf self.now seat.new }
-        ensures used { looked_of seat.new ≡ None }
-        ensures card { Meets consuming (card_of seat.old) word offered result (card_of seat.new) }
-    {
-        let found = self
-            .table
-            .shared
-            .compare_exchange::<Consumes>(&mut seat.seat, STATE, word, offered);
-        if found != word {
-            return false;
-        }
-        seat.phase = Phase::Running;
-        true
-    }
-
-    // A pre-waiter leaves: whether the word was still the looked one.
-    fn leave(&self, seat: &mut Seat, word: u64, offered: u64) -> bool
-        requires of { IsSeatOf self.now seat.old }
-        requires pre { (card_of seat.old).phase ≡ Pre }
-        requires used { looked_of seat.old ≡ None }
-        requires offered { fields_of offered ≡ cancelled (fields_of word) }
-        ensures of { IsSeatOf self.now seat.new }
-        ensures used { looked_of seat.new ≡ None }
-        ensures card { Meets cancelling (card_of seat.old) word offered result (card_of seat.new) }
-    {
-        let found = self
-            .table
-            .shared
-            .compare_exchange::<Cancels>(&mut seat.seat, STATE, word, offered);
-        if found != word {
-            return false;
-        }
-        seat.phase = Phase::Running;
-        true
-    }
-
-    // A pre-waiter gets a signal: whether the word was still the looked one.
-    fn signal(&self, seat: &mut Seat, word: u64, offered: u64) -> bool
+    /// A seat that runs and has looked notifies all: each pre-waiter has a signal then, and the
+    /// stack is taken, whose seats are owed an unpark each, the top first.
+    pub fn try_notify_all(&self, seat: &mut Seat) -> TryNotifyAll
         requires of { IsSeatOf self.now seat.old }
         requires running { (card_of seat.old).phase ≡ Running }
-        requires used { looked_of seat.old ≡ None }
-        requires room { (fields_of word).signals < (fields_of word).pre }
-        requires offered { fields_of offered ≡ signalled (fields_of word) }
+        requires owes_none { (card_of seat.old).owing ≡ [] }
+        requires looked { IsSome (looked_of seat.old) }
         ensures of { IsSeatOf self.now seat.new }
         ensures used { looked_of seat.new ≡ None }
-        ensures card { Meets signalling (card_of seat.old) word offered result (card_of seat.new) }
+        ensures answer { IfSome (looked_of seat.old) (λ word.
+            IsTryNotifyAll (card_of seat.old) word result (card_of seat.new)) }
     {
-        let found = self
-            .table
-            .shared
-            .compare_exchange::<Signals>(&mut seat.seat, STATE, word, offered);
-        found == word
+        let word = seat.take_look();
+        match after_notify_all(word) {
+            AfterNotifyAll::Nothing => TryNotifyAll::Nothing,
+            AfterNotifyAll::Taken { word: offered, .. } => {
+                if self.take_all(seat, word, offered) {
+                    TryNotifyAll::Taken
+                } else {
+                    TryNotifyAll::Contended
+                }
+            }
+        }
     }
 }

@@ -12,22 +12,31 @@ pub struct Exchange {
 
 /// What one seat has done, and what it knows of itself.
 pub struct Card {
+    /// How many seats of the count may wait.
+    pub waiters: u64,
     pub number: u64,
     pub phase: Phase,
-    /// The seats that it has popped and not unparked, the next one first.
+    /// The seats that it has popped or taken and not unparked, the next one first.
     pub owing: LinkedList<u64>,
+    /// Whether these are linked by their next words, of which the last says nobody. Else there is
+    /// at most one.
+    pub linked: bool,
     /// Its events, in order.
     pub events: LinkedList<Event>,
-    /// Which of its pushes is the next.
+    /// The epoch of its next push.
     pub epoch: u64,
     /// How often it loaded the state word, and the word that the last load gave.
     pub loads: u64,
     pub looked: u64,
     /// The next word of that word's top, where it was loaded too.
     pub next: Option<u64>,
+    /// The word that it last stored in its next word.
+    pub stored: u64,
     /// How many exchanges it made, and the last of them.
     pub exchanges: u64,
     pub exchange: Exchange,
+    /// How often it swapped its parker word.
+    pub polls: u64,
 }
 
 /// The cards of the seats that a view stands for. A seat in use has its own card alone.

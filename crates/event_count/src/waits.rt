@@ -1,18 +1,22 @@
 //! The calls that may wait: each looks and tries until no other step comes between the two.
 ghost use Rattle.std.specs.Prelude.{◌≡◌, [], None};
-ghost use Rattle.event_word.specs.declared.phase.Phase.TheVariants.{Running, Pre};
+ghost use Rattle.event_word.specs.declared.phase.Phase.TheVariants.{Running, Pre, Stacked};
 
-use crate::answers::{Committed, TryCancel, TryCommit, TryNotify};
+use crate::answers::{Committed, TryCancel, TryCommit, TryNotify, TryNotifyAll};
 use crate::count::EventCount;
+use crate::rule::LINE;
 use crate::seat::Seat;
 use std::alloc::Allocator;
 use std::sync::Wait;
 
 impl<A: Allocator> EventCount<A> {
+    ghost use Rattle.event_count.specs.Gains.{settling};
     ghost use Rattle.event_count.specs.Seats.{card_of, looked_of, IsSeatOf};
-    ghost use Rattle.event_count.specs.Tries.{RestsOnCommit, RestsOnCancel, RestsOnNotify};
+    ghost use Rattle.event_count.specs.Waits.{RestsOnCommit, RestsOnCancel, RestsOnNotify};
+    ghost use Rattle.event_count.specs.Waits.{RestsOnNotifyAll, Sleeps};
 
-    /// A pre-waiter takes a signal, or cancels where there is none.
+    /// A pre-waiter takes a signal, or where there is none goes onto the stack and sleeps until it
+    /// is unparked. Where its epochs are used up, it cancels.
     pub fn commit<R: Wait>(&self, rt: &R, seat: &mut Seat) -> Committed
         requires of { IsSeatOf self.now seat.old }
         requires pre { (card_of seat.old).phase ≡ Pre }
@@ -25,11 +29,31 @@ impl<A: Allocator> EventCount<A> {
             match self.try_commit(seat) {
                 TryCommit::Consumed => return Committed::Consumed,
                 TryCommit::Spent => return Committed::Spent,
-                TryCommit::Pushed => unreachable!(),
+                TryCommit::Pushed => {
+                    self.take_token(rt, seat);
+                    return Committed::Unparked;
+                }
                 TryCommit::Contended => {}
             }
         }
         unreachable!()
+    }
+
+    // A stacked seat sleeps until it has taken its token.
+    fn take_token<R: Wait>(&self, rt: &R, seat: &mut Seat)
+        requires of { IsSeatOf self.now seat.old }
+        requires stacked { (card_of seat.old).phase ≡ Stacked }
+        ensures of { IsSeatOf self.now seat.new }
+        ensures used { looked_of seat.new ≡ None }
+        ensures card { Sleeps (card_of seat.old) (card_of seat.new) }
+    {
+        for _ in rt.forever() {
+            if self.try_take_token(seat) {
+                return;
+            }
+            let place = LINE * (2 + seat.number as usize) + 1;
+            self.table.shared.park(rt, place, 0);
+        }
     }
 
     /// A pre-waiter gives up waiting.
@@ -49,7 +73,13 @@ impl<A: Allocator> EventCount<A> {
         }
     }
 
-    /// Notifies one waiter, where the word of a look that it makes has one to notify.
+    /// Notifies one waiter, where the word of a look that it makes has one to notify, and unparks
+    /// it if it was on the stack.
+    ///
+    /// It needs no fence of its own, as Eigen's does: each step here is sequentially consistent,
+    /// the prewait and the load of this look among them. So if the condition was made true before
+    /// the look, by such a step or under a lock, either the waiter's check comes after it and finds
+    /// the condition true, or its prewait comes before the look, which counts it.
     pub fn notify<R: Wait>(&self, rt: &R, seat: &mut Seat)
         requires of { IsSeatOf self.now seat.old }
         requires running { (card_of seat.old).phase ≡ Running }
@@ -62,8 +92,48 @@ impl<A: Allocator> EventCount<A> {
             self.look(seat);
             match self.try_notify(seat) {
                 TryNotify::Nothing | TryNotify::Signalled => return,
-                TryNotify::Popped(_) => unreachable!(),
+                TryNotify::Popped(_) => {
+                    self.try_unpark_next(seat);
+                    return;
+                }
                 TryNotify::Contended => {}
+            }
+        }
+    }
+
+    /// Notifies all waiters of the word of a look that it makes, and unparks those that were on the
+    /// stack, the top first.
+    pub fn notify_all<R: Wait>(&self, rt: &R, seat: &mut Seat)
+        requires of { IsSeatOf self.now seat.old }
+        requires running { (card_of seat.old).phase ≡ Running }
+        requires owes_none { (card_of seat.old).owing ≡ [] }
+        ensures of { IsSeatOf self.now seat.new }
+        ensures used { looked_of seat.new ≡ None }
+        ensures answer { RestsOnNotifyAll (card_of seat.old) (card_of seat.new) }
+    {
+        for _ in rt.forever() {
+            self.look(seat);
+            match self.try_notify_all(seat) {
+                TryNotifyAll::Nothing => return,
+                TryNotifyAll::Taken => {
+                    self.unpark_all(rt, seat);
+                    return;
+                }
+                TryNotifyAll::Contended => {}
+            }
+        }
+    }
+
+    // Unparks all seats that are owed.
+    fn unpark_all<R: Wait>(&self, rt: &R, seat: &mut Seat)
+        requires of { IsSeatOf self.now seat.old }
+        ensures of { IsSeatOf self.now seat.new }
+        ensures used { looked_of seat.new ≡ None }
+        ensures card { card_of seat.new ≡ settling (card_of seat.old) }
+    {
+        for _ in rt.forever() {
+            if self.try_unpark_next(seat).is_none() {
+                return;
             }
         }
     }

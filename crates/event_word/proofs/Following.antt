@@ -20,7 +20,8 @@ length-leave w r seat p = let one = is_waiting w r seat p in
     let l = length-without seat w.pre (omega arith) in omega arith
 
 -- where no pre-waiter lacks a signal, a notification pops
-notify-pop : (w : World) (actor : ℕ) (stack : List ℕ) → w.signals ≡ length w.pre → w.stack ≡ stack
+pub notify-pop : (w : World) (actor : ℕ) (stack : List ℕ) → w.signals ≡ length w.pre
+    → w.stack ≡ stack
     → effect w (Notify actor) ≡ pop (announced w actor) actor stack
 notify-pop w actor stack full e = let h = announced w actor in
     cond-false (nat_lt w.signals (length w.pre)) (record h { signals = w.signals + 1 })

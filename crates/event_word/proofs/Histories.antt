@@ -25,12 +25,13 @@ Runs-append first [] middle more last r s = subst (λ w. Runs w more last) (sym 
 Runs-append first (x ∷ xs) middle more last r s =
     (r.0, Runs-append (effect first x) xs middle more last r.1 s)
 
-total-replicate : {A : Type 0} (f : A → ℕ) (x : A) (n : ℕ) → f x ≡ 0 → total f (replicate n x) ≡ 0
+pub total-replicate : {A : Type 0} (f : A → ℕ) (x : A) (n : ℕ) → f x ≡ 0
+    → total f (replicate n x) ≡ 0
 total-replicate f x zero e = refl
 total-replicate f x (suc n) e = let r = total-replicate f x n e in omega arith
 
 -- of a list of one value, and past its end, each fact that is so of the value and of the default
-get_or-replicate_either : {A : Type 0} (P : A → Type 0) (x d : A) (n i : ℕ) → P x → P d
+pub get_or-replicate_either : {A : Type 0} (P : A → Type 0) (x d : A) (n i : ℕ) → P x → P d
     → P (get_or (replicate n x) i d)
 get_or-replicate_either P x d zero i p q = q
 get_or-replicate_either P x d (suc n) zero p q = p

@@ -70,11 +70,11 @@ unstopped-le w = total-le-length (λ n. one_if (has_passed_flag w n)) w.pre
     (λ n. one_if-le-one (has_passed_flag w n))
 
 -- the tokens after one of them is set
-token-set : (w : World) (n : ℕ) (b : Bool) → n < length w.tokens
+pub token-set : (w : World) (n : ℕ) (b : Bool) → n < length w.tokens
     → one_if (get_or (set w.tokens n b) n false) ≡ one_if b
 token-set w n b h = ap one_if (get_or-set_same w.tokens n b false h)
 
-token-set_other : (w : World) (n m : ℕ) (b : Bool) → m ≢ n
+pub token-set_other : (w : World) (n m : ℕ) (b : Bool) → m ≢ n
     → one_if (get_or (set w.tokens n b) m false) ≡ one_if (has_token w m)
 token-set_other w n m b ne = ap one_if (get_or-set_other w.tokens n m b false ne)
 

@@ -10,3 +10,4 @@ pub mod Opening
 pub mod Playing
 pub mod Following
 pub mod Counts
+pub mod Balancing

@@ -1,4 +1,5 @@
 // Facts about the event model alone. Each function does nothing, and its contract is the fact.
+ghost use Rattle.event_word.specs.Balance.{RunsBalance};
 ghost use Rattle.event_word.specs.Frame.{EventsLeaveAlone};
 ghost use Rattle.event_word.specs.Runs.{RunsAreLawful};
 ghost use Rattle.event_word.specs.Shown.{WordFollowsWorld};
@@ -16,4 +17,10 @@ pub fn events_leave_others_alone()
 /// What the steps make of a word's fields is what the events make of the World that they show.
 pub fn word_follows_world()
     ensures { WordFollowsWorld }
+{}
+
+/// Over every run from an opening World a seat's pushes, takings off the stack, unparks and wakes
+/// follow one another.
+pub fn runs_balance()
+    ensures { RunsBalance }
 {}

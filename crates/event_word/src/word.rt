@@ -16,7 +16,7 @@ pub struct Fields {
 }
 
 /// The top of an empty stack.
-pub(crate) const NOBODY: u64 = 16_383;
+pub const NOBODY: u64 = 16_383;
 /// One pre-waiter, as a part of a word: what a prewait adds to it.
 pub const PRE_WAITER: u64 = 1 << 14;
 /// One signal, as a part of a word.

@@ -11,6 +11,15 @@ fn seats_and_word<A: Allocator + Clone>(
     Ok((seats.len(), count.close(seats)))
 }
 
+// The same, of a count whose seats have their last epoch.
+fn seats_and_word_at_the_last<A: Allocator + Clone>(
+    alloc: A,
+    waiters: u16,
+) -> Result<(usize, u64), CountFault> {
+    let (count, seats) = EventCount::new_at(alloc, waiters, 1, 4_194_303)?;
+    Ok((seats.len(), count.close(seats)))
+}
+
 // The words take one block, the seats another, and a table two.
 #[test]
 fn each_allocation_of_a_count(rt: HostRuntime) {
@@ -29,4 +38,16 @@ fn too_many_waiters_come_before_memory(rt: HostRuntime) {
     let none = Sparing::new(rt.alloc(), 0);
     let fault = seats_and_word(&none, 16_383);
     assert_eq!(rt; fault, Err(CountFault::TooManyWaiters));
+}
+
+#[test]
+fn each_allocation_of_a_count_at_the_last_epoch(rt: HostRuntime) {
+    for left in 0..4 {
+        let heap = Sparing::new(rt.alloc(), left);
+        let fault = seats_and_word_at_the_last(&heap, 2);
+        assert_eq!(rt; fault, Err(CountFault::NoMemory), "after {left}");
+    }
+    let heap = Sparing::new(rt.alloc(), 4);
+    assert_eq!(rt; seats_and_word_at_the_last(&heap, 2), Ok((3, 0x3FFF)));
+    assert_eq!(rt; seats_and_word_at_the_last(rt.alloc(), 2), Ok((3, 0x3FFF)));
 }

@@ -1,6 +1,6 @@
 -- The same seat, after looks and lost exchanges.
 use Rattle.event_count.specs.Seats.{card_of, IsSeatOf}
-use Rattle.event_count.specs.Tries.{IsLater}
+use Rattle.event_count.specs.Waits.{IsLater}
 use Rattle.event_count.proofs.count.EventCount.cancel.Given as goal
 
 abbrev pub invariant-loop : goal.invariant-loop

@@ -6,5 +6,6 @@ pub fetch_add-requires : goal.fetch_add-requires
 fetch_add-requires g c = (
   search rules,
   search rules,
-  prewait_keeps _ _ _ _ c.args.seat.now.alone c.requires.waiter c.requires.running,
+  prewait_keeps _ _ _ _ c.args.seat.now.alone c.requires.waiter c.requires.running
+      c.requires.owes_none,
 )

@@ -6,6 +6,6 @@ pub compare_exchange-found-requires : goal.compare_exchange-found-requires
 compare_exchange-found-requires g c = (
   search rules,
   search rules,
-  signal_keeps _ _ _ _ c.args.seat.now.alone _ _ c.requires.running c.requires.room
-      c.requires.offered,
+  signal_keeps _ _ _ _ c.args.seat.now.alone _ _ c.requires.running c.requires.owes_none
+      c.requires.room c.requires.offered,
 )

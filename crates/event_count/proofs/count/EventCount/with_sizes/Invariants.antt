@@ -7,10 +7,11 @@ use Rattle.event_count.proofs.count.EventCount.with_sizes.Given as goal
 
 abbrev pub invariant-loop-number : goal.invariant-loop-number
 invariant-loop-number g l = record {
-  cards : map card_of l.seats.items ≡ map fresh (range_with_len 0 l.number);
+  cards : map card_of l.seats.items ≡ map (fresh l.fn.sizes) (range_with_len 0 l.number);
   room : vec_capacity l.seats ≡ l.count;
   ours : All (λ seat. seat_id seat ≡ l.table.shared.table_id) l.seats.items;
   unlooked : All HasNoLook l.seats.items;
   of : l.keeper.table_id ≡ l.table.shared.table_id;
-  left : l.keeper.me ≡ (view (map fresh (range_with_len l.number (l.count - l.number))), []);
+  left : l.keeper.me
+      ≡ (view (map (fresh l.fn.sizes) (range_with_len l.number (l.count - l.number))), []);
 }

@@ -1,0 +1,118 @@
+-- What the history tells of pushes and wakes.
+use Rattle.std.proofs.Common.{◌≡◌, ℕ, ◌+◌, ◌==◌, nat_lt, if◌then◌else◌, Bool, true, false, List, []}
+use Rattle.std.proofs.Common.{◌∷◌, ◌++◌, sym, ap, refl, ◌∙◌, subst, ⊎_elim, arith, ◌-◌}
+use Rattle.std.proofs.Common.{get_or-set_same}
+use Rattle.std.proofs.lemmas.Bool.{cases_lt, lt-ltb, cond-true}
+use Rattle.std.proofs.lemmas.List.Elements.{All-weaker}
+use Rattle.event_word.specs.declared.event.Event.{Event}
+use Rattle.event_word.specs.declared.event.Event.TheVariants.{Publish, Prewait, Pass, PassFlag}
+use Rattle.event_word.specs.declared.event.Event.TheVariants.{Cancel, Commit, Notify, NotifyAll}
+use Rattle.event_word.specs.declared.event.Event.TheVariants.{Unpark, Wake, Take, Stop, End}
+use Rattle.event_word.specs.declared.phase.Phase.TheVariants.{Running, Stacked, Ended}
+use Rattle.event_word.specs.Lists.{one_if}
+use Rattle.event_word.specs.World.{World, phase_of}
+use Rattle.event_word.specs.Step.{Possible, actor_of, effect, leave, park}
+use Rattle.event_word.specs.Runs.{Runs}
+use Rattle.event_word.specs.Balance.{wake_of, over}
+use Rattle.event_word.proofs.Keeps.{pre_known}
+use Rattle.event_word.proofs.Balancing.{balance}
+use Rattle.event_count.specs.declared.rule.Sizes.{Sizes}
+use Rattle.event_count.specs.declared.view.Card.{Card}
+use Rattle.event_count.specs.Known.{first_world, events_of, Agrees}
+use Rattle.event_count.specs.Shown.{ShowsWorld}
+use Rattle.event_count.specs.Counts.{wakes_in, CardCounts}
+use Rattle.event_count.specs.Laws.{SeatsStandOnce, PushesFoundNoSignal, CountsFollow}
+use Rattle.event_count.proofs.Closing.{is_lawful, sleeps-cases}
+
+pub stand_once : SeatsStandOnce ShowsWorld
+stand_once k s shows = (
+  shows.0,
+  shows.1,
+  shows.2,
+  λ seat. let stands = (is_lawful k s shows).0.standing seat in
+      let few = (sleeps-cases (phase_of shows.1 seat)).0 in omega arith,
+)
+
+-- what a run leads to is possible next, if the run goes on so
+Runs-next : (w : World) (before after : List Event) (e : Event) (u last : World)
+    → Runs w before u → Runs w (before ++ e ∷ after) last → Possible u e
+Runs-next w [] after e u last r whole = subst (λ x. Possible x e) r whole.0
+Runs-next w (x ∷ before) after e u last r whole =
+    Runs-next (effect w x) before after e u last r.1 whole.1
+
+-- a commit that leaves its seat stacked found no signal
+pushed_by_none : (u : World) (seat : ℕ) → Possible u (Commit seat)
+    → phase_of (effect u (Commit seat)) seat ≡ Stacked → u.signals ≡ 0
+pushed_by_none u seat may stacked = ⊎_elim
+    (λ some. let known = pre_known u seat may.0 in
+    let took = cond-true (nat_lt 0 u.signals) (leave u seat Running (u.signals - 1)) (park u seat)
+    (lt-ltb 0 u.signals some) in
+    let runs = ap (λ x. phase_of x seat) took ∙ get_or-set_same u.phases seat Running Ended known in
+    absurd (let both = sym runs ∙ stacked in cc))
+    (λ none. omega arith)
+    (cases_lt 0 u.signals)
+
+pub found_no_signal : PushesFoundNoSignal ShowsWorld
+found_no_signal k s shows = (
+  shows.0,
+  shows.1,
+  shows.2,
+  λ before after seat u is r stacked. pushed_by_none u seat
+      (Runs-next (first_world k) before after (Commit seat) u shows.1 r
+      (subst (λ h. Runs (first_world k) h shows.1) is shows.2.runs)) stacked,
+)
+
+-- the wakes of a seat are those of its own events
+module _ (n : ℕ) where
+  -- an event that is none counts nothing
+  none_more : (b : Bool) (e : Event) (events : List Event)
+      → wakes_in (e ∷ events) ≡ wakes_in events
+      → wakes_in (if b then e ∷ events else events) ≡ 0 + wakes_in events
+  none_more true e events none = let same = none in omega arith
+  none_more false e events none = omega arith
+
+  one_more : (b : Bool) (seat : ℕ) (events : List Event)
+      → wakes_in (if b then Wake seat ∷ events else events) ≡ one_if b + wakes_in events
+  one_more true seat events = omega arith
+  one_more false seat events = omega arith
+
+  wakes_in-cons : (w : World) (e : Event) (events : List Event)
+      → wakes_in (if actor_of e == n then e ∷ events else events)
+      ≡ wake_of n w e + wakes_in events
+  wakes_in-cons w (Publish actor row) es = none_more (actor == n) (Publish actor row) es refl
+  wakes_in-cons w (Prewait seat) es = none_more (seat == n) (Prewait seat) es refl
+  wakes_in-cons w (Pass seat row) es = none_more (seat == n) (Pass seat row) es refl
+  wakes_in-cons w (PassFlag seat) es = none_more (seat == n) (PassFlag seat) es refl
+  wakes_in-cons w (Cancel seat) es = none_more (seat == n) (Cancel seat) es refl
+  wakes_in-cons w (Commit seat) es = none_more (seat == n) (Commit seat) es refl
+  wakes_in-cons w (Notify actor) es = none_more (actor == n) (Notify actor) es refl
+  wakes_in-cons w (NotifyAll actor) es = none_more (actor == n) (NotifyAll actor) es refl
+  wakes_in-cons w (Unpark actor) es = none_more (actor == n) (Unpark actor) es refl
+  wakes_in-cons w (Wake seat) es = one_more (seat == n) seat es
+  wakes_in-cons w (Take actor row) es = none_more (actor == n) (Take actor row) es refl
+  wakes_in-cons w (Stop actor) es = none_more (actor == n) (Stop actor) es refl
+  wakes_in-cons w (End seat) es = none_more (seat == n) (End seat) es refl
+
+  wakes_in-events_of : (w : World) (history : List Event)
+      → wakes_in (events_of n history) ≡ over (wake_of n) w history
+  wakes_in-events_of w [] = refl
+  wakes_in-events_of w (e ∷ history) =
+      let here = wakes_in-cons w e (events_of n history) in
+      let rest = wakes_in-events_of (effect w e) history in omega arith
+
+card_counts : (k : Sizes) (history : List Event) (w : World) (c : Card) → Agrees k history w c
+    → CardCounts k history c
+card_counts k history w c agrees = record {
+  pushes = agrees.epoch;
+  wakes = ap wakes_in agrees.events ∙ wakes_in-events_of c.number (first_world k) history;
+}
+
+pub counts_follow : CountsFollow ShowsWorld
+counts_follow k s shows = (
+  shows.0,
+  shows.1,
+  shows.2,
+  λ seat _. balance k.waiters k.notifiers 0 shows.0 shows.1 shows.2.runs seat,
+  λ id v at. All-weaker (Agrees k shows.0 shows.1) (CardCounts k shows.0)
+      (card_counts k shows.0 shows.1) v.cards (shows.2.known id v at),
+)

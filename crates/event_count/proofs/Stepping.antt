@@ -1,0 +1,144 @@
+-- A step on the state word, by the seat of a table, that finds what it expects or misses it.
+use Rattle.std.proofs.Common.{◌≢◌, ◌≡◌, ℕ, ◌==◌, List, [], sym, ap, refl, ◌∙◌, subst}
+use Rattle.std.proofs.Common.{slice_index, arith, MatchBool, eq-eqb, ne_eqb, ◌++◌, slice_set}
+use Rattle.std.proofs.Common.{⊎_elim}
+use Rattle.std.proofs.lemmas.Bool.{cases_eq}
+use mathlib.Core.Option.{some, none}
+use lib.ListN.{get_elem?}
+use prog.Atomic.{either}
+use Rattle.atomic_table.specs.Table.{Act, Valid, carried_after, stepped, step, keeps, Allows}
+use Rattle.atomic_table.proofs.Lists.{exchanged}
+use Rattle.event_word.specs.declared.event.Event.{Event}
+use Rattle.event_word.specs.Fields.{fields_of}
+use Rattle.event_word.specs.Lists.{times}
+use Rattle.event_word.specs.Balance.{push_of, over}
+use Rattle.event_word.specs.Shown.{shown}
+use Rattle.event_word.specs.World.{World}
+use Rattle.event_count.specs.declared.rule.TheConstants.{STATE}
+use Rattle.event_count.specs.declared.rule.Sizes.{Sizes}
+use Rattle.event_count.specs.declared.view.Exchange.{Exchange}
+use Rattle.event_count.specs.declared.view.Card.{Card}
+use Rattle.event_count.specs.declared.view.View.{View}
+use Rattle.event_count.specs.Cards.{exchange_of, only, card_in}
+use Rattle.event_count.specs.Gains.{exchanging}
+use Rattle.event_count.specs.Plays.{Sat, exchanges, reads}
+use Rattle.event_count.specs.Shown.{CountState, ShowsWorld, Shows}
+use Rattle.event_count.specs.Kept.{Knows, Links}
+use Rattle.event_count.specs.Written.{shown_fields}
+use Rattle.event_count.specs.Known.{next_epoch}
+use Rattle.event_count.proofs.Words.{word_shows, knows_on, frame_same, next_state, written_still}
+use Rattle.event_count.proofs.Words.{links_on}
+use Rattle.event_count.proofs.Steps.{Fitting, Wording, acts, fits_none, epochs_after, pushes_none}
+
+module _ (k : Sizes) (s : CountState) (history : List Event) (w : World)
+    (r : Shows k s history w) (id : ℕ) (v : View) (c : Card)
+    (at : get_elem? s.views id ≡ some v) (is : v ≡ only c) where
+  -- the epochs before
+  abbrev es : ℕ → ℕ
+  es = next_epoch k history
+
+  -- events that push nobody leave the epochs
+  pub same_epochs : (events : List Event) (u : World) (d : Card) → Fitting k w u events c d
+      → d.epoch ≡ c.epoch → (n : ℕ) → next_epoch k (history ++ events) n ≡ es n
+  same_epochs events u d f still n =
+      let more = epochs_after k s history w r id v c at is events n in ⊎_elim
+      (λ eq. let mine = f.epoch in
+      let same = ap (λ m. over (push_of m) w events) eq in omega arith)
+      (λ ne. let none = pushes_none c.number n ne w events f.by in omega arith)
+      (cases_eq n c.number)
+
+  -- a new state word with the stack as it was
+  pub state_still : (events : List Event) (u : World) (d : Card) (n : ℕ)
+      → Fitting k w u events c d → d.epoch ≡ c.epoch → u.stack ≡ w.stack → u.tokens ≡ w.tokens
+      → fields_of n ≡ shown u (shown_fields s.words).epoch
+      → (Knows (slice_set s.words STATE n) u (next_epoch k (history ++ events)) c
+      → Knows (slice_set s.words STATE n) u (next_epoch k (history ++ events)) d)
+      → (Links s.words c → Links (slice_set s.words STATE n) d)
+      → Wording k s.words (slice_set s.words STATE n) w u es (next_epoch k (history ++ events)) c d
+  state_still events u d n f still stack tokens shows reads links =
+      let words' = slice_set s.words STATE n in let es' = next_epoch k (history ++ events) in
+      let epochs = same_epochs events u d f still in
+      let frame = frame_same s.words words' w u es es' epochs
+      (λ m there. (let e = ap (times m) stack in omega arith, next_state s.words n m)) in
+      let on : (x : Card) → Knows s.words w es x → Knows words' u es' x = λ x was.
+      knows_on s.words words' w u es es' x.number x.stored x.stored x.looked x.next frame
+      (next_state s.words n x.number ∙ was.stores) was in record {
+        written = written_still k s.words es w r.written u es' n stack tokens epochs shows;
+        mine = λ was. reads (on c was);
+        others = λ x _ was. on x was;
+        links = λ was. links was;
+        others_links = λ x _ _ was.
+            links_on s.words words' x.linked x.owing (λ m _. next_state s.words n m) was;
+      }
+
+module _ (k : Sizes) (slots id : ℕ) (me : Sat) (is : me.0 ≡ only (card_in me.0)) where
+  -- the card of the seat that steps
+  abbrev pub c : Card
+  c = card_in me.0
+
+  -- the table after the word at a place became n, the card d, and no slot was taken
+  abbrev pub After : CountState → ℕ → ℕ → Card → Type 0
+  After s place n d = ShowsWorld k (stepped s place n id me.1 (only d) keeps)
+
+  module _ (s : CountState) (shows : ShowsWorld k s) (at : get_elem? s.views id ≡ some me.0) where
+    -- a step on the state word that is these events, and leaves the stack
+    pub acted : (d : Card) → ((ws : List ℕ) → Links ws c → Links ws d)
+        → (events : List Event) (u : World) (n : ℕ)
+        → Fitting k shows.1 u events c d → d.epoch ≡ c.epoch → u.stack ≡ shows.1.stack
+        → u.tokens ≡ shows.1.tokens → fields_of n ≡ shown u (shown_fields s.words).epoch
+        → (Knows (slice_set s.words STATE n) u (next_epoch k (shows.0 ++ events)) c
+        → Knows (slice_set s.words STATE n) u (next_epoch k (shows.0 ++ events)) d)
+        → After s STATE n d
+    acted d same events u n f still stack tokens is' reads =
+        acts k s shows.0 shows.1 shows.2 id me.0 c at is events u d STATE n me.1 f
+        (state_still k s shows.0 shows.1 shows.2 id me.0 c at is events u d n f still stack tokens
+        is' reads
+        (λ was. same (slice_set s.words STATE n)
+        (links_on s.words (slice_set s.words STATE n) c.linked c.owing
+        (λ m _. next_state s.words n m) was)))
+
+    -- an exchange that found another word
+    pub missed : (x : Exchange) → After s STATE (slice_index s.words STATE) (exchanging c x)
+    missed x = acted (exchanging c x) (λ ws was. was) [] shows.1 (slice_index s.words STATE)
+        (fits_none k s shows.0 shows.1 shows.2 id me.0 c at is (exchanging c x)
+        refl refl refl refl refl refl)
+        refl refl refl (word_shows k s shows) (λ was. was)
+
+  -- an exchange that finds the expected word is what the seat gains by it, and another is no event
+  pub exchange_keeps : (gains : Card → Exchange → Card) (old new : ℕ)
+      → ((s : CountState) → ShowsWorld k s → get_elem? s.views id ≡ some me.0
+      → slice_index s.words STATE ≡ old → After s STATE new (gains c (exchange_of old new old)))
+      → Allows (ShowsWorld k) slots id me STATE (λ n. either (n == old) new n)
+      (exchanges gains (step slots STATE old new none) me)
+  exchange_keeps gains old new wins s shows _ at _ =
+      let word = slice_index s.words STATE in
+      let won = only (gains c (exchange_of old new old)) in
+      let lost : View = only (exchanging c (exchange_of old new word)) in
+      exchanged word old new
+      (λ x. (u : View) × (a : Act (Unit {0})) × Valid s.homes me.1 a
+      × ShowsWorld k (stepped s STATE x id me.1 u a)
+      × exchanges gains (step slots STATE old new none) me word (u, carried_after me.1 a))
+      (λ hit. (
+        won,
+        keeps,
+        tt,
+        wins s shows at hit,
+        (
+          refl,
+          refl,
+          subst (λ b. MatchBool b (won ≡ won) ((word ≢ old) × (won ≡ lost)))
+              (sym (eq-eqb word old hit)) refl,
+        ),
+      ))
+      (λ miss. (
+        lost,
+        keeps,
+        tt,
+        missed s shows at (exchange_of old new word),
+        (
+          refl,
+          refl,
+          subst (λ b. MatchBool b (lost ≡ won) ((word ≢ old) × (lost ≡ lost)))
+              (sym (ne_eqb word old miss)) (miss, refl),
+        ),
+      ))

@@ -1,0 +1,79 @@
+-- What the waiting calls answer, and what they make of the seat.
+use Rattle.std.specs.Prelude.{◌≡◌, ℕ, ◌<◌, ◌≤◌, [], ◌∷◌}
+use Rattle.event_count.specs.declared.answers.TryCommit.TheVariants as commit
+use Rattle.event_count.specs.declared.answers.TryCancel.TheVariants as cancel
+use Rattle.event_count.specs.declared.answers.TryNotify.{TryNotify}
+use Rattle.event_count.specs.declared.answers.TryNotify.TheVariants as notify
+use Rattle.event_count.specs.declared.answers.TryNotifyAll.{TryNotifyAll}
+use Rattle.event_count.specs.declared.answers.TryNotifyAll.TheVariants as notify_all
+use Rattle.event_count.specs.declared.answers.Committed.{Committed}
+use Rattle.event_count.specs.declared.answers.Committed.TheVariants as committed
+use Rattle.event_count.specs.declared.view.Card.{Card}
+use Rattle.event_count.specs.Gains.{IsLook, unparking, settling, waking}
+use Rattle.event_count.specs.Tries.{IsTryCommit, IsTryCancel, IsTryNotify, IsTryNotifyAll}
+
+-- the same seat after looks, exchanges that found another word, and stores in its own next word
+pub record IsLater (c d : Card) : Type 0 where
+  pub waiters : d.waiters ≡ c.waiters
+  pub number : d.number ≡ c.number
+  pub phase : d.phase ≡ c.phase
+  pub owing : d.owing ≡ c.owing
+  pub events : d.events ≡ c.events
+  pub epoch : d.epoch ≡ c.epoch
+  pub polls : d.polls ≡ c.polls
+  pub loads : c.loads ≤ d.loads
+  pub exchanges : c.exchanges ≤ d.exchanges
+
+-- an answer to a word that was looked at during the call, before which there were only looks and
+-- exchanges that found another word
+abbrev pub Rests : (Card → ℕ → Card → Type 0) → Card → Card → Type 0
+Rests IsAnswer c d = (before after : Card) × IsLater c before
+    × ((word : ℕ) × IsLook before word after × IsAnswer after word d)
+
+-- the same seat, once it has swapped its parker word so often
+abbrev pub polled : Card → ℕ → Card
+polled c polls = record c { polls = polls }
+
+-- a seat that was pushed has swapped its parker word until it took its token
+abbrev pub Sleeps : Card → Card → Type 0
+Sleeps c d = (polls : ℕ) × (c.polls < polls) × (d ≡ waking (polled c polls))
+
+-- a commit that has ended rests on one try that did; one that pushed the seat has slept since
+abbrev pub RestsOnCommit : Card → Committed → Card → Type 0
+RestsOnCommit c committed.Consumed d =
+    Rests (λ before word. IsTryCommit before word commit.Consumed) c d
+RestsOnCommit c committed.Unparked d = Rests
+    (λ before word after. (tried : Card) × IsTryCommit before word commit.Pushed tried
+    × Sleeps tried after) c d
+RestsOnCommit c committed.Spent d =
+    Rests (λ before word. IsTryCommit before word commit.Spent) c d
+
+-- a cancel that has ended rests on one try that did
+abbrev pub RestsOnCancel : Card → Card → Type 0
+RestsOnCancel c d = Rests (λ before word. IsTryCancel before word cancel.Done) c d
+
+-- a notification that found nothing to do, or gave a signal, is done; one that popped a seat has
+-- unparked it
+abbrev pub EndsNotify : TryNotify → Card → Card → Type 0
+EndsNotify notify.Nothing c d = d ≡ c
+EndsNotify notify.Signalled c d = d ≡ c
+EndsNotify (notify.Popped seat) c d = (c.owing ≡ seat ∷ []) × (d ≡ unparking c)
+EndsNotify notify.Contended c d = ⊥
+
+-- a notification that has ended rests on one try that did
+abbrev pub RestsOnNotify : Card → Card → Type 0
+RestsOnNotify c d = Rests
+    (λ before word after. (answer : TryNotify) × (tried : Card)
+    × IsTryNotify before word answer tried × EndsNotify answer tried after) c d
+
+-- a notification of all that took the stack has unparked each of its seats
+abbrev pub EndsNotifyAll : TryNotifyAll → Card → Card → Type 0
+EndsNotifyAll notify_all.Nothing c d = d ≡ c
+EndsNotifyAll notify_all.Taken c d = d ≡ settling c
+EndsNotifyAll notify_all.Contended c d = ⊥
+
+-- a notification of all that has ended rests on one try that did
+abbrev pub RestsOnNotifyAll : Card → Card → Type 0
+RestsOnNotifyAll c d = Rests
+    (λ before word after. (answer : TryNotifyAll) × (tried : Card)
+    × IsTryNotifyAll before word answer tried × EndsNotifyAll answer tried after) c d

@@ -1,0 +1,65 @@
+//! A look: the loads that the tries rest on.
+ghost use Rattle.std.specs.Prelude.{◌≡◌, ◌≢◌, Some, None, IsSome};
+ghost use Rattle.std.specs.Option.{ForSome};
+
+use crate::count::EventCount;
+use crate::plays::{Looks, Reads};
+use crate::rule::{LINE, STATE};
+use crate::seat::Seat;
+use event_word::{NOBODY, PRE_WAITER};
+use std::alloc::Allocator;
+
+impl<A: Allocator> EventCount<A> {
+    ghost use Rattle.event_word.specs.Fields.{fields_of};
+    ghost use Rattle.event_word.specs.Word.{nobody};
+    ghost use Rattle.event_count.specs.Gains.{looking, reading, IsLook, Fits};
+    ghost use Rattle.event_count.specs.Seats.{card_of, looked_of, IsSeatOf};
+
+    /// Loads the state word, and keeps it in the seat until a step uses it up. Where somebody is on
+    /// the stack, the top's next word is loaded and kept too.
+    pub fn look(&self, seat: &mut Seat) -> u64
+        requires { IsSeatOf self.now seat.old }
+        ensures of { IsSeatOf self.now seat.new }
+        ensures looked { looked_of seat.new ≡ Some result }
+        ensures card { IsLook (card_of seat.old) result (card_of seat.new) }
+    {
+        let word = self.load_state(seat);
+        if word % PRE_WAITER != NOBODY {
+            self.load_next(seat, word);
+        }
+        seat.looked = Some(word);
+        word
+    }
+
+    // Loads the state word.
+    fn load_state(&self, seat: &mut Seat) -> u64
+        requires { IsSeatOf self.now seat.old }
+        ensures of { IsSeatOf self.now seat.new }
+        ensures card { card_of seat.new ≡ looking (card_of seat.old) result }
+        ensures fits { Fits (card_of seat.new) result }
+        ensures used { looked_of seat.new ≡ None }
+    {
+        let word = self.table.shared.load::<Looks>(&mut seat.seat, STATE);
+        seat.looked = None;
+        seat.next = None;
+        word
+    }
+
+    // Loads the next word of the looked top.
+    fn load_next(&self, seat: &mut Seat, word: u64)
+        requires of { IsSeatOf self.now seat.old }
+        requires looked { (card_of seat.old).looked ≡ word }
+        requires fits { Fits (card_of seat.old) word }
+        requires there { (fields_of word).top ≢ nobody }
+        requires used { looked_of seat.old ≡ None }
+        ensures of { IsSeatOf self.now seat.new }
+        ensures used { looked_of seat.new ≡ None }
+        ensures read { IsSome seat.new.next }
+        ensures card { ForSome seat.new.next (λ next.
+            card_of seat.new ≡ reading (card_of seat.old) next) }
+    {
+        let place = LINE * (2 + (word % PRE_WAITER) as usize);
+        let next = self.table.shared.load::<Reads>(&mut seat.seat, place);
+        seat.next = Some(next);
+    }
+}

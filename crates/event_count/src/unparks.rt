@@ -1,0 +1,102 @@
+//! Unparks and tokens.
+ghost use Rattle.std.specs.Prelude.{◌≡◌, ◌<◌, ◌↔◌, [], true, Some, None, IfNone, MatchBool};
+ghost use Rattle.std.specs.Option.{ForSome};
+ghost use Rattle.event_word.specs.declared.phase.Phase.TheVariants.{Stacked};
+
+use crate::count::EventCount;
+use crate::plays::{Follows, Unparks, Wakes};
+use crate::rule::LINE;
+use crate::seat::Seat;
+use event_word::{NOBODY, PRE_WAITER, Phase};
+use std::alloc::Allocator;
+
+impl<A: Allocator> EventCount<A> {
+    ghost use Rattle.event_count.specs.Gains.{foremost, behind, first_of};
+    ghost use Rattle.event_count.specs.Gains.{polling, unparking, waking};
+    ghost use Rattle.event_count.specs.Seats.{card_of, looked_of, IsSeatOf};
+
+    /// Unparks the first seat that this seat owes an unpark. None: it owes none.
+    ///
+    /// It is one store in the seat's parker word, which gives it its token, and one call of the
+    /// system (some 140 ns), which wakes its thread if it sleeps there. The word says only whether
+    /// there is a token, so it can't tell that nobody sleeps. Where more seats may be owed, one
+    /// load before the store finds the next of them: once the seat has its token it may run, and
+    /// store another next word.
+    pub fn try_unpark_next(&self, seat: &mut Seat) -> Option<u16>
+        requires of { IsSeatOf self.now seat.old }
+        ensures of { IsSeatOf self.now seat.new }
+        ensures used { looked_of seat.new ≡ None }
+        ensures none { result ≡ None ↔ (card_of seat.old).owing ≡ [] }
+        ensures same { IfNone result (card_of seat.new ≡ card_of seat.old) }
+        ensures first { ForSome result (λ other. foremost (card_of seat.old).owing ≡ other) }
+        ensures card { ForSome result (λ _. card_of seat.new ≡ unparking (card_of seat.old)) }
+    {
+        seat.looked = None;
+        let Some(other) = seat.owed else {
+            return None;
+        };
+        let after = if seat.linked {
+            self.load_after(seat, other)
+        } else {
+            None
+        };
+        self.unpark(seat, other, after);
+        Some(other)
+    }
+
+    // The seat behind the first one owed.
+    fn load_after(&self, seat: &mut Seat, other: u16) -> Option<u16>
+        requires of { IsSeatOf self.now seat.old }
+        requires used { looked_of seat.old ≡ None }
+        requires first { seat.old.owed ≡ Some other }
+        requires linked { (card_of seat.old).linked ≡ true }
+        ensures seat { seat.new ≡ seat.old }
+        ensures after { result ≡ first_of (behind (card_of seat.old).owing) }
+        ensures known { ForSome result (λ n. n < seat.old.waiters) }
+    {
+        let place = LINE * (2 + usize::from(other));
+        let next = self.table.shared.load::<Follows>(&mut seat.seat, place);
+        let top = next % PRE_WAITER;
+        if top == NOBODY {
+            None
+        } else {
+            Some(top as u16)
+        }
+    }
+
+    // The first seat owed gets its token, where this one is behind it.
+    fn unpark(&self, seat: &mut Seat, other: u16, after: Option<u16>)
+        requires of { IsSeatOf self.now seat.old }
+        requires used { looked_of seat.old ≡ None }
+        requires first { seat.old.owed ≡ Some other }
+        requires after { after ≡ first_of (behind (card_of seat.old).owing) }
+        requires known { ForSome after (λ n. n < seat.old.waiters) }
+        ensures of { IsSeatOf self.now seat.new }
+        ensures used { looked_of seat.new ≡ None }
+        ensures card { card_of seat.new ≡ unparking (card_of seat.old) }
+    {
+        let place = LINE * (2 + usize::from(other)) + 1;
+        self.table.shared.store::<Unparks>(&mut seat.seat, place, 1);
+        self.table.shared.wake_one(place);
+        seat.owed = after;
+    }
+
+    /// A stacked seat takes its token, where it was unparked.
+    pub fn try_take_token(&self, seat: &mut Seat) -> bool
+        requires of { IsSeatOf self.now seat.old }
+        requires stacked { (card_of seat.old).phase ≡ Stacked }
+        ensures of { IsSeatOf self.now seat.new }
+        ensures used { looked_of seat.new ≡ None }
+        ensures card { MatchBool result (card_of seat.new ≡ waking (polling (card_of seat.old)))
+            (card_of seat.new ≡ polling (card_of seat.old)) }
+    {
+        seat.looked = None;
+        let place = LINE * (2 + seat.number as usize) + 1;
+        let found = self.table.shared.swap::<Wakes>(&mut seat.seat, place, 0);
+        if found == 0 {
+            return false;
+        }
+        seat.phase = Phase::Running;
+        true
+    }
+}
