@@ -13,8 +13,7 @@ use Rattle.event_word.specs.declared.phase.Phase.TheVariants.{Running, Ended}
 use Rattle.event_word.specs.Fields.{fields_of}
 use Rattle.event_word.specs.Word.{nobody}
 use Rattle.event_word.specs.Lists.{one_if, times}
-use Rattle.event_word.proofs.Lists.{one_if-same, one_if-other}
-use Rattle.event_word.proofs.Lists.{get_or-replicate_same}
+use Rattle.event_word.proofs.Lists.{one_if-same, one_if-other, get_or-replicate_same}
 use Rattle.event_count.specs.declared.rule.TheConstants.{STATE}
 use Rattle.event_count.specs.declared.rule.Sizes.{Sizes}
 use Rattle.event_count.specs.declared.view.Card.{Card}

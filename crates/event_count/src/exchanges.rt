@@ -4,7 +4,7 @@ ghost use Rattle.event_word.specs.declared.phase.Phase.TheVariants.{Running, Pre
 
 use crate::count::EventCount;
 use crate::plays::{Cancels, Consumes, Pops, Pushes, Signals, Stores, TakesAll};
-use crate::rule::{LINE, STATE};
+use crate::rule::{STATE, next_word_of};
 use crate::seat::Seat;
 use event_word::{NOBODY, PRE_WAITER, Phase};
 use std::alloc::Allocator;
@@ -51,7 +51,7 @@ impl<A: Allocator> EventCount<A> {
         ensures used { looked_of seat.new ≡ None }
         ensures card { card_of seat.new ≡ storing (card_of seat.old) next }
     {
-        let place = LINE * (2 + seat.number as usize);
+        let place = next_word_of(seat.number);
         self.table
             .shared
             .store::<Stores>(&mut seat.seat, place, next);

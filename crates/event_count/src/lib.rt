@@ -12,12 +12,16 @@
 //!         count.commit(rt, &mut seat);
 //!     }
 //!
-//! `commit` sleeps where nobody was notified for it since its prewait. Once it returns the waiter
-//! begins again, since another may have made the condition false meanwhile. A notifier makes the
-//! condition true, and then notifies one waiter or all:
+//! `commit` sleeps where nobody was notified since its prewait. Once it returns the waiter begins
+//! again, since another may have made the condition false meanwhile. A notifier makes the condition
+//! true, and then notifies one waiter or all:
 //!
 //!     make_condition_true();
 //!     count.notify(rt, &mut seat);
+//!
+//! All waiters of a count wait for one condition. A signal is not addressed: another pre-waiter may
+//! take it, even one that has come since, and then it is that one that checks the condition.
+//! Threads that wait for different conditions need a count each.
 //!
 //! # Words and tokens
 //!
@@ -43,8 +47,8 @@
 //! its word counts the waiter as a pre-waiter, or has it on the stack, or the waiter was answered.
 //!
 //! - Where that word has fewer signals than pre-waiters, the notification adds one. A commit takes
-//!   a signal that it finds, and pushes only by an exchange that found none; so one of the
-//!   pre-waiters takes it, and runs.
+//!   a signal that it finds, and pushes only by an exchange that found none; so some pre-waiter
+//!   takes it, and checks the condition again.
 //! - Where each pre-waiter has a signal, none of them will sleep, and the notification pops the top
 //!   of the stack and gives that seat its token.
 //! - Where there is nobody on the stack either, there is nobody to notify.

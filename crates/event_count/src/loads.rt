@@ -4,7 +4,7 @@ ghost use Rattle.std.specs.Option.{ForSome};
 
 use crate::count::EventCount;
 use crate::plays::{Looks, Reads};
-use crate::rule::{LINE, STATE};
+use crate::rule::{STATE, next_word_of};
 use crate::seat::Seat;
 use event_word::{NOBODY, PRE_WAITER};
 use std::alloc::Allocator;
@@ -58,7 +58,7 @@ impl<A: Allocator> EventCount<A> {
         ensures card { ForSome seat.new.next (λ next.
             card_of seat.new ≡ reading (card_of seat.old) next) }
     {
-        let place = LINE * (2 + (word % PRE_WAITER) as usize);
+        let place = next_word_of((word % PRE_WAITER) as u32);
         let next = self.table.shared.load::<Reads>(&mut seat.seat, place);
         seat.next = Some(next);
     }

@@ -1,4 +1,6 @@
-//! The rule of a count's table, and how its views are cut and put together.
+//! The rule of a count's table, where its words lie, and how its views are cut and put together.
+ghost use Rattle.std.specs.Prelude.{◌≡◌};
+ghost use Rattle.event_count.specs.Places.{next_place, parker_place};
 
 use crate::view::View;
 use atomic_table::{Join, Split, TableRule};
@@ -14,9 +16,22 @@ pub const EPOCHS: u32 = 4_194_304;
 /// the block begins at an even word.
 pub const LINE: usize = 8;
 
-/// The place of the state word. The line of waiter n begins at `LINE * (2 + n)`: its next word, and
-/// then its parker word.
+/// The place of the state word, which has a line of its own.
 pub const STATE: usize = LINE;
+
+// The place of a waiter's next word: its line begins with it.
+pub(crate) fn next_word_of(seat: u32) -> usize
+    ensures { result ≡ next_place seat }
+{
+    LINE * (2 + seat as usize)
+}
+
+// The place of its parker word, beside it.
+pub(crate) fn parker_word_of(seat: u32) -> usize
+    ensures { result ≡ parker_place seat }
+{
+    next_word_of(seat) + 1
+}
 
 /// How many seats a count has, and the first epoch of each.
 #[derive(Clone, Copy, Debug, PartialEq, Eq)]

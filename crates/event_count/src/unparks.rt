@@ -5,7 +5,7 @@ ghost use Rattle.event_word.specs.declared.phase.Phase.TheVariants.{Stacked};
 
 use crate::count::EventCount;
 use crate::plays::{Follows, Unparks, Wakes};
-use crate::rule::LINE;
+use crate::rule::{next_word_of, parker_word_of};
 use crate::seat::Seat;
 use event_word::{NOBODY, PRE_WAITER, Phase};
 use std::alloc::Allocator;
@@ -54,7 +54,7 @@ impl<A: Allocator> EventCount<A> {
         ensures after { result ≡ first_of (behind (card_of seat.old).owing) }
         ensures known { ForSome result (λ n. n < seat.old.waiters) }
     {
-        let place = LINE * (2 + usize::from(other));
+        let place = next_word_of(u32::from(other));
         let next = self.table.shared.load::<Follows>(&mut seat.seat, place);
         let top = next % PRE_WAITER;
         if top == NOBODY {
@@ -75,7 +75,7 @@ impl<A: Allocator> EventCount<A> {
         ensures used { looked_of seat.new ≡ None }
         ensures card { card_of seat.new ≡ unparking (card_of seat.old) }
     {
-        let place = LINE * (2 + usize::from(other)) + 1;
+        let place = parker_word_of(u32::from(other));
         self.table.shared.store::<Unparks>(&mut seat.seat, place, 1);
         self.table.shared.wake_one(place);
         seat.owed = after;
@@ -91,7 +91,7 @@ impl<A: Allocator> EventCount<A> {
             (card_of seat.new ≡ polling (card_of seat.old)) }
     {
         seat.looked = None;
-        let place = LINE * (2 + seat.number as usize) + 1;
+        let place = parker_word_of(seat.number);
         let found = self.table.shared.swap::<Wakes>(&mut seat.seat, place, 0);
         if found == 0 {
             return false;

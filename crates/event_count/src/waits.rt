@@ -4,7 +4,7 @@ ghost use Rattle.event_word.specs.declared.phase.Phase.TheVariants.{Running, Pre
 
 use crate::answers::{Committed, TryCancel, TryCommit, TryNotify, TryNotifyAll};
 use crate::count::EventCount;
-use crate::rule::LINE;
+use crate::rule::parker_word_of;
 use crate::seat::Seat;
 use std::alloc::Allocator;
 use std::sync::Wait;
@@ -51,7 +51,7 @@ impl<A: Allocator> EventCount<A> {
             if self.try_take_token(seat) {
                 return;
             }
-            let place = LINE * (2 + seat.number as usize) + 1;
+            let place = parker_word_of(seat.number);
             self.table.shared.park(rt, place, 0);
         }
     }

@@ -1,6 +1,6 @@
 pub mod Counted
 pub mod Data
-pub mod Elements
+pub mod Forms
 pub mod Grammar
 pub mod Lists
 pub mod Members

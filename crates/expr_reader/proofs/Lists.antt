@@ -2,12 +2,12 @@
 use Rattle.std.proofs.Common.{◌≡◌, ℕ, ◌<◌, List, [], ◌∷◌, ◌++◌, length, Option, Some, None}
 use Rattle.std.proofs.Common.{option_map, option_and_then, refl, ap, sym, ◌∙◌, arith, ℤ, suc, ◌==◌}
 use Rattle.std.proofs.Common.{if◌then◌else◌}
-use Rattle.std.proofs.lemmas.Bool.{ne_eqb, lt-leb}
+use Rattle.std.proofs.lemmas.Bool.{eq-eqb, ne_eqb, lt-leb}
 use Rattle.tensor_ops.specs.Legal.{are_legal}
 use Rattle.serde_json.specs.Data.{Data, Items, no_items, item}
 use Rattle.serde_json.specs.Events.{items_len}
 use Rattle.serde_json.specs.Find.{as_array}
-use Rattle.expr_reader.specs.Fields.{whole_of, signed_of, each_of, cons_of}
+use Rattle.expr_reader.specs.Fields.{whole_of, signed_of, each_of, cons_of, list_in}
 use Rattle.expr_reader.specs.Tensors.{dims_in, values_in}
 
 -- what was taken, before the rest
@@ -38,6 +38,15 @@ values_in-other size d ds is other = rw is (none (each_of signed_of ds) (length-
     none (Some xs) long =
         let differs : length xs ≡ size → ⊥ = λ h. other (sym (long xs refl) ∙ h) in
         rw (ne_eqb (length xs) size differs) refl
+
+-- one of this length has those that it is
+pub values_in-same : (size : ℕ) (d : Data) (ds : Items) → as_array d ≡ Some ds → items_len ds ≡ size → values_in size d ≡ list_in signed_of d
+values_in-same size d ds is same = rw is (some (each_of signed_of ds) (length-each_of signed_of ds))
+  where
+    some : (values : Option (List ℤ)) → ((xs : List ℤ) → values ≡ Some xs → length xs ≡ items_len ds)
+        → option_and_then (λ xs. if length xs == size then Some xs else None) values ≡ values
+    some None long = refl
+    some (Some xs) long = rw (eq-eqb (length xs) size (long xs refl ∙ same)) refl
 
 -- too long a list is no legal dims
 pub dims_in-long : (rank : ℕ) (d : Data) (ds : Items) → as_array d ≡ Some ds → rank < items_len ds → dims_in rank d ≡ None

@@ -1,108 +1,157 @@
 -- The walk over the tree, a node at a time.
-use Rattle.std.proofs.Common.{◌≡◌, ℕ, suc, ◌+◌, ◌<◌, List, length, Some, None, Result, Ok, Err}
-use Rattle.std.proofs.Common.{IsOk, inl, inr, refl, ap, sym, ◌∙◌, arith, add-one}
-use Rattle.std.specs.Option.{option_or, option_map_or}
-use Rattle.std.proofs.lemmas.Bool.{lt-leb, ne_eqb, lt-ltb}
-use Rattle.serde_json.specs.Data.{Data, string, array, Items, no_items, item}
+use Rattle.std.proofs.Common.{◌≡◌, ℕ, zero, suc, ◌+◌, ◌<◌, List, [], ◌∷◌, length, get_or, drop, Vec, Global}
+use Rattle.std.proofs.Common.{Option, Some, None, ok_or, option_and_then, option_map, Err, refl, ap, sym, ◌∙◌, arith}
+use Rattle.std.proofs.lemmas.Bool.{lt-leb, eq-eqb, ne_eqb}
+use Rattle.serde_json.specs.Data.{Data, array, Items, no_items, item}
 use Rattle.serde_json.specs.Events.{items_len}
-use Rattle.tensor_ops.specs.Term.{Term, Binary}
-use Rattle.tensor_ops.specs.Term as term
-use Rattle.tensor_ops.specs.Result.{Shaped, dims_of}
-use Rattle.expr_reader.specs.Faults.{dims_fault}
+use Rattle.serde_json.specs.Find.{get_item}
+use Rattle.serde_json.specs.View.{view, items_view}
+use Rattle.serde_json.specs.declared.value.Value.{Value, Array}
+use Rattle.serde_json.proofs.Views.{view-Array, items_len-items_view}
+use Rattle.tensor_ops.specs.Contents.{Contents}
+use Rattle.tensor_ops.specs.Term.{Term, Unary, Binary, Ternary, unary, binary, ternary}
+use Rattle.expr_reader.specs.Arguments.{Form, Arguments, arguments_in}
 use Rattle.expr_reader.specs.Limits.{most_nodes}
-use Rattle.expr_reader.specs.Node.{nodes_of, operands_of, operation_at, node_fault, term_in}
-use Rattle.expr_reader.specs.Node.{applied, operands_fault, fault_within, fault_at}
-use Rattle.expr_reader.specs.Profile.{Profile, binary}
-use Rattle.expr_reader.specs.Tensors.{Named, number_of}
-use Rattle.expr_reader.proofs.Numbers.{number_of-below}
-use Rattle.expr_reader.specs.Walked.{Branch, IsRead, IsWalked, IsChecked}
+use Rattle.expr_reader.specs.Node.{operation_at, applied, made, checked, tree_at}
+use Rattle.expr_reader.specs.Profile.{Profile}
+use Rattle.expr_reader.specs.Steps.{and_then}
+use Rattle.expr_reader.specs.Table.{Operation, one, two, three, arity_of}
+use Rattle.expr_reader.specs.Tensors.{Named}
 use Rattle.expr_reader.specs.declared.fault.Fault.{Fault}
-use Rattle.expr_reader.specs.declared.fault.Fault.TheVariants.{UnknownOp, BadArity}
+use Rattle.expr_reader.specs.declared.fault.Fault.TheVariants.{BadArity, BadArgument}
 
--- dims are no fault
-dims_fault-IsOk : (dims : Shaped) → IsOk dims → dims_fault dims ≡ None
-dims_fault-IsOk (Ok dims) h = refl
-dims_fault-IsOk (Err fault) h = (cc)
+-- arguments that are read leave the operation's own checks
+pub made-found : (inputs : List Contents) (fs : List Form) (items : Items) (make : Arguments fs → Term) (end : ℕ) (t : Term)
+    → option_map make (arguments_in fs items) ≡ Some t → made inputs fs items make end ≡ checked inputs t end
+made-found inputs fs items make end t found = from (arguments_in fs items) found
+  where
+    from : (there : Option (Arguments fs)) → option_map make there ≡ Some t
+        → and_then (ok_or there BadArgument) (λ a. checked inputs (make a) end) ≡ checked inputs t end
+    from None h = (cc)
+    from (Some a) h = let same : make a ≡ t = cc in ap (λ u. checked inputs u end) same
 
-module _ (profile : Profile) (named : Named) where
-  -- a node before the limit
-  pub fault_at-below : (n : ℕ) (d : Data) → n < most_nodes → fault_at profile named n d ≡ fault_within profile named n d
-  fault_at-below n d below = rw (lt-leb most_nodes n below) refl
+-- each operation has an operand
+no_operand : (o : Operation) → 1 ≡ 1 + arity_of o → ⊥
+no_operand (one forms make) h = omega arith
+no_operand (two forms make) h = omega arith
+no_operand (three forms make) h = omega arith
 
-  module _ (o : Binary) (head a b : Data) (is : operation_at profile head ≡ Some (binary o)) where
-    pub term_in-binary : term_in profile named (array (item head (item a (item b no_items))))
-        ≡ term.binary o (term_in profile named a) (term_in profile named b)
-    term_in-binary = ap (λ op. applied profile named op (item a (item b no_items))) is
+get_or-within : (vs : List Value) (i : ℕ) (d e : Value) → i < length vs → get_or vs i d ≡ get_or vs i e
+get_or-within [] i d e below = absurd (omega arith)
+get_or-within (v ∷ vs) zero d e below = refl
+get_or-within (v ∷ vs) (suc i) d e below = get_or-within vs i d e (omega arith)
 
-    -- the first operand's fault, else the second's, else that of the operation's own checks
-    pub fault_within-binary : (n : ℕ) → fault_within profile named n (array (item head (item a (item b no_items))))
-        ≡ option_or (option_or (fault_at profile named (suc n) a)
-        (option_or (fault_at profile named (suc n + nodes_of (term_in profile named a)) b) None))
-        (dims_fault (dims_of (term.binary o (term_in profile named a) (term_in profile named b)) named.tensors))
-    fault_within-binary n =
-        ap (λ op. option_map_or (λ o. node_fault o 2 (operands_fault profile named (suc n) (operands_of o) (item a (item b no_items)))
-        (dims_of (applied profile named (Some o) (item a (item b no_items))) named.tensors)) op (Some UnknownOp)) is
+-- a node of a known operation, by the elements of its array
+module _ (profile : Profile) (named : Named) (n : ℕ) (below : n < most_nodes) (o : Operation) (v : Value)
+    (list : Vec Value Global) (is : v ≡ Array list)
+    (names : Some o ≡ option_and_then (operation_at profile) (get_item 0 (items_view list.items))) where
+  whole : (vs : List Value) → list.items ≡ vs → view v ≡ array (items_view vs)
+  whole vs same = ap view is ∙ view-Array list ∙ ap (λ l. array (items_view l)) same
 
-    -- a fault in the first operand, in the second, and of the operation
-    module _ (n : ℕ) (below : n < most_nodes) (d : Data) (whole : d ≡ array (item head (item a (item b no_items)))) where
-      pub IsWalked-first : (fault : Fault) → fault_at profile named (n + 1) a ≡ Some fault → fault_at profile named n d ≡ Some fault
-      IsWalked-first fault h =
-          let ahead = rw add-one at h in
-          rw (whole, fault_at-below n (array (item head (item a (item b no_items)))) below, fault_within-binary n, ahead) refl
+  called : (x : Value) (vs : List Value) → list.items ≡ x ∷ vs → operation_at profile (view x) ≡ Some o
+  called x vs same = sym (rw same at names)
 
-      pub IsWalked-second : (first : Branch) → IsRead profile named (n + 1) a first → (fault : Fault)
-          → fault_at profile named first.end b ≡ Some fault → fault_at profile named n d ≡ Some fault
-      IsWalked-second first read fault h =
-          let end : first.end ≡ suc n + nodes_of (term_in profile named a) = read.count ∙ rw (add-one, read.term) refl in
-          let ahead : fault_at profile named (suc n) a ≡ None = rw add-one at read.sound in
-          let behind = rw end at h in
-          rw (whole, fault_at-below n (array (item head (item a (item b no_items)))) below, fault_within-binary n, ahead, behind) refl
+  -- an array of another length
+  pub tree_at-arity : (length list.items ≡ 1 + arity_of o → ⊥) → tree_at profile named n (view v) ≡ Err BadArity
+  tree_at-arity other = from list.items refl names other
+    where
+      from : (vs : List Value) → list.items ≡ vs → Some o ≡ option_and_then (operation_at profile) (get_item 0 (items_view vs))
+          → (length vs ≡ 1 + arity_of o → ⊥) → tree_at profile named n (view v) ≡ Err BadArity
+      from [] same absent other = (cc)
+      from (x ∷ vs) same found other =
+          let differs : items_len (items_view vs) ≡ arity_of o → ⊥ = λ h. other (omega (arith, items_len-items_view vs, h)) in
+          rw (whole (x ∷ vs) same, lt-leb most_nodes n below, called x vs same, ne_eqb (items_len (items_view vs)) (arity_of o) differs) refl
 
-      terms : (first second : Branch) → IsRead profile named (n + 1) a first → IsRead profile named first.end b second
-          → term.binary o first.term second.term ≡ term_in profile named d
-      terms first second one two = rw (one.term, two.term, whole) (sym term_in-binary)
+  -- else it is applied
+  pub tree_at-applied : (x : Value) (vs : List Value) → list.items ≡ x ∷ vs → length vs ≡ arity_of o
+      → tree_at profile named n (view v) ≡ applied profile named n o (items_view vs)
+  tree_at-applied x vs same long =
+      let counted : items_len (items_view vs) ≡ arity_of o = items_len-items_view vs ∙ long in
+      rw (whole (x ∷ vs) same, lt-leb most_nodes n below, called x vs same, eq-eqb (items_len (items_view vs)) (arity_of o) counted) refl
 
-      -- with no fault in the operands there is that of the operation
-      own : (first second : Branch) → IsRead profile named (n + 1) a first → IsRead profile named first.end b second
-          → fault_at profile named n d ≡ dims_fault (dims_of (term.binary o first.term second.term) named.tensors)
-      own first second one two =
-          let end : first.end ≡ suc n + nodes_of (term_in profile named a) = one.count ∙ rw (add-one, one.term) refl in
-          let ahead : fault_at profile named (suc n) a ≡ None = rw add-one at one.sound in
-          let behind = rw end at two.sound in
-          rw (whole, fault_at-below n (array (item head (item a (item b no_items)))) below, fault_within-binary n, ahead, behind, one.term, two.term) refl
+  applied-first : (p : Operation) (a : Data) (rest : Items) (fault : Fault) → items_len (item a rest) ≡ arity_of p
+      → tree_at profile named (n + 1) a ≡ Err fault → applied profile named n p (item a rest) ≡ Err fault
+  applied-first (one forms make) a rest fault long h = rw h refl
+  applied-first (two forms make) a no_items fault long h = absurd (omega arith)
+  applied-first (two forms make) a (item b rest) fault long h = rw h refl
+  applied-first (three forms make) a no_items fault long h = absurd (omega arith)
+  applied-first (three forms make) a (item b no_items) fault long h = absurd (omega arith)
+  applied-first (three forms make) a (item b (item c rest)) fault long h = rw h refl
 
-      pub IsWalked-both : (first second : Branch) → IsRead profile named (n + 1) a first → IsRead profile named first.end b second
-          → (found : Result Branch Fault) → IsChecked (term.binary o first.term second.term) second.end named.tensors found
-          → IsWalked profile named n d found
-      IsWalked-both first second one two (Ok tree) checked =
-          record {
-            sound = own first second one two ∙ dims_fault-IsOk (dims_of (term.binary o first.term second.term) named.tensors) checked.1;
-            term = ap (λ t. t.term) checked.0 ∙ terms first second one two;
-            count = rw checked.0 (omega (arith, one.count, two.count));
-            inputs = rw (checked.0, one.inputs, two.inputs) refl;
-            dims = rw checked.0 checked.1;
-          }
-      IsWalked-both first second one two (Err fault) checked =
-          elim checked [ inl memory ↦ inl memory | inr found ↦ inr (own first second one two ∙ found) ]
+  -- a fault in its first operand
+  pub tree_at-first : (a : Value) → length list.items ≡ 1 + arity_of o → a ≡ get_or list.items 1 a → (fault : Fault)
+      → tree_at profile named (n + 1) (view a) ≡ Err fault → tree_at profile named n (view v) ≡ Err fault
+  tree_at-first a long first fault h = from list.items refl long first
+    where
+      from : (vs : List Value) → list.items ≡ vs → length vs ≡ 1 + arity_of o → a ≡ get_or vs 1 a
+          → tree_at profile named n (view v) ≡ Err fault
+      from [] same long first = absurd (omega arith)
+      from (x ∷ []) same long first = absurd (no_operand o long)
+      from (x ∷ y ∷ vs) same long first =
+          tree_at-applied x (y ∷ vs) same (omega (arith, long))
+          ∙ applied-first o (view y) (items_view vs) fault (ap suc (items_len-items_view vs) ∙ omega (arith, long)) (rw first at h)
 
-  -- an operation with another number of elements behind it
-  pub fault_at-arity : (o : Binary) (n : ℕ) (d head : Data) (rest : Items) → n < most_nodes → d ≡ array (item head rest)
-      → operation_at profile head ≡ Some (binary o) → (items_len rest ≡ 2 → ⊥) → fault_at profile named n d ≡ Some BadArity
-  fault_at-arity o n d head rest below whole is other =
-      rw (whole, fault_at-below n (array (item head rest)) below)
-      (ap (λ op. option_map_or (λ o. node_fault o (items_len rest) (operands_fault profile named (suc n) (operands_of o) rest)
-      (dims_of (applied profile named (Some o) rest) named.tensors)) op (Some UnknownOp)) is
-      ∙ rw (ne_eqb (items_len rest) 2 other) refl)
+module _ (profile : Profile) (named : Named) (n : ℕ) (below : n < most_nodes) (v : Value)
+    (list : Vec Value Global) (is : v ≡ Array list) where
+  -- an operation on one operand, with its arguments
+  pub tree_at-one : (forms : List Form) (make : Arguments forms → Unary) (a : Value)
+      → Some (one forms make) ≡ option_and_then (operation_at profile) (get_item 0 (items_view list.items))
+      → length list.items ≡ 2 + length forms → a ≡ get_or list.items 1 a
+      → tree_at profile named n (view v)
+      ≡ and_then (tree_at profile named (n + 1) (view a)) (λ x.
+      made named.tensors forms (items_view (drop 2 list.items)) (λ args. unary (make args) x.term) x.end)
+  tree_at-one forms make a names long first = from list.items refl long first
+    where
+      from : (vs : List Value) → list.items ≡ vs → length vs ≡ 2 + length forms → a ≡ get_or vs 1 a
+          → tree_at profile named n (view v)
+          ≡ and_then (tree_at profile named (n + 1) (view a)) (λ x.
+          made named.tensors forms (items_view (drop 2 vs)) (λ args. unary (make args) x.term) x.end)
+      from [] same long first = absurd (omega arith)
+      from (x ∷ []) same long first = absurd (omega arith)
+      from (x ∷ y ∷ vs) same long first =
+          rw first (tree_at-applied profile named n below (one forms make) v list is names x (y ∷ vs) same (omega (arith, long)))
 
-  -- a name that has a number
-  pub IsRead-input : (n found : ℕ) (d : Data) (name : List ℕ) → n < most_nodes → d ≡ string name
-      → number_of named.names name ≡ Some found → length named.names ≡ length named.tensors
-      → IsRead profile named n d (record { term = term.input found; end = n + 1 })
-  IsRead-input n found d name below whole is aligned =
-      record {
-        sound = rw (whole, fault_at-below n (string name) below, is) refl;
-        term = rw (whole, is) refl;
-        count = refl;
-        inputs = lt-ltb found (length named.tensors) (rw aligned at (number_of-below named.names name found is));
-        dims = refl;
-      }
+  -- one on two operands, and one on three, without arguments
+  pub tree_at-two : (make : Arguments [] → Binary) (a b : Value)
+      → Some (two [] make) ≡ option_and_then (operation_at profile) (get_item 0 (items_view list.items))
+      → length list.items ≡ 3 → a ≡ get_or list.items 1 a → b ≡ get_or list.items 2 b
+      → tree_at profile named n (view v)
+      ≡ and_then (tree_at profile named (n + 1) (view a)) (λ x. and_then (tree_at profile named x.end (view b)) (λ y.
+      checked named.tensors (binary (make tt) x.term y.term) y.end))
+  tree_at-two make a b names long first second = from list.items refl long first second
+    where
+      from : (vs : List Value) → list.items ≡ vs → length vs ≡ 3 → a ≡ get_or vs 1 a → b ≡ get_or vs 2 b
+          → tree_at profile named n (view v)
+          ≡ and_then (tree_at profile named (n + 1) (view a)) (λ x. and_then (tree_at profile named x.end (view b)) (λ y.
+          checked named.tensors (binary (make tt) x.term y.term) y.end))
+      from [] same long first second = absurd (omega arith)
+      from (x ∷ []) same long first second = absurd (omega arith)
+      from (x ∷ y ∷ []) same long first second = absurd (omega arith)
+      from (x ∷ y ∷ z ∷ []) same long first second =
+          rw (first, second) (tree_at-applied profile named n below (two [] make) v list is names x (y ∷ z ∷ []) same refl)
+      from (x ∷ y ∷ z ∷ w ∷ vs) same long first second = absurd (omega arith)
+
+  pub tree_at-three : (make : Arguments [] → Ternary) (a b c : Value)
+      → Some (three [] make) ≡ option_and_then (operation_at profile) (get_item 0 (items_view list.items))
+      → length list.items ≡ 4 → a ≡ get_or list.items 1 a → b ≡ get_or list.items 2 b → c ≡ get_or list.items 3 c
+      → tree_at profile named n (view v)
+      ≡ and_then (tree_at profile named (n + 1) (view a)) (λ x. and_then (tree_at profile named x.end (view b)) (λ y.
+      and_then (tree_at profile named y.end (view c)) (λ z. checked named.tensors (ternary (make tt) x.term y.term z.term) z.end)))
+  tree_at-three make a b c names long first second third = from list.items refl long first second third
+    where
+      from : (vs : List Value) → list.items ≡ vs → length vs ≡ 4 → a ≡ get_or vs 1 a → b ≡ get_or vs 2 b → c ≡ get_or vs 3 c
+          → tree_at profile named n (view v)
+          ≡ and_then (tree_at profile named (n + 1) (view a)) (λ x. and_then (tree_at profile named x.end (view b)) (λ y.
+          and_then (tree_at profile named y.end (view c)) (λ z. checked named.tensors (ternary (make tt) x.term y.term z.term) z.end)))
+      from [] same long first second third = absurd (omega arith)
+      from (x ∷ []) same long first second third = absurd (omega arith)
+      from (x ∷ y ∷ []) same long first second third = absurd (omega arith)
+      from (x ∷ y ∷ z ∷ []) same long first second third = absurd (omega arith)
+      from (x ∷ y ∷ z ∷ w ∷ []) same long first second third =
+          rw (first, second, third)
+          (tree_at-applied profile named n below (three [] make) v list is names x (y ∷ z ∷ w ∷ []) same refl)
+      from (x ∷ y ∷ z ∷ w ∷ u ∷ vs) same long first second third = absurd (omega arith)
+
+-- what stands at a place of a list, whatever stands for it past the end
+pub get_or-at : (vs : List Value) (i : ℕ) (d : Value) → i < length vs → get_or vs i d ≡ get_or vs i (get_or vs i d)
+get_or-at vs i d below = get_or-within vs i d (get_or vs i d) below

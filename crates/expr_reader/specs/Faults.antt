@@ -1,5 +1,5 @@
 -- The faults of a request text.
-use Rattle.std.specs.Prelude.{ℕ, List, codes, Option, Some, None, Result, Ok, Err}
+use Rattle.std.specs.Prelude.{ℕ, List, codes}
 use Rattle.tensor_ops.specs.declared.fault.ExprFault.{ExprFault}
 use Rattle.tensor_ops.specs.declared.fault.ExprFault.TheVariants as expr
 use Rattle.expr_reader.specs.declared.fault.Fault.{Fault}
@@ -48,8 +48,3 @@ abbrev pub text_fault : ExprFault → Fault
 text_fault expr.ShapeMismatch = ShapeMismatch
 text_fault expr.OutOfRange = OutOfRange
 text_fault expr.TooLarge = TooLarge
-
--- the fault of result dims that are none
-abbrev pub dims_fault : Result (List ℕ) ExprFault → Option Fault
-dims_fault (Ok dims) = None
-dims_fault (Err fault) = Some (text_fault fault)

@@ -5,7 +5,7 @@ use Rattle.std.specs.Str.{is_utf8}
 use Rattle.serde_json.specs.Data.{Data, null, boolean, number, string, array, object, Items}
 use Rattle.serde_json.specs.Data.{no_items, item}
 use Rattle.serde_json.specs.Events.{members_len}
-use Rattle.serde_json.specs.Find.{get, as_number, as_u64, as_i64}
+use Rattle.serde_json.specs.Find.{get, as_array, as_number, as_u64, as_i64}
 use Rattle.serde_json.specs.Read.{read}
 
 -- the data that a text is, where it has a reading
@@ -42,6 +42,10 @@ cons_of head rest = option_and_then (λ x. option_map (λ xs. x ∷ xs) rest) he
 abbrev pub each_of : {A : Type 0} → (Data → Option A) → Items → Option (List A)
 each_of f no_items = Some []
 each_of f (item d ds) = cons_of (f d) (each_of f ds)
+
+-- the same of the items of an array
+abbrev pub list_in : {A : Type 0} → (Data → Option A) → Data → Option (List A)
+list_in f d = option_and_then (each_of f) (as_array d)
 
 -- what follows from a member of this name, where there is one
 abbrev pub with_member : {A : Type 0} → Data → List ℕ → (Data → Option A) → Option A

@@ -1,10 +1,13 @@
 pub use Rattle.tensor_ops.specs.Index
 pub use Rattle.tensor_ops.specs.Legal
 pub use Rattle.tensor_ops.specs.Contents
+pub use Rattle.tensor_ops.specs.Movement
+pub use Rattle.tensor_ops.specs.Shaped
 pub use Rattle.tensor_ops.specs.Term
 pub use Rattle.tensor_ops.specs.Tree
 pub use Rattle.tensor_ops.specs.Result
 pub use Rattle.tensor_ops.specs.Value
+pub mod Arguments
 pub mod Asked
 pub mod Faults
 pub mod Fields
@@ -12,6 +15,8 @@ pub mod Limits
 pub mod Node
 pub mod Profile
 pub mod Request
+pub mod Steps
+pub mod Table
 pub mod Tensors
 -- for private clauses alone
 pub mod Counted

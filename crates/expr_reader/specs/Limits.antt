@@ -12,3 +12,7 @@ greatest_block = 1048576
 -- the most nodes of an expression
 abbrev pub most_nodes : ℕ
 most_nodes = 1000
+
+-- the greatest size that an argument may name
+abbrev pub greatest_size : ℕ
+greatest_size = 9223372036854775807

@@ -1,11 +1,7 @@
 -- What the versions of the text allow.
-use Rattle.std.specs.Prelude.{ℕ, List, [], ◌∷◌, codes, Option, Some, None, ◌==◌, if◌then◌else◌}
+use Rattle.std.specs.Prelude.{ℕ, List, [], ◌∷◌, Option, Some, None, ◌==◌, if◌then◌else◌}
 use Rattle.std.specs.Str.{bytes_eq}
-use Rattle.tensor_ops.specs.Term.{Binary, add}
-
--- an operation, by the kind of its operands and arguments
-pub data Operation : Type 0 where
-  binary : Binary → Operation
+use Rattle.expr_reader.specs.Table.{Operation, operations_1}
 
 -- the greatest number of workers, the highest rank, and the operations by their names
 pub record Profile : Type 0 where
@@ -14,7 +10,7 @@ pub record Profile : Type 0 where
   pub operations : List (List ℕ × Operation)
 
 abbrev pub version_1 : Profile
-version_1 = record { workers = 64; rank = 6; operations = (codes "add", binary add) ∷ [] }
+version_1 = record { workers = 64; rank = 6; operations = operations_1 }
 
 abbrev pub profile_of : ℕ → Option Profile
 profile_of version = if version == 1 then Some version_1 else None

@@ -4,24 +4,24 @@ use Rattle.std.specs.Prelude.{option_map, option_and_then, if◌then◌else◌}
 use Rattle.std.specs.List.{position_from}
 use Rattle.std.specs.Str.{bytes_eq}
 use Rattle.serde_json.specs.Data.{Data, Members, no_members, member}
-use Rattle.serde_json.specs.Find.{as_array, as_object}
+use Rattle.serde_json.specs.Find.{as_object}
 use Rattle.tensor_ops.specs.Index.{size_of}
 use Rattle.tensor_ops.specs.Legal.{are_legal}
 use Rattle.tensor_ops.specs.Contents.{Contents}
 use Rattle.expr_reader.specs.Fields.{has_members, with_member, whole_of, signed_of}
-use Rattle.expr_reader.specs.Fields.{each_of, cons_of}
+use Rattle.expr_reader.specs.Fields.{list_in, cons_of}
 
 -- a list of whole numbers that are legal dims
 abbrev pub dims_in : ℕ → Data → Option (List ℕ)
 dims_in rank d =
     option_and_then (λ dims. if are_legal rank dims then Some dims else None)
-    (option_and_then (each_of whole_of) (as_array d))
+    (list_in whole_of d)
 
 -- a list of this many whole numbers
 abbrev pub values_in : ℕ → Data → Option (List ℤ)
 values_in size d =
     option_and_then (λ values. if length values == size then Some values else None)
-    (option_and_then (each_of signed_of) (as_array d))
+    (list_in signed_of d)
 
 -- as many values as the dims have places
 abbrev pub filled : Data → List ℕ → Option Contents

@@ -1,17 +1,46 @@
 -- The versions and operations of the code, as profiles and operations.
+use Rattle.std.specs.Prelude.{List, [], ◌∷◌}
 use Rattle.tensor_ops.specs.Term as term
+use Rattle.tensor_ops.specs.Term.{each, constant, movement}
+use Rattle.expr_reader.specs.Arguments.{Form, size, sizes, flags, value, Arguments}
 use Rattle.expr_reader.specs.Profile.{Profile, version_1}
-use Rattle.expr_reader.specs.Profile as profile
+use Rattle.expr_reader.specs.Table as table
+use Rattle.expr_reader.specs.Table.{one, three, on_pairs}
 use Rattle.expr_reader.specs.declared.version.Version.{Version}
-use Rattle.expr_reader.specs.declared.version.Version.TheVariants.{One}
-use Rattle.expr_reader.specs.declared.version.Operation.{Operation}
-use Rattle.expr_reader.specs.declared.version.Operation.TheVariants.{Add}
+use Rattle.expr_reader.specs.declared.version.Version.TheVariants as version
+use Rattle.expr_reader.specs.declared.operation.Operation.{Operation}
+use Rattle.expr_reader.specs.declared.operation.Operation.TheVariants.{One, Two, Select}
+use Rattle.expr_reader.specs.declared.operation.Unary.{Unary}
+use Rattle.expr_reader.specs.declared.operation.Unary.TheVariants.{Each, Constant, Broadcast}
+use Rattle.expr_reader.specs.declared.operation.Unary.TheVariants.{Slice, Shuffle, Reshape}
+use Rattle.expr_reader.specs.declared.operation.Unary.TheVariants.{Chip, Reverse}
 
 abbrev pub profile_under : Version → Profile
-profile_under One = version_1
+profile_under version.One = version_1
 
-abbrev pub binary_under : Operation → term.Binary
-binary_under Add = term.add
+-- the forms of the arguments of an operation on one operand
+abbrev pub forms_of : Unary → List Form
+forms_of (Each o) = []
+forms_of Constant = value ∷ []
+forms_of Broadcast = sizes ∷ []
+forms_of Slice = sizes ∷ sizes ∷ []
+forms_of Shuffle = sizes ∷ []
+forms_of Reshape = sizes ∷ []
+forms_of Chip = size ∷ size ∷ []
+forms_of Reverse = flags ∷ []
 
-abbrev pub operation_under : Operation → profile.Operation
-operation_under o = profile.binary (binary_under o)
+-- what its arguments make
+abbrev pub unary_of : (u : Unary) → Arguments (forms_of u) → term.Unary
+unary_of (Each o) none = each o
+unary_of Constant a = constant a.0
+unary_of Broadcast a = movement (term.broadcast a.0)
+unary_of Slice a = movement (term.slice a.0 a.1.0)
+unary_of Shuffle a = movement (term.shuffle a.0)
+unary_of Reshape a = movement (term.reshape a.0)
+unary_of Chip a = movement (term.chip a.0 a.1.0)
+unary_of Reverse a = movement (term.reverse a.0)
+
+abbrev pub operation_under : Operation → table.Operation
+operation_under (One u) = one (forms_of u) (unary_of u)
+operation_under (Two o) = on_pairs o
+operation_under Select = three [] (λ none. term.select)

@@ -2,10 +2,13 @@
 //! is read in one pass, and answered by its request or by its first fault.
 #![tactic(auto)]
 
+mod arguments;
 mod fault;
 mod fields;
+mod items;
 mod named;
 mod node;
+mod operation;
 mod request;
 mod tensors;
 #[cfg(test)]
@@ -26,3 +29,6 @@ pub const MAX_BLOCK: u64 = 1_048_576;
 
 /// The most nodes of an expression.
 pub const MAX_NODES: u64 = 1_000;
+
+/// The greatest size that an argument may name.
+pub const MAX_SIZE: u64 = 9_223_372_036_854_775_807;

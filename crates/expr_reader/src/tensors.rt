@@ -8,6 +8,7 @@ ghost use Rattle.expr_reader.specs.Tensors.{dims_in, values_in, tensor_in};
 
 use crate::fault::Fault;
 use crate::fields::has_members;
+use crate::items::read_list;
 use arrayvec::ArrayVec;
 use serde_json::Value;
 use std::alloc::Global;
@@ -53,10 +54,5 @@ fn read_values(alloc: Global, value: &Value, size: u64) -> Result<Vec<i64>, Faul
     if list.len() as u64 != size {
         return Err(Fault::BadTensor);
     }
-    let mut values = Vec::with_capacity(alloc, list.len()).map_err(|_| Fault::NoMemory)?;
-    for number in list {
-        let number = number.as_i64().ok_or(Fault::BadTensor)?;
-        values.push_reserved(number);
-    }
-    Ok(values)
+    read_list(alloc, value, Fault::BadTensor)
 }

@@ -1,12 +1,11 @@
 //! From the bytes of a text to its request.
 
-ghost use Rattle.std.specs.Prelude.{◌≡◌, ◌+◌, ◌≤◌, ◌⊎◌, Some, None, MatchResult, option_map};
+ghost use Rattle.std.specs.Prelude.{◌≡◌, ◌+◌, ◌≤◌, ◌⊎◌, Ok, Err, MatchResult, option_map};
 ghost use Rattle.serde_json.specs.View.{view};
 ghost use Rattle.expr_reader.specs.Asked.{asked_under};
 ghost use Rattle.expr_reader.specs.Counted.{member_count};
 ghost use Rattle.expr_reader.specs.Limits.{most_bytes};
-ghost use Rattle.expr_reader.specs.Request.{profile_in, fields_fault, fields_asked};
-ghost use Rattle.expr_reader.specs.Request.{fault_of, asked_of};
+ghost use Rattle.expr_reader.specs.Request.{profile_in, fields_asked, request_of};
 ghost use Rattle.expr_reader.specs.Shown.{fields_under};
 ghost use Rattle.expr_reader.specs.Version.{profile_under};
 
@@ -28,8 +27,8 @@ use std::alloc::Global;
 /// tree, or [`Fault::NoMemory`].
 pub fn read_request(alloc: Global, text: &[u8]) -> Result<Request, Fault>
     ensures { MatchResult result
-        (λ request. (fault_of text.now ≡ None) × (asked_of text.now ≡ Some (asked_under request)))
-        (λ fault. (fault ≡ Fault.NoMemory) ⊎ (fault_of text.now ≡ Some fault)) }
+        (λ request. request_of text.now ≡ Ok (asked_under request))
+        (λ fault. (fault ≡ Fault.NoMemory) ⊎ (request_of text.now ≡ Err fault)) }
 {
     if text.len() > MAX_TEXT {
         return Err(Fault::TooLong);
@@ -45,10 +44,9 @@ pub fn read_request(alloc: Global, text: &[u8]) -> Result<Request, Fault>
 fn read_fields(alloc: Global, fields: &Fields<'_>) -> Result<Request, Fault>
     requires { member_count (view fields.now.inputs.now) ≤ most_bytes + 1 }
     ensures { MatchResult result
-        (λ request. (fields_fault (fields_under fields.now) ≡ None)
-        × (fields_asked (fields_under fields.now) ≡ Some (asked_under request)))
+        (λ request. fields_asked (fields_under fields.now) ≡ Ok (asked_under request))
         (λ fault. (fault ≡ Fault.NoMemory)
-        ⊎ (fields_fault (fields_under fields.now) ≡ Some fault)) }
+        ⊎ (fields_asked (fields_under fields.now) ≡ Err fault)) }
 {
     let Some(version) = version_of(fields) else {
         return Err(Fault::BadVersion);

@@ -2,16 +2,13 @@
 
 ghost use Rattle.std.specs.Prelude.{◌≡◌, option_map};
 
+use crate::operation::{Operation, Unary};
+use tensor_ops::{BinaryScalar, UnaryScalar};
+
 /// A version of the text.
 #[derive(Clone, Copy, Debug, Eq, PartialEq)]
 pub(crate) enum Version {
     One,
-}
-
-/// An operation of the text. Each takes two operands and no argument.
-#[derive(Clone, Copy, Debug, Eq, PartialEq)]
-pub(crate) enum Operation {
-    Add,
 }
 
 impl Version {
@@ -52,7 +49,31 @@ impl Version {
             ≡ operation_named name.now (profile_under self).operations }
     {
         match name {
-            "add" => Some(Operation::Add),
+            "neg" => Some(Operation::One(Unary::Each(UnaryScalar::Neg))),
+            "abs" => Some(Operation::One(Unary::Each(UnaryScalar::Abs))),
+            "square" => Some(Operation::One(Unary::Each(UnaryScalar::Square))),
+            "not" => Some(Operation::One(Unary::Each(UnaryScalar::Not))),
+            "add" => Some(Operation::Two(BinaryScalar::Add)),
+            "sub" => Some(Operation::Two(BinaryScalar::Sub)),
+            "mul" => Some(Operation::Two(BinaryScalar::Mul)),
+            "cwise_max" => Some(Operation::Two(BinaryScalar::CwiseMax)),
+            "cwise_min" => Some(Operation::Two(BinaryScalar::CwiseMin)),
+            "lt" => Some(Operation::Two(BinaryScalar::Lt)),
+            "le" => Some(Operation::Two(BinaryScalar::Le)),
+            "eq" => Some(Operation::Two(BinaryScalar::Eq)),
+            "ne" => Some(Operation::Two(BinaryScalar::Ne)),
+            "gt" => Some(Operation::Two(BinaryScalar::Gt)),
+            "ge" => Some(Operation::Two(BinaryScalar::Ge)),
+            "and" => Some(Operation::Two(BinaryScalar::And)),
+            "or" => Some(Operation::Two(BinaryScalar::Or)),
+            "select" => Some(Operation::Select),
+            "constant" => Some(Operation::One(Unary::Constant)),
+            "broadcast" => Some(Operation::One(Unary::Broadcast)),
+            "slice" => Some(Operation::One(Unary::Slice)),
+            "shuffle" => Some(Operation::One(Unary::Shuffle)),
+            "reshape" => Some(Operation::One(Unary::Reshape)),
+            "chip" => Some(Operation::One(Unary::Chip)),
+            "reverse" => Some(Operation::One(Unary::Reverse)),
             _ => None,
         }
     }

@@ -1,2 +1,12 @@
+pub mod AxisLists
 pub mod Evaluated
+pub mod Known
+pub mod Legality
+pub mod Moved
+pub mod Moves
+pub mod Permutations
+pub mod Placings
+pub mod Runs
 pub mod Shapes
+pub mod Soundness
+pub mod Walks

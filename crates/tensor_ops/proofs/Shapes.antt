@@ -1,30 +1,48 @@
--- The dims of an operation and of its operands.
-use Rattle.std.proofs.Common.{◌≡◌, [], Ok, Err, IsOk, refl, inl, inr}
-use Rattle.std.proofs.lemmas.Bool.{cases_Bool}
+-- Result dims that are there, and the values at places of them.
+use Rattle.std.proofs.Common.{◌≡◌, ℕ, ◌<◌, pos, List, [], get_or, Ok, Err, IsOk, refl, ap, sym, ◌∙◌}
 use Rattle.std.specs.Result.{result_unwrap_or}
-use Rattle.std.proofs.lemmas.Slice.Eq.{bytes_eq-Decides}
-use Rattle.std.specs.Str.{bytes_eq}
-use Rattle.tensor_ops.specs.Result.{Shaped, equal_dims, with_both}
+use Rattle.tensor_shape.specs.Index.{size_of, IsIndexOf, place, index_of}
+use Rattle.tensor_shape.proofs.Places.{IsIndexOf-index_of, place-index_of, index_of-place}
+use Rattle.tensor_ops.specs.Contents.{Contents, input_of}
+use Rattle.tensor_ops.specs.Movement.{moved, moved_dims}
+use Rattle.tensor_ops.specs.Result.{dims_of, shape_of}
+use Rattle.tensor_ops.specs.Shaped.{Shaped, with_one}
+use Rattle.tensor_ops.specs.Term.{Term, input, unary, Movement, movement}
+use Rattle.tensor_ops.specs.Value.{value, value_of_place}
+use Rattle.tensor_ops.proofs.Moved.{IsIndexOf-moved}
 
--- both operands have dims, and they are those of the operation
-pub record SameDims (first second whole : Shaped) : Type 0 where
-  pub has_first : IsOk first
-  pub has_second : IsOk second
-  pub of_first : result_unwrap_or whole [] ≡ result_unwrap_or first []
-  pub of_second : result_unwrap_or whole [] ≡ result_unwrap_or second []
+-- dims that are there
+pub Ok-unwrap : (shaped : Shaped) → IsOk shaped → shaped ≡ Ok (result_unwrap_or shaped [])
+Ok-unwrap (Ok d) h = refl
+Ok-unwrap (Err fault) h = (cc)
 
--- where the operation on equal dims has dims
-pub with_both-equal_dims : (first second : Shaped) → IsOk (with_both equal_dims first second)
-    → SameDims first second (with_both equal_dims first second)
-with_both-equal_dims (Ok d) (Ok e) h =
-    elim (cases_Bool (bytes_eq d e)) [
-      | inl same ↦ rw same (record {
-        has_first = refl;
-        has_second = refl;
-        of_first = refl;
-        of_second = (bytes_eq-Decides d e).0 same;
-      })
-      | inr other ↦ let bad = rw other at h in (cc)
-    ]
-with_both-equal_dims (Ok d) (Err f) h = (cc)
-with_both-equal_dims (Err f) second h = (cc)
+-- an operation on one operand has dims only where that has
+pub with_one-known : (own : List ℕ → Shaped) (first : Shaped) → IsOk (with_one own first)
+    → (IsOk first) × (with_one own first ≡ own (result_unwrap_or first []))
+with_one-known own (Ok d) h = (refl, refl)
+with_one-known own (Err fault) h = (cc)
+
+-- the place of the operand, of these dims, that is read for a place of the result
+abbrev pub place_read : Movement → List ℕ → ℕ → ℕ
+place_read m ds p = place ds (moved m ds (index_of (result_unwrap_or (moved_dims m ds) []) p))
+
+module _ (inputs : List Contents) where
+  -- the value of an input at a place
+  pub value_of_place-input : (n p : ℕ) → p < size_of (input_of inputs n).dims
+      → value_of_place (input n) inputs p ≡ get_or (input_of inputs n).values p (pos 0)
+  value_of_place-input n p below = ap (λ q. get_or (input_of inputs n).values q (pos 0)) (place-index_of (input_of inputs n).dims p below)
+
+  -- the value of a movement at a place
+  pub value_of_place-movement : (m : Movement) (a : Term) (p : ℕ) → IsOk (dims_of (unary (movement m) a) inputs)
+      → p < size_of (shape_of (unary (movement m) a) inputs)
+      → value_of_place (unary (movement m) a) inputs p ≡ value_of_place a inputs (place_read m (shape_of a inputs) p)
+  value_of_place-movement m a p has_dims below =
+      let ds : List ℕ = shape_of a inputs in
+      let es : List ℕ = result_unwrap_or (moved_dims m ds) [] in
+      let known = with_one-known (moved_dims m) (dims_of a inputs) has_dims in
+      let shape : shape_of (unary (movement m) a) inputs ≡ es = ap (λ r. result_unwrap_or r []) known.1 in
+      let dims : moved_dims m ds ≡ Ok es = Ok-unwrap (moved_dims m ds) (rw known.1 at has_dims) in
+      let within : p < size_of es = rw shape at below in
+      let inside : IsIndexOf ds (moved m ds (index_of es p)) = IsIndexOf-moved m ds es (index_of es p) dims (IsIndexOf-index_of es p within) in
+      ap (λ s. value a inputs (moved m ds (index_of s p))) shape
+      ∙ ap (value a inputs) (sym (index_of-place ds (moved m ds (index_of es p)) inside))

@@ -1,33 +1,39 @@
 -- The result dims of a term, or its first fault.
-use Rattle.std.specs.Prelude.{ℕ, List, [], Result, Ok, Err, nat_eq, if◌then◌else◌}
+use Rattle.std.specs.Prelude.{ℕ, List, [], ◌∷◌, Ok}
 use Rattle.std.specs.Result.{result_unwrap_or}
-use Rattle.std.specs.Cmp.Lexicographic.{pointwise}
 use Rattle.tensor_ops.specs.Contents.{Contents, input_of}
-use Rattle.tensor_ops.specs.Term.{Term, input, binary}
-use Rattle.tensor_ops.specs.declared.fault.ExprFault.{ExprFault}
-use Rattle.tensor_ops.specs.declared.fault.ExprFault.TheVariants.{ShapeMismatch}
+use Rattle.tensor_ops.specs.Movement.{moved_dims}
+use Rattle.tensor_ops.specs.Shaped.{Shaped, with_one, with_two, with_three, equal_dims}
+use Rattle.tensor_ops.specs.Term.{Term, input, unary, binary, ternary}
+use Rattle.tensor_ops.specs.Term.{Unary, each, constant, movement}
+use Rattle.tensor_ops.specs.Term.{Binary, pairwise, Ternary, select}
 
--- result dims, or a fault
-abbrev pub Shaped : Type 0
-Shaped = Result (List ℕ) ExprFault
+-- what an operation says of the dims of its operands: its own dims, or the first of its own faults
+abbrev pub unary_dims : Unary → List ℕ → Shaped
+unary_dims (each o) d = Ok d
+unary_dims (constant v) d = Ok d
+unary_dims (movement m) d = moved_dims m d
 
--- the first fault of the two, or what the operation says of both dims
-abbrev pub with_second : (List ℕ → Shaped) → Shaped → Shaped
-with_second own (Ok e) = own e
-with_second own (Err fault) = Err fault
+abbrev pub binary_dims : Binary → List ℕ → List ℕ → Shaped
+binary_dims (pairwise o) d e = equal_dims d e
 
-abbrev pub with_both : (List ℕ → List ℕ → Shaped) → Shaped → Shaped → Shaped
-with_both own (Ok d) second = with_second (own d) second
-with_both own (Err fault) second = Err fault
-
--- an operation on two tensors wants equal dims
-abbrev pub equal_dims : List ℕ → List ℕ → Shaped
-equal_dims d e = if pointwise nat_eq d e then Ok d else Err ShapeMismatch
+abbrev pub ternary_dims : Ternary → List ℕ → List ℕ → List ℕ → Shaped
+ternary_dims select c d e = with_one (λ both. equal_dims both e) (equal_dims c d)
 
 -- operands are looked at from the left, each wholly, and then the operation's own checks are made
 abbrev pub dims_of : Term → List Contents → Shaped
 dims_of (input n) inputs = Ok (input_of inputs n).dims
-dims_of (binary o a b) inputs = with_both equal_dims (dims_of a inputs) (dims_of b inputs)
+dims_of (unary o a) inputs = with_one (unary_dims o) (dims_of a inputs)
+dims_of (binary o a b) inputs = with_two (binary_dims o) (dims_of a inputs) (dims_of b inputs)
+dims_of (ternary o a b c) inputs =
+    with_three (ternary_dims o) (dims_of a inputs) (dims_of b inputs) (dims_of c inputs)
+
+-- the dims of a term's operands, or their faults
+abbrev pub operand_dims : Term → List Contents → List Shaped
+operand_dims (input n) inputs = []
+operand_dims (unary o a) inputs = dims_of a inputs ∷ []
+operand_dims (binary o a b) inputs = dims_of a inputs ∷ dims_of b inputs ∷ []
+operand_dims (ternary o a b c) inputs = dims_of a inputs ∷ dims_of b inputs ∷ dims_of c inputs ∷ []
 
 -- the result dims, where there are any
 abbrev pub shape_of : Term → List Contents → List ℕ

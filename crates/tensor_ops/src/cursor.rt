@@ -1,16 +1,17 @@
 //! The value of an expression at one place.
 
 ghost use Rattle.std.specs.Prelude.{◌≡◌, ◌<◌, List, ℕ, length, IsTrue, IsOk};
-ghost use Rattle.tensor_shape.specs.Index.{size_of, IsIndexOf, place, index_of};
+ghost use Rattle.tensor_shape.specs.Index.{size_of, IsIndexOf, place};
 ghost use Rattle.tensor_ops.specs.Term.{has_inputs};
 ghost use Rattle.tensor_ops.specs.Tree.{term_of};
 ghost use Rattle.tensor_ops.specs.Result.{dims_of, shape_of};
-ghost use Rattle.tensor_ops.specs.Value.{value};
+ghost use Rattle.tensor_ops.specs.Value.{value, value_of_place};
 
-use crate::arithmetic::sum_of;
 use crate::expr::Expr;
 use crate::inputs::Inputs;
-use std::alloc::Global;
+use crate::moved_index::moved_place;
+use crate::node::{Binary, Node, Ternary, Unary};
+use crate::operations::{applied, combined, is_true};
 
 /// An expression that has result dims, over its inputs. It gives one value at a time and takes no
 /// memory.
@@ -38,7 +39,8 @@ impl<'a> Cursor<'a> {
     /// The value at a place of the result, which is that at the index list of the place.
     pub fn value(&self, linear: u64) -> i64
         requires { linear < size_of (shape_of (term_under self.now) (inputs_under self.now)) }
-        ensures { (index : List ℕ) → IsIndexOf (shape_of (term_under self.now) (inputs_under self.now)) index
+        ensures { (index : List ℕ)
+            → IsIndexOf (shape_of (term_under self.now) (inputs_under self.now)) index
             → place (shape_of (term_under self.now) (inputs_under self.now)) index ≡ linear
             → result ≡ value (term_under self.now) (inputs_under self.now) index }
     {
@@ -51,14 +53,30 @@ fn value_at(expr: &Expr, inputs: &Inputs, place: u64) -> i64
     requires inputs { IsTrue (has_inputs (term_of expr.now) (length inputs.now)) }
     requires dims { IsOk (dims_of (term_of expr.now) inputs.now) }
     requires below { place < size_of (shape_of (term_of expr.now) inputs.now) }
-    ensures { result ≡ value (term_of expr.now) inputs.now (index_of (shape_of (term_of expr.now) inputs.now) place) }
+    ensures { result ≡ value_of_place (term_of expr.now) inputs.now place }
 {
-    match expr {
-        Expr::Input(number) => inputs.get(*number).values()[place as usize],
-        Expr::Add(left, right) => {
-            let left = value_at(left, inputs, place);
-            let right = value_at(right, inputs, place);
-            sum_of(left, right)
+    match expr.node() {
+        Node::Input(number) => inputs.get(number).values()[place as usize],
+        Node::Unary(Unary::Each(operation), a) => applied(operation, value_at(a, inputs, place)),
+        Node::Unary(Unary::Constant(value), _) => value,
+        Node::Unary(Unary::Move(movement), a) => {
+            let Ok(dims) = a.dims(inputs) else {
+                unreachable!()
+            };
+            let read = moved_place(movement, &dims, place);
+            value_at(a, inputs, read)
+        }
+        Node::Binary(Binary::Pairwise(operation), a, b) => {
+            let first = value_at(a, inputs, place);
+            let second = value_at(b, inputs, place);
+            combined(operation, first, second)
+        }
+        Node::Ternary(Ternary::Select, c, a, b) => {
+            if is_true(value_at(c, inputs, place)) {
+                value_at(a, inputs, place)
+            } else {
+                value_at(b, inputs, place)
+            }
         }
     }
 }

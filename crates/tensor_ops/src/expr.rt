@@ -1,49 +1,159 @@
-//! Expressions and their result dims.
+//! Expressions. Only this module lists the operations.
 
-ghost use Rattle.std.specs.Prelude.{◌≡◌, List, ℕ, length, Ok, IsTrue};
-ghost use Rattle.tensor_ops.specs.Term.{has_inputs};
-ghost use Rattle.tensor_ops.specs.Tree.{term_of};
-ghost use Rattle.tensor_ops.specs.Result.{dims_of, equal_dims};
+ghost use Rattle.std.specs.Prelude.{◌≡◌};
+ghost use Rattle.tensor_ops.specs.Term.{unary, binary, each, movement, pairwise};
+ghost use Rattle.tensor_ops.specs.Tree.{term_of, movement_at, term_at};
 
-use crate::fault::ExprFault;
-use crate::inputs::Inputs;
+use crate::node::{Binary, Movement, Node, Ternary, Unary};
+use crate::operations::{BinaryScalar, UnaryScalar};
 use std::alloc::Global;
-use tensor_shape::Dims;
 
-/// A tree of operations over inputs, a variant an operation.
+/// A tree of operations over inputs, a variant an operation. Values are of the `i64` range, and
+/// operations on them are modulo 2^64. A value is true where it isn't 0; true is written as 1.
 #[derive(Drop)]
 pub enum Expr {
     /// The input of this number.
     Input(u32),
-    /// The sum of two tensors of equal dims, value by value, modulo 2^64.
+    /// Each value, negated.
+    Neg(Box<Expr>),
+    /// The absolute value of each.
+    Abs(Box<Expr>),
+    /// Each value times itself.
+    Square(Box<Expr>),
+    /// Whether each value is 0.
+    Not(Box<Expr>),
+    /// The sum of two tensors of equal dims, value by value.
     Add(Box<Expr>, Box<Expr>),
+    /// The first less the second.
+    Sub(Box<Expr>, Box<Expr>),
+    /// The product.
+    Mul(Box<Expr>, Box<Expr>),
+    /// The greater of two values.
+    CwiseMax(Box<Expr>, Box<Expr>),
+    /// The lesser of two values.
+    CwiseMin(Box<Expr>, Box<Expr>),
+    /// Whether the first is below the second.
+    Lt(Box<Expr>, Box<Expr>),
+    /// Whether the first is at most the second.
+    Le(Box<Expr>, Box<Expr>),
+    /// Whether both are equal.
+    Eq(Box<Expr>, Box<Expr>),
+    /// Whether both are not equal.
+    Ne(Box<Expr>, Box<Expr>),
+    /// Whether the first is above the second.
+    Gt(Box<Expr>, Box<Expr>),
+    /// Whether the first is at least the second.
+    Ge(Box<Expr>, Box<Expr>),
+    /// Whether both are true.
+    And(Box<Expr>, Box<Expr>),
+    /// Whether one is true.
+    Or(Box<Expr>, Box<Expr>),
+    /// The second's value where the first's is true, and else the third's; three of equal dims.
+    Select(Box<Expr>, Box<Expr>, Box<Expr>),
+    /// This value everywhere.
+    Constant(Box<Expr>, i64),
+    /// The operand, so many times along each axis.
+    Broadcast(Box<Expr>, Vec<u64>),
+    /// The part that starts at these offsets and has these extents.
+    Slice(Box<Expr>, Vec<u64>, Vec<u64>),
+    /// The operand with its axes in this order.
+    Shuffle(Box<Expr>, Vec<u64>),
+    /// The values, in order of their places, over dims of these sizes.
+    Reshape(Box<Expr>, Vec<u64>),
+    /// What stands at this offset along this axis, which is gone then.
+    Chip(Box<Expr>, u64, u64),
+    /// The operand, turned round along the axes that are flagged.
+    Reverse(Box<Expr>, Vec<bool>),
 }
 
 impl Expr {
-    /// The dims of the result, or the first fault: operands are looked at from the left, each
-    /// wholly, before the operation's own checks. Takes no memory.
-    pub fn dims(&self, inputs: &Inputs) -> Result<Dims, ExprFault>
-        requires { IsTrue (has_inputs (term_of self.now) (length inputs.now)) }
-        ensures { result ≡ dims_of (term_of self.now) inputs.now }
+    /// An operation on each value.
+    pub fn each(operation: UnaryScalar, operand: Box<Expr>) -> Expr
+        ensures { term_of result ≡ unary (each operation) (term_of operand.value) }
+    {
+        match operation {
+            UnaryScalar::Neg => Expr::Neg(operand),
+            UnaryScalar::Abs => Expr::Abs(operand),
+            UnaryScalar::Square => Expr::Square(operand),
+            UnaryScalar::Not => Expr::Not(operand),
+        }
+    }
+
+    /// An operation on each two values of two tensors of equal dims.
+    pub fn pairwise(operation: BinaryScalar, left: Box<Expr>, right: Box<Expr>) -> Expr
+        ensures { term_of result
+            ≡ binary (pairwise operation) (term_of left.value) (term_of right.value) }
+    {
+        match operation {
+            BinaryScalar::Add => Expr::Add(left, right),
+            BinaryScalar::Sub => Expr::Sub(left, right),
+            BinaryScalar::Mul => Expr::Mul(left, right),
+            BinaryScalar::CwiseMax => Expr::CwiseMax(left, right),
+            BinaryScalar::CwiseMin => Expr::CwiseMin(left, right),
+            BinaryScalar::Lt => Expr::Lt(left, right),
+            BinaryScalar::Le => Expr::Le(left, right),
+            BinaryScalar::Eq => Expr::Eq(left, right),
+            BinaryScalar::Ne => Expr::Ne(left, right),
+            BinaryScalar::Gt => Expr::Gt(left, right),
+            BinaryScalar::Ge => Expr::Ge(left, right),
+            BinaryScalar::And => Expr::And(left, right),
+            BinaryScalar::Or => Expr::Or(left, right),
+        }
+    }
+
+    /// The operation and its operands.
+    pub(crate) fn node(&self) -> Node<'_>
+        ensures { term_at result ≡ term_of self.now }
     {
         match self {
-            Expr::Input(number) => Ok(inputs.get(*number).dims().copied()),
-            Expr::Add(left, right) => {
-                let left = left.dims(inputs)?;
-                let right = right.dims(inputs)?;
-                equal_dims(left, &right)
-            }
+            Expr::Input(number) => Node::Input(*number),
+            Expr::Neg(a) => applied(UnaryScalar::Neg, a),
+            Expr::Abs(a) => applied(UnaryScalar::Abs, a),
+            Expr::Square(a) => applied(UnaryScalar::Square, a),
+            Expr::Not(a) => applied(UnaryScalar::Not, a),
+            Expr::Add(a, b) => combined(BinaryScalar::Add, a, b),
+            Expr::Sub(a, b) => combined(BinaryScalar::Sub, a, b),
+            Expr::Mul(a, b) => combined(BinaryScalar::Mul, a, b),
+            Expr::CwiseMax(a, b) => combined(BinaryScalar::CwiseMax, a, b),
+            Expr::CwiseMin(a, b) => combined(BinaryScalar::CwiseMin, a, b),
+            Expr::Lt(a, b) => combined(BinaryScalar::Lt, a, b),
+            Expr::Le(a, b) => combined(BinaryScalar::Le, a, b),
+            Expr::Eq(a, b) => combined(BinaryScalar::Eq, a, b),
+            Expr::Ne(a, b) => combined(BinaryScalar::Ne, a, b),
+            Expr::Gt(a, b) => combined(BinaryScalar::Gt, a, b),
+            Expr::Ge(a, b) => combined(BinaryScalar::Ge, a, b),
+            Expr::And(a, b) => combined(BinaryScalar::And, a, b),
+            Expr::Or(a, b) => combined(BinaryScalar::Or, a, b),
+            Expr::Select(c, a, b) => Node::Ternary(Ternary::Select, c, a, b),
+            Expr::Constant(a, value) => Node::Unary(Unary::Constant(*value), a),
+            Expr::Broadcast(a, counts) => moved(Movement::Broadcast(counts), a),
+            Expr::Slice(a, offsets, extents) => moved(Movement::Slice(offsets, extents), a),
+            Expr::Shuffle(a, order) => moved(Movement::Shuffle(order), a),
+            Expr::Reshape(a, sizes) => moved(Movement::Reshape(sizes), a),
+            Expr::Chip(a, offset, axis) => moved(Movement::Chip(*offset, *axis), a),
+            Expr::Reverse(a, flags) => moved(Movement::Reverse(flags), a),
         }
     }
 }
 
-/// The dims of an operation on two tensors of equal dims.
-fn equal_dims(left: Dims, right: &Dims) -> Result<Dims, ExprFault>
-    ensures { result ≡ equal_dims left right.now }
+/// The node of an operation on each value.
+fn applied<'a>(operation: UnaryScalar, operand: &'a Expr) -> Node<'a>
+    ensures { term_at result ≡ unary (each operation) (term_of operand.now) }
 {
-    if left.as_slice() == right.as_slice() {
-        Ok(left)
-    } else {
-        Err(ExprFault::ShapeMismatch)
-    }
+    Node::Unary(Unary::Each(operation), operand)
+}
+
+/// The node of an operation on each two values.
+fn combined<'a>(operation: BinaryScalar, left: &'a Expr, right: &'a Expr) -> Node<'a>
+    ensures { term_at result
+        ≡ binary (pairwise operation) (term_of left.now) (term_of right.now) }
+{
+    Node::Binary(Binary::Pairwise(operation), left, right)
+}
+
+/// The node of a movement.
+fn moved<'a>(moving: Movement<'a>, operand: &'a Expr) -> Node<'a>
+    ensures { term_at result ≡ unary (movement (movement_at moving.entry)) (term_of operand.now) }
+{
+    Node::Unary(Unary::Move(moving), operand)
 }

@@ -1,19 +1,19 @@
 -- The answer of what was read of a text.
-use Rattle.std.proofs.Common.{◌≡◌, ℕ, ◌<◌, List, Some, length, take, refl, ap, sym, ◌∙◌, inl, inr, arith}
+use Rattle.std.proofs.Common.{◌≡◌, ℕ, ◌<◌, List, Err, length, take, refl, ap, sym, ◌∙◌, inl, inr, arith}
 use Rattle.std.proofs.Math.Decide.{dec_le}
 use Rattle.std.proofs.Math.Nat.{lt_of_not-le}
 use Rattle.std.proofs.lemmas.Bool.{lt-ltb}
 use Rattle.std.proofs.lemmas.List.{take_all, length-take-le}
 use Rattle.expr_reader.specs.Limits.{most_bytes}
-use Rattle.expr_reader.specs.Request.{fault_of, asked_of}
+use Rattle.expr_reader.specs.Request.{request_of}
 use Rattle.expr_reader.specs.declared.fault.Fault.TheVariants.{TooLong}
 use Rattle.tensor_runner.specs.Answer.{Answer, answer_of, answer_from, fault, IsAnswerTo}
 
 -- too long a text, whatever it says
 answer_of-long : (text : List ℕ) → most_bytes < length text → answer_of text ≡ fault TooLong
 answer_of-long text long =
-    let found : fault_of text ≡ Some TooLong = rw (lt-ltb most_bytes (length text) long) refl in
-    ap (λ f. answer_from f (asked_of text)) found
+    let found : request_of text ≡ Err TooLong = rw (lt-ltb most_bytes (length text) long) refl in
+    ap answer_from found
 
 -- one byte more than a text may have is as good as the whole
 pub answer_of-take : (n : ℕ) (text : List ℕ) → most_bytes < n → answer_of (take n text) ≡ answer_of text

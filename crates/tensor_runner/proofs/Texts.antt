@@ -1,12 +1,11 @@
 -- Compact JSON of numbers.
-use Rattle.std.proofs.Common.{◌≡◌, ℕ, ℤ, pos, negsuc, List, [], ◌∷◌, ◌++◌, map, true, false, refl, ap, ◌∙◌, append_assoc, codes}
+use Rattle.std.proofs.Common.{◌≡◌, ◌<◌, ℕ, ℤ, pos, negsuc, List, [], ◌∷◌, ◌++◌, length, true, false, refl, ap, ◌∙◌, append_assoc}
+use Rattle.std.proofs.Common.{arith}
 use Rattle.std.specs.Fmt.{signed_decimal}
-use Rattle.serde_json.specs.Written.{compact_text, items_text, has_float, items_have_float}
-use Rattle.serde_json.specs.Data.{Data, object, array, member, no_members}
-use Rattle.serde_json.proofs.OnLiterals.{serde_json_on_literals}
-use Rattle.expr_reader.specs.Contents.{Contents}
-use Rattle.tensor_runner.specs.Answer.{numbers_text, tensor_line}
-use Rattle.tensor_runner.specs.Line.{integer, integers}
+use Rattle.serde_json.specs.Written.{compact_text, items_text, items_have_float}
+use Rattle.serde_json.specs.Data.{array}
+use Rattle.tensor_runner.specs.Answer.{numbers_text}
+use Rattle.tensor_runner.specs.Line.{bracketed, integer, integers}
 
 pub compact_text-integer : (x : ℤ) → compact_text (integer x) ≡ signed_decimal x
 compact_text-integer (pos n) = refl
@@ -30,25 +29,23 @@ items_have_float-integers [] = refl
 items_have_float-integers (pos n ∷ xs) = items_have_float-integers xs
 items_have_float-integers (negsuc n ∷ xs) = items_have_float-integers xs
 
--- the value of a tensor
-abbrev pub tensor_data : Contents → Data
-tensor_data t =
-    object (member (codes "data") (array (integers t.values)) (member (codes "dims") (array (integers (map pos t.dims))) no_members))
+-- the text of an array
+pub compact_text-integers : (xs : List ℤ) → compact_text (array (integers xs)) ≡ bracketed xs
+compact_text-integers xs = ap (λ t. 91 ∷ t) (items_text-integers xs)
 
-pub has_float-tensor_data : (t : Contents) → has_float (tensor_data t) ≡ false
-has_float-tensor_data t =
-    rw (items_have_float-integers t.values, items_have_float-integers (map pos t.dims)) refl
+-- numbers behind others
+pub numbers_text-append : (xs ys : List ℤ) → 0 < length xs → 0 < length ys
+    → numbers_text xs ++ 44 ∷ numbers_text ys ≡ numbers_text (xs ++ ys)
+numbers_text-append [] ys some more = absurd (omega arith)
+numbers_text-append (x ∷ []) [] some more = absurd (omega arith)
+numbers_text-append (x ∷ []) (y ∷ ys) some more = refl
+numbers_text-append (x ∷ z ∷ xs) ys some more =
+    append_assoc (signed_decimal x) _ _ ∙ ap (λ t. signed_decimal x ++ 44 ∷ t) (numbers_text-append (z ∷ xs) ys (omega arith) more)
 
--- what stands behind a closing bracket
-close : (n m r : List ℕ) → ((n ++ 93 ∷ []) ++ m) ++ r ≡ n ++ 93 ∷ (m ++ r)
-close n m r = append_assoc (n ++ 93 ∷ []) m r ∙ append_assoc n (93 ∷ []) (m ++ r)
-
--- its compact text and a line feed are its line
-pub compact_text-tensor_data : (t : Contents) → compact_text (tensor_data t) ++ 10 ∷ [] ≡ tensor_line t
-unfolding serde_json_on_literals
-compact_text-tensor_data t =
-    let data_text = numbers_text t.values in
-    let dims_text = numbers_text (map pos t.dims) in
-    rw (items_text-integers t.values, items_text-integers (map pos t.dims))
-    (ap (λ s. codes "{\"data\":[" ++ s) (close data_text (codes ",\"dims\":[" ++ ((dims_text ++ 93 ∷ []) ++ 125 ∷ [])) (10 ∷ [])
-    ∙ ap (λ s. data_text ++ (codes "],\"dims\":[" ++ s)) (close dims_text (125 ∷ []) (10 ∷ []))))
+-- a comma and numbers behind the numbers of a line
+pub numbers_text-behind : (line : List ℕ) (xs ys : List ℤ) → 0 < length xs → 0 < length ys
+    → ((line ++ numbers_text xs) ++ 44 ∷ []) ++ numbers_text ys ≡ line ++ numbers_text (xs ++ ys)
+numbers_text-behind line xs ys some more =
+    append_assoc (line ++ numbers_text xs) (44 ∷ []) (numbers_text ys)
+    ∙ append_assoc line (numbers_text xs) (44 ∷ numbers_text ys)
+    ∙ ap (λ t. line ++ t) (numbers_text-append xs ys some more)

@@ -1,11 +1,11 @@
 -- The answer of a text, and its line.
-use Rattle.std.specs.Prelude.{◌≡◌, ◌⊎◌, ℕ, ℤ, pos, List, [], ◌∷◌, ◌++◌, map, codes, decimal, Option}
-use Rattle.std.specs.Prelude.{Some, None, option_map, unwrap_or}
+use Rattle.std.specs.Prelude.{◌≡◌, ◌⊎◌, ℕ, ℤ, pos, List, [], ◌∷◌, ◌++◌, map, codes, decimal}
+use Rattle.std.specs.Prelude.{Result, Ok, Err}
 use Rattle.std.specs.Fmt.{signed_decimal}
 use Rattle.std.specs.List.{join_with_byte}
-use Rattle.expr_reader.specs.Contents.{Contents, nothing}
+use Rattle.expr_reader.specs.Contents.{Contents}
 use Rattle.expr_reader.specs.Faults.{fault_number, fault_name}
-use Rattle.expr_reader.specs.Request.{Asked, fault_of, asked_of}
+use Rattle.expr_reader.specs.Request.{Asked, request_of}
 use Rattle.expr_reader.specs.Value.{tensor_of}
 use Rattle.expr_reader.specs.declared.fault.Fault.{Fault}
 use Rattle.expr_reader.specs.declared.fault.Fault.TheVariants.{NoMemory}
@@ -21,13 +21,13 @@ pub data Answer : Type 0 where
 abbrev pub asked_tensor : Asked → Contents
 asked_tensor a = tensor_of a.term a.inputs
 
--- the first fault of a text; where it has none, its tensor
-abbrev pub answer_from : Option Fault → Option Asked → Answer
-answer_from (Some f) asked = fault f
-answer_from None asked = tensor (unwrap_or (option_map asked_tensor asked) nothing)
+-- the tensor of a request, or the first fault of its text
+abbrev pub answer_from : Result Asked Fault → Answer
+answer_from (Ok asked) = tensor (asked_tensor asked)
+answer_from (Err f) = fault f
 
 abbrev pub answer_of : List ℕ → Answer
-answer_of text = answer_from (fault_of text) (asked_of text)
+answer_of text = answer_from (request_of text)
 
 -- numbers in decimal, with commas between
 abbrev pub numbers_text : List ℤ → List ℕ

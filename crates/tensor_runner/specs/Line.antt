@@ -1,17 +1,21 @@
 -- Lines on the way, for the private clauses of the engine.
-use Rattle.std.specs.Prelude.{◌≡◌, ℕ, ℤ, List, map}
-use Rattle.std.specs.Cow.{cow_str_bytes}
+use Rattle.std.specs.Prelude.{◌≡◌, ℕ, ℤ, List, [], ◌∷◌, ◌++◌, map}
+use Rattle.std.specs.Cow.{cow_slice_items}
 use Rattle.serde_json.specs.Data.{Data, Items, number}
 use Rattle.serde_json.specs.View.{items_of}
 use Rattle.serde_json.specs.Find.{of_integer}
 use Rattle.expr_reader.specs.Contents.{Contents}
-use Rattle.tensor_runner.specs.Answer.{Answer, tensor, answer_of, line_of, status_of, tensor_line}
-use Rattle.tensor_runner.specs.Answer.{IsAnswerTo}
+use Rattle.tensor_runner.specs.Answer.{Answer, tensor, answer_of, line_of, status_of}
+use Rattle.tensor_runner.specs.Answer.{IsAnswerTo, numbers_text, tensor_line}
 use Rattle.tensor_runner.specs.declared.answer.Line.{Line}
 
 -- a number as JSON
 abbrev pub integer : ℤ → Data
 integer x = number (of_integer x)
+
+-- numbers in brackets, with commas between
+abbrev pub bracketed : List ℤ → List ℕ
+bracketed xs = 91 ∷ (numbers_text xs ++ 93 ∷ [])
 
 -- numbers as the items of an array
 abbrev pub integers : List ℤ → Items
@@ -27,5 +31,5 @@ pub record IsLineOfTensor (text line : List ℕ) : Type 0 where
 pub record IsLineFor (text : List ℕ) (line : Line) : Type 0 where
   pub answer : Answer
   pub answers : IsAnswerTo text answer
-  pub written : cow_str_bytes line.text ≡ line_of answer
+  pub written : cow_slice_items line.bytes ≡ line_of answer
   pub status : line.status ≡ status_of answer

@@ -48,7 +48,7 @@ pub fn run<R: Source, W: Sink>(
     ensures reads { R.calls reader.new ≤ R.calls reader.old + most_reads }
 {
     let line = prepare(alloc, reader)?;
-    write_line(writer, line.text.as_str().as_bytes())?;
+    write_line(writer, line.bytes.as_slice())?;
     Ok(line.status)
 }
 
@@ -62,7 +62,7 @@ fn prepare<R: Source>(alloc: Global, reader: &mut R) -> Result<Line, StreamFault
     ensures calls { R.calls reader.new ≤ R.calls reader.old + most_reads }
 {
     match read_text(alloc, reader) {
-        Ok(text) => Ok(answer(alloc, text.as_slice())),
+        Ok(text) => Ok(answer(alloc, text)),
         Err(Unread::NoMemory) => Ok(no_memory()),
         Err(Unread::Failed) => Err(StreamFault::ReadFault),
     }

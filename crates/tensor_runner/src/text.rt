@@ -1,55 +1,80 @@
 //! The line of a tensor, as compact JSON (RFC 8259).
 
-ghost use Rattle.std.specs.Prelude.{◌≡◌, ℤ, pos, [], ◌∷◌, ◌++◌, codes, map, IfOk, string_bytes};
-ghost use Rattle.std.specs.Prelude.{List};
+ghost use Rattle.std.specs.Prelude.{◌≡◌, ℤ, List, pos, ◌++◌, map, IfOk, OnOk};
 ghost use Rattle.serde_json.specs.View.{view};
-ghost use Rattle.serde_json.specs.Data.{object, array, member, no_members};
-ghost use Rattle.tensor_runner.specs.Answer.{tensor_line};
-ghost use Rattle.tensor_runner.specs.Line.{integer, integers};
+ghost use Rattle.tensor_runner.specs.Answer.{numbers_text, tensor_line};
+ghost use Rattle.tensor_runner.specs.Line.{bracketed, integer};
 
 use expr_reader::Tensor;
-use serde_json::{Value, json};
+use serde_json::Value;
 use std::alloc::{AllocError, Global};
 
-/// `{"data":[..],"dims":[..]}` and a line feed.
-pub(crate) fn tensor_text(alloc: Global, tensor: &Tensor) -> Result<String, AllocError>
-    ensures { IfOk result (λ line. string_bytes line ≡ tensor_line tensor.now) }
+/// How many numbers are printed at a time, so that their values and their text stay in the same
+/// few pages.
+const PIECE: usize = 4_096;
+
+/// Appends `{"data":[..],"dims":[..]}` and a line feed.
+pub(crate) fn push_tensor(
+    alloc: Global,
+    tensor: &Tensor,
+    line: &mut Vec<u8>,
+) -> Result<(), AllocError>
+    ensures { OnOk result (line.new.items ≡ line.old.items ++ tensor_line tensor.now) }
 {
-    let value = tensor_value(alloc, tensor)?;
-    let mut line = value.to_string(alloc)?;
-    line.push('\n')?;
-    Ok(line)
+    line.extend_from_slice(b"{\"data\":[")?;
+    push_data(alloc, tensor.values(), line)?;
+    line.extend_from_slice(b"],\"dims\":")?;
+    line.extend_from_slice(&unsigned_text(alloc, tensor.dims().as_slice())?)?;
+    line.extend_from_slice(b"}\n")
 }
 
-/// The JSON value of a tensor.
-fn tensor_value(alloc: Global, tensor: &Tensor) -> Result<Value, AllocError>
-    ensures { IfOk result (λ value. view value
-        ≡ object (member (codes "data") (array (integers tensor.now.values))
-        (member (codes "dims") (array (integers (map pos tensor.now.dims))) no_members))) }
+/// Appends numbers with commas between, a piece after the other.
+fn push_data(alloc: Global, numbers: &[i64], line: &mut Vec<u8>) -> Result<(), AllocError>
+    ensures { OnOk result (line.new.items ≡ line.old.items ++ numbers_text numbers.now) }
 {
-    let data = signed_values(alloc, tensor.values())?;
-    let dims = unsigned_values(alloc, tensor.dims().as_slice())?;
-    json!(in alloc; {"data": data, "dims": dims})
+    let (first, rest) = numbers.split_at(numbers.len().min(PIECE));
+    push_piece(alloc, first, line)?;
+    for piece in rest.chunks(PIECE) {
+        line.push(b',')?;
+        push_piece(alloc, piece, line)?;
+    }
+    Ok(())
 }
 
-/// Numbers as values.
-fn signed_values(alloc: Global, numbers: &[i64]) -> Result<Vec<Value>, AllocError>
-    ensures { IfOk result (λ values. map view values.items ≡ map integer numbers.now) }
+/// Appends numbers with commas between: the text of their array without its brackets.
+fn push_piece(alloc: Global, numbers: &[i64], line: &mut Vec<u8>) -> Result<(), AllocError>
+    ensures { OnOk result (line.new.items ≡ line.old.items ++ numbers_text numbers.now) }
+{
+    let text = signed_text(alloc, numbers)?;
+    line.extend_from_slice(&text[1..text.len() - 1])
+}
+
+/// Numbers as an array.
+fn signed_text(alloc: Global, numbers: &[i64]) -> Result<Vec<u8>, AllocError>
+    ensures { IfOk result (λ text. text.items ≡ bracketed numbers.now) }
 {
     let mut values = Vec::with_capacity(alloc, numbers.len())?;
     for number in numbers {
         values.push_reserved(Value::from(*number));
     }
-    Ok(values)
+    array_text(alloc, values)
 }
 
-/// Numbers from 0 up as values.
-fn unsigned_values(alloc: Global, numbers: &[u64]) -> Result<Vec<Value>, AllocError>
-    ensures { IfOk result (λ values. map view values.items ≡ map integer (map pos numbers.now)) }
+/// Numbers from 0 up as an array.
+fn unsigned_text(alloc: Global, numbers: &[u64]) -> Result<Vec<u8>, AllocError>
+    ensures { IfOk result (λ text. text.items ≡ bracketed (map pos numbers.now)) }
 {
     let mut values = Vec::with_capacity(alloc, numbers.len())?;
     for number in numbers {
         values.push_reserved(Value::from(*number));
     }
-    Ok(values)
+    array_text(alloc, values)
+}
+
+/// The text of an array of numbers.
+fn array_text(alloc: Global, values: Vec<Value>) -> Result<Vec<u8>, AllocError>
+    ensures { (numbers : List ℤ) → map view values.items ≡ map integer numbers
+        → IfOk result (λ text. text.items ≡ bracketed numbers) }
+{
+    Value::Array(values).to_vec(alloc)
 }

@@ -13,8 +13,12 @@ IsIndexOf [] (i ∷ is) = ⊥
 IsIndexOf (d ∷ ds) [] = ⊥
 IsIndexOf (d ∷ ds) (i ∷ is) = (i < d) × IsIndexOf ds is
 
--- each index times its stride, added up; the stride of an axis is that of the first times the
--- dims before it
+-- the strides of dims from that of the first axis on: each is the one before times its dimension
+abbrev pub strides_from : ℕ → List ℕ → List ℕ
+strides_from stride [] = []
+strides_from stride (d ∷ ds) = stride ∷ strides_from (stride * d) ds
+
+-- each index times its stride, added up; a stride is that of the first axis times the dims before
 abbrev pub place_by : ℕ → List ℕ → List ℕ → ℕ
 place_by stride [] is = 0
 place_by stride (d ∷ ds) [] = 0

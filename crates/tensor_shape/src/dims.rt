@@ -1,8 +1,8 @@
 //! Dims, seen as a list of numbers.
 
-ghost use Rattle.std.specs.Prelude.{◌≡◌, ◌<◌, ◌≤◌, ◌↔◌, ℕ, List, length, Ok, Err, IsTrue};
-ghost use Rattle.std.specs.Prelude.{OnOk, IfOk, slice_index};
-ghost use Rattle.tensor_shape.specs.Index.{size_of, IsIndexOf, place};
+ghost use Rattle.std.specs.Prelude.{◌≡◌, ◌<◌, ◌≤◌, ◌↔◌, ℕ, List, length, take, slice_index};
+ghost use Rattle.std.specs.Prelude.{Ok, Err, IsTrue, OnOk, IfOk};
+ghost use Rattle.tensor_shape.specs.Index.{size_of, IsIndexOf, strides_from, place, index_of};
 ghost use Rattle.tensor_shape.specs.Legal.{highest_rank, most_elements, bulk_of, IsLegal};
 
 #[cfg(test)]
@@ -16,11 +16,14 @@ use thiserror::Error;
 /// Places for dimensions. More than [`MAX_RANK`], so that the rank can grow without a new layout.
 const CAPACITY: usize = 8;
 
+/// A number for each axis, held in place.
+pub type PerAxis = ArrayVec<u64, CAPACITY>;
+
 /// The dimensions of a tensor, the fastest axis first. They are legal: the rank is at most
 /// [`MAX_RANK`], and their product, a 0 counted as 1, at most [`MAX_ELEMENTS`].
 #[derive(Drop)]
 pub struct Dims {
-    sizes: ArrayVec<u64, CAPACITY>,
+    sizes: PerAxis,
 }
 
 impl Model for Dims {
@@ -70,7 +73,8 @@ impl Dims {
 
     /// The sizes of the axes, the fastest first.
     pub fn as_slice(&self) -> &[u64]
-        ensures { result.now ≡ self.now }
+        ensures value { result.now ≡ self.now }
+        ensures legal { IsLegal self.now }
     {
         self.sizes.as_slice()
     }
@@ -99,18 +103,44 @@ impl Dims {
         product(self.sizes.as_slice())
     }
 
+    /// How far apart the places along an axis are: the product of the sizes before it.
+    pub fn stride(&self, axis: usize) -> u64
+        requires { axis < length self.now }
+        ensures { result ≡ size_of (take axis self.now) }
+    {
+        product(&self.sizes.as_slice()[..axis])
+    }
+
+    /// The stride of each axis, by which an index counts in a place. Takes no memory.
+    pub fn strides(&self) -> PerAxis
+        ensures { result.items ≡ strides_from 1 self.now }
+    {
+        strides_of(self.sizes.as_slice())
+    }
+
     /// The place of an index list, which has one index an axis, each below that axis's size.
     pub fn linear(&self, index: &[u64]) -> u64
         requires { IsIndexOf self.now index.now }
         ensures value { result ≡ place self.now index.now }
         ensures below { result < size_of self.now }
+        ensures back { index_of self.now result ≡ index.now }
     {
         place_of(self.sizes.as_slice(), index)
+    }
+
+    /// The index list of a place. Takes no memory.
+    pub fn index_of(&self, linear: u64) -> PerAxis
+        requires { linear < size_of self.now }
+        ensures value { result.items ≡ index_of self.now linear }
+        ensures index { IsIndexOf self.now result.items }
+        ensures back { place self.now result.items ≡ linear }
+    {
+        index_at(self.sizes.as_slice(), linear)
     }
 }
 
 /// The sizes, held in place.
-fn held(sizes: &[u64]) -> ArrayVec<u64, CAPACITY>
+fn held(sizes: &[u64]) -> PerAxis
     requires { length sizes.now ≤ highest_rank }
     ensures { result.items ≡ sizes.now }
 {
@@ -158,4 +188,33 @@ fn place_of(sizes: &[u64], index: &[u64]) -> u64
         place = place * sizes[axis] + index[axis];
     }
     place
+}
+
+/// The strides: each is the one before it times that one's size.
+fn strides_of(sizes: &[u64]) -> PerAxis
+    requires { IsLegal sizes.now }
+    ensures { result.items ≡ strides_from 1 sizes.now }
+{
+    let mut strides = PerAxis::new();
+    let mut stride: u64 = 1;
+    for size in sizes {
+        strides.push(stride);
+        stride *= *size;
+    }
+    strides
+}
+
+/// The index list of a place: the remainder by each size, and then the quotient.
+fn index_at(sizes: &[u64], linear: u64) -> PerAxis
+    requires rank { length sizes.now ≤ highest_rank }
+    requires below { linear < size_of sizes.now }
+    ensures { result.items ≡ index_of sizes.now linear }
+{
+    let mut index = PerAxis::new();
+    let mut rest = linear;
+    for size in sizes {
+        index.push(rest % *size);
+        rest /= *size;
+    }
+    index
 }

@@ -4,7 +4,7 @@
 
 mod dims;
 
-pub use dims::{Dims, ShapeFault};
+pub use dims::{Dims, PerAxis, ShapeFault};
 
 /// The highest rank of legal dims.
 pub const MAX_RANK: usize = 6;

@@ -1,6 +1,6 @@
-//! Each fault of a text. A text that is too long is among the lengths, and an expression that is
-//! too large among the trees. A bad argument and an argument out of range have no text yet, since
-//! no operation takes arguments. Memory is ample, so want of it is never answered.
+//! Each fault of a text. A text that is too long is among the lengths, an expression with too many
+//! nodes among the trees, and bad arguments among the arguments. Memory is ample, so want of it is
+//! never answered.
 
 use crate::fixtures::{FIVE, Fields, SCALAR_FIELDS, answers, prints, text_of};
 use std::test::Fail;
@@ -20,6 +20,18 @@ fn nesting(rt: HostRuntime) -> Result<(), Fail> {
         let closing = "]".repeat(rt.alloc(), depth)?;
         let text = format!(in rt.alloc(); "{opening}{closing}")?;
         prints(&rt, rt.alloc(), text.as_bytes(), line)?;
+    }
+    Ok(())
+}
+
+/// As deep as an expression nests, and one deeper.
+#[test]
+fn nested_expressions(rt: HostRuntime) -> Result<(), Fail> {
+    for (depth, line) in [(126, r#"{"data":[5],"dims":[]}"#), (127, "error 2 NotJson")] {
+        let opening = "[\"neg\",".repeat(rt.alloc(), depth)?;
+        let closing = "]".repeat(rt.alloc(), depth)?;
+        let expr = format!(in rt.alloc(); "{opening}\"a\"{closing}")?;
+        answers(&rt, rt.alloc(), FIVE, expr.as_str(), line)?;
     }
     Ok(())
 }
@@ -184,6 +196,38 @@ fn shape_mismatch(rt: HostRuntime) -> Result<(), Fail> {
             r#"["add","a","b"]"#,
             "error 12 ShapeMismatch",
         )?;
+    }
+    Ok(())
+}
+
+/// Dims of two and of three, in the operands or in what an argument says of them.
+#[test]
+fn shape_range_arity_and_unknown_input(rt: HostRuntime) -> Result<(), Fail> {
+    let inputs = r#"{"a":{"dims":[2],"data":[1,2]},"b":{"dims":[3],"data":[1,2,3]}}"#;
+    for (expr, line) in [
+        (r#"["add","a","b"]"#, "error 12 ShapeMismatch"),
+        (r#"["slice","a",[1],[2]]"#, "error 13 OutOfRange"),
+        (r#"["slice","a",[0,0],[1,1]]"#, "error 12 ShapeMismatch"),
+        (r#"["neg","a","b"]"#, "error 10 BadArity"),
+        (r#"["add","c",["div"]]"#, "error 8 UnknownInput"),
+    ] {
+        answers(&rt, rt.alloc(), inputs, expr, line)?;
+    }
+    Ok(())
+}
+
+/// The greatest result, of which a part is asked for, and one place more.
+#[test]
+fn broadcast_to_the_limit(rt: HostRuntime) -> Result<(), Fail> {
+    let inputs = r#"{"a":{"dims":[1],"data":[1]}}"#;
+    for (expr, line) in [
+        (
+            r#"["slice",["broadcast","a",[1048576]],[1048574],[2]]"#,
+            r#"{"data":[1,1],"dims":[2]}"#,
+        ),
+        (r#"["broadcast","a",[1048577]]"#, "error 14 TooLarge"),
+    ] {
+        answers(&rt, rt.alloc(), inputs, expr, line)?;
     }
     Ok(())
 }

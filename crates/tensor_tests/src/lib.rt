@@ -2,6 +2,10 @@
 #![tactic(auto)]
 
 #[cfg(test)]
+mod arguments;
+#[cfg(test)]
+mod check_order;
+#[cfg(test)]
 mod each_fault;
 #[cfg(test)]
 mod evaluation;
@@ -12,10 +16,20 @@ mod fixtures;
 #[cfg(test)]
 mod lengths;
 #[cfg(test)]
+mod movements;
+#[cfg(test)]
+mod nested;
+#[cfg(test)]
+mod pieces;
+#[cfg(test)]
+mod ranks;
+#[cfg(test)]
 mod readers;
 #[cfg(test)]
 mod tensors;
 #[cfg(test)]
 mod trees;
+#[cfg(test)]
+mod values;
 #[cfg(test)]
 mod writers;

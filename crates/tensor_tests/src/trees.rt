@@ -35,6 +35,18 @@ fn most_nodes(rt: HostRuntime) -> Result<(), Fail> {
     Ok(())
 }
 
+/// The tree has 999 nodes. One `neg` makes a thousand, and a second one too many.
+#[test]
+fn opposite_of_most_nodes(rt: HostRuntime) -> Result<(), Fail> {
+    let mut tree = String::new(rt.alloc());
+    push_tree(&mut tree, 500)?;
+    let once = format!(in rt.alloc(); "[\"neg\",{}]", tree.as_str())?;
+    let line = r#"{"data":[-500],"dims":[1]}"#;
+    answers(&rt, rt.alloc(), ONE, once.as_str(), line)?;
+    let twice = format!(in rt.alloc(); "[\"neg\",{}]", once.as_str())?;
+    answers(&rt, rt.alloc(), ONE, twice.as_str(), "error 14 TooLarge")
+}
+
 /// The 1,001st node is refused before it is looked at.
 #[test]
 fn node_number_before_its_faults(rt: HostRuntime) -> Result<(), Fail> {

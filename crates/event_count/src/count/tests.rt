@@ -1,10 +1,10 @@
 ghost use Rattle.std.specs.Prelude.{◌≡◌, ◌<◌, ◌↔◌, [], All, IfOk, IsSome, IsTrue};
-ghost use Rattle.event_word.specs.declared.phase.Phase.TheVariants.{Running, Stacked};
+ghost use Rattle.event_word.specs.declared.phase.Phase.TheVariants.{Stacked};
 ghost use Rattle.event_count.specs.Limits.{epoch_limit};
 ghost use Rattle.event_count.specs.Seats.{card_of, looked_of, sizes_of, seats_of, IsSeatOf, IsIdle};
 
-use crate::{CountFault, EventCount, Phase, Seat, TryCommit};
-use std::alloc::{AllocError, Allocator, Global};
+use crate::{EventCount, Phase, Seat, TryCommit};
+use std::alloc::{AllocError, Global};
 use std::process::Abort;
 use std::test::Fail;
 

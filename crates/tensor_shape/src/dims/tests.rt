@@ -13,6 +13,10 @@ fn sizes_and_places(rt: HostRuntime) -> Result<(), Fail> {
     assert_eq!(rt; dims.linear(&[1, 0, 0]), 1);
     assert_eq!(rt; dims.linear(&[0, 0, 1]), 2);
     assert_eq!(rt; dims.linear(&[1, 0, 2]), 5);
+    assert_eq!(rt; dims.index_of(5).as_slice(), [1, 0, 2].as_slice());
+    assert_eq!(rt; dims.index_of(2).as_slice(), [0, 0, 1].as_slice());
+    assert_eq!(rt; dims.strides().as_slice(), [1, 2, 2].as_slice());
+    assert_eq!(rt; dims.stride(2), 2);
     Ok(())
 }
 

@@ -1,4 +1,5 @@
-use super::{Allocator, CountFault, EventCount};
+use crate::{CountFault, EventCount};
+use std::alloc::Allocator;
 
 // What is known of a count that was made and closed at once: how many seats it had, the numbers of
 // the first and the last, and the last word.

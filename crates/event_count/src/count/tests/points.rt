@@ -1,7 +1,7 @@
 //! A count as what a pool waits on, through the trait.
-ghost use Rattle.std.specs.Prelude.{◌≡◌, ◌<◌, [], All};
+ghost use Rattle.std.specs.Prelude.{◌≡◌, ◌<◌, []};
 ghost use Rattle.event_word.specs.declared.phase.Phase.TheVariants.{Running};
-ghost use Rattle.event_count.specs.Seats.{card_of, sizes_of, IsSeatOf, IsIdle};
+ghost use Rattle.event_count.specs.Seats.{sizes_of, IsSeatOf, IsIdle};
 
 use super::{close, count_of};
 use crate::{CountFault, EventCount, Seat, WaitPoint};

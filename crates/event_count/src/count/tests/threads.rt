@@ -1,4 +1,4 @@
-ghost use Rattle.std.specs.Prelude.{◌≡◌, ◌<◌, All};
+ghost use Rattle.std.specs.Prelude.{◌≡◌, ◌<◌};
 ghost use Rattle.event_count.specs.Seats.{card_of, sizes_of, IsSeatOf, IsIdle};
 
 use super::{close, count_of, expect_seat};

@@ -1,70 +1,125 @@
-use Rattle.std.proofs.Common.{◌≡◌, length, get_or, ap, sym, ◌∙◌, inl, inr, string_bytes, arith}
+use Rattle.std.proofs.Common.{◌≡◌, ◌+◌, ◌-◌, length, drop, get_or, refl, inl, inr, arith}
+use Rattle.std.proofs.lemmas.List.{take_all, length-drop}
 use Rattle.std.proofs.lemmas.Result.{err_from_is_err_and}
-use Rattle.serde_json.specs.View.{view}
-use Rattle.expr_reader.specs.Shown.{branch_under, subtree_under}
-use Rattle.expr_reader.specs.Tensors.{number_of}
-use Rattle.expr_reader.specs.Version.{profile_under, binary_under, operation_under}
-use Rattle.expr_reader.proofs.Data.{view-String}
-use Rattle.expr_reader.proofs.Elements.{headed-three, headed-other, get_or-three}
-use Rattle.expr_reader.proofs.Walk.{IsWalked-first, IsWalked-second, IsWalked-both, IsRead-input, fault_at-arity}
+use Rattle.tensor_ops.specs.Term as term
+use Rattle.expr_reader.specs.Version.{profile_under, operation_under, forms_of, unary_of}
+use Rattle.expr_reader.proofs.Walk.{tree_at-arity, tree_at-first, tree_at-one, tree_at-two, tree_at-three, get_or-at}
 use Rattle.expr_reader.proofs.node.+read_node.Goals as goal
 
-pub returns-then-len : goal.returns-then-len
-returns-then-len t c = λ n named.
-    let other : length c.in-Array.list.items ≡ 3 → ⊥ = λ h. c.if-len.true (omega (arith, c.in-Array.list.ok.0)) in
-    let found = headed-other (profile_under c.args.version) (operation_under c.in-Some-operation_of.operation) c.args.value.now
-    c.in-Array.list c.in-Array.is 2 c.in-Some-operation_of.ensures other in
-    inr (fault_at-arity (profile_under c.args.version) n (binary_under c.in-Some-operation_of.operation) c.args.before
-    (view c.args.value.now) found.1.head found.0 c.if-before-ge-MAX_NODES.false found.1.whole found.1.names found.2)
+pub returns-then-len-arity : goal.returns-then-len-arity
+returns-then-len-arity t c = λ n named.
+    inr (tree_at-arity (profile_under c.args.version) n c.args.before c.if-before-ge-MAX_NODES.false (operation_under c.in-Some.operation)
+    c.args.value.now c.in-Array.list c.in-Array.is c.in-Some.ensures
+    (λ h. c.if-len-arity.true (omega (arith, h, c.in-Array.list.ok.0, c.arity.ensures))))
 
-pub returns-in_err-left-in-Some-operation_of : goal.returns-in_err-left-in-Some-operation_of
-returns-in_err-left-in-Some-operation_of t c = λ n named.
+pub returns-in_err-first-in-Array : goal.returns-in_err-first-in-Array
+returns-in_err-first-in-Array t c = λ n named.
     let p = err_from_is_err_and c.from_residual.result c.from_residual.ensures.1 in
-    let long : length c.in-Array.list.items ≡ 3 = omega (arith, c.in-Array.list.ok.0) in
-    let found = headed-three (profile_under c.args.version) (operation_under c.in-Some-operation_of.operation) c.args.value.now
-    c.in-Array.list c.in-Array.is c.index.result.now (get_or c.in-Array.list.items 2 c.index.result.now) long c.index.ensures
-    (get_or-three c.in-Array.list.items c.index.result.now long) c.in-Some-operation_of.ensures in
     rw (p.1, p.2)
-    (elim (c.in_err-left-in-Some-operation_of.ensures n named) [
+    (elim (c.in_err-first-in-Array.ensures n named) [
       | inl memory ↦ inl memory
-      | inr first ↦ inr (IsWalked-first (profile_under c.args.version) n (binary_under c.in-Some-operation_of.operation) found.head
-          (view c.index.result.now) (view (get_or c.in-Array.list.items 2 c.index.result.now)) found.names c.args.before c.if-before-ge-MAX_NODES.false
-          (view c.args.value.now) found.whole _ first)
+      | inr found ↦ inr (tree_at-first (profile_under c.args.version) n c.args.before c.if-before-ge-MAX_NODES.false (operation_under c.in-Some.operation)
+          c.args.value.now c.in-Array.list c.in-Array.is c.in-Some.ensures c.index.result.now
+          (omega (arith, c.in-Array.list.ok.0, c.arity.ensures, c.if-len-arity.false)) c.index.ensures _ found)
     ])
 
-pub returns-in_err-right-in-Some-operation_of : goal.returns-in_err-right-in-Some-operation_of
-returns-in_err-right-in-Some-operation_of t c = λ n named.
-    let p = err_from_is_err_and c.from_residual-in_err-right-in-Some-operation_of.result
-    c.from_residual-in_err-right-in-Some-operation_of.ensures.1 in
-    let long : length c.in-Array.list.items ≡ 3 = omega (arith, c.in-Array.list.ok.0) in
-    let found = headed-three (profile_under c.args.version) (operation_under c.in-Some-operation_of.operation) c.args.value.now
-    c.in-Array.list c.in-Array.is c.index.result.now c.index-in-Some-operation_of.result.now long c.index.ensures c.index-in-Some-operation_of.ensures
-    c.in-Some-operation_of.ensures in
+pub returns-in-One : goal.returns-in-One
+returns-in-One t c = λ n named.
+    let names = rw c.in-One.is at c.in-Some.ensures in
+    let arity = rw c.in-One.is at c.arity.ensures in
+    let long : length c.in-Array.list.items ≡ 2 + length (forms_of c.in-One.unary) = omega (arith, c.in-Array.list.ok.0, arity, c.if-len-arity.false) in
+    let first = c.in_ok-first-in-Array.ensures n named in
+    rw (
+      tree_at-one (profile_under c.args.version) n c.args.before c.if-before-ge-MAX_NODES.false c.args.value.now c.in-Array.list c.in-Array.is
+          (forms_of c.in-One.unary) (unary_of c.in-One.unary) c.index.result.now names long c.index.ensures,
+      first.0,
+    )
+    (rw (named.tensors, take_all (length c.deref.result.now - 2) (drop 2 c.deref.result.now) (omega (arith, length-drop 2 c.deref.result.now)), c.deref.ensures.value) at c.read_unary.ensures)
+
+pub returns-in_err-second-in-Two : goal.returns-in_err-second-in-Two
+returns-in_err-second-in-Two t c = λ n named.
+    let p = err_from_is_err_and c.from_residual-in_err-second-in-Two.result c.from_residual-in_err-second-in-Two.ensures.1 in
+    let names = rw c.in-Two.is at c.in-Some.ensures in
+    let arity = rw c.in-Two.is at c.arity.ensures in
+    let long : length c.in-Array.list.items ≡ 3 = omega (arith, c.in-Array.list.ok.0, arity, c.if-len-arity.false) in
+    let first = c.in_ok-first-in-Array.ensures n named in
     rw (p.1, p.2)
-    (elim (c.in_err-right-in-Some-operation_of.ensures n named) [
+    (elim (c.in_err-second-in-Two.ensures n named) [
       | inl memory ↦ inl memory
-      | inr second ↦ inr (IsWalked-second (profile_under c.args.version) n (binary_under c.in-Some-operation_of.operation) found.head
-          (view c.index.result.now) (view c.index-in-Some-operation_of.result.now) found.names c.args.before c.if-before-ge-MAX_NODES.false
-          (view c.args.value.now) found.whole (branch_under c.in_ok-left-in-Some-operation_of.left)
-          (c.in_ok-left-in-Some-operation_of.ensures n named) _ second)
+      | inr found ↦ inr (rw (
+        tree_at-two (profile_under c.args.version) n c.args.before c.if-before-ge-MAX_NODES.false c.args.value.now c.in-Array.list c.in-Array.is
+            (λ none. term.pairwise c.in-Two.scalar) c.index.result.now c.index-in-Two.result.now names long c.index.ensures c.index-in-Two.ensures,
+        first.0,
+        found,
+      ) refl)
     ])
 
-pub returns-in-Some : goal.returns-in-Some
-returns-in-Some t c = λ n named.
-    IsRead-input (profile_under c.args.version) n c.args.before c.in-Some.number (view c.args.value.now)
-    (string_bytes c.in-String.name) c.if-before-ge-MAX_NODES.false
-    (ap view c.in-String.is ∙ view-String c.in-String.name)
-    (ap (number_of n.names) (sym c.as_str.ensures.value) ∙ sym (c.in-Some.ensures n named)) named.aligned
-
-pub returns-in_ok-right-in-Some-operation_of : goal.returns-in_ok-right-in-Some-operation_of
-returns-in_ok-right-in-Some-operation_of t c = λ n named.
-    let long : length c.in-Array.list.items ≡ 3 = omega (arith, c.in-Array.list.ok.0) in
-    let found = headed-three (profile_under c.args.version) (operation_under c.in-Some-operation_of.operation) c.args.value.now
-    c.in-Array.list c.in-Array.is c.index.result.now c.index-in-Some-operation_of.result.now long c.index.ensures c.index-in-Some-operation_of.ensures
-    c.in-Some-operation_of.ensures in
-    IsWalked-both (profile_under c.args.version) n (binary_under c.in-Some-operation_of.operation) found.head
-    (view c.index.result.now) (view c.index-in-Some-operation_of.result.now) found.names c.args.before c.if-before-ge-MAX_NODES.false
-    (view c.args.value.now) found.whole (branch_under c.in_ok-left-in-Some-operation_of.left)
-    (branch_under c.in_ok-right-in-Some-operation_of.right) (c.in_ok-left-in-Some-operation_of.ensures n named)
-    (c.in_ok-right-in-Some-operation_of.ensures n named) (subtree_under c.read_binary.result)
+pub returns-in_ok-second-in-Two : goal.returns-in_ok-second-in-Two
+returns-in_ok-second-in-Two t c = λ n named.
+    let names = rw c.in-Two.is at c.in-Some.ensures in
+    let arity = rw c.in-Two.is at c.arity.ensures in
+    let long : length c.in-Array.list.items ≡ 3 = omega (arith, c.in-Array.list.ok.0, arity, c.if-len-arity.false) in
+    let first = c.in_ok-first-in-Array.ensures n named in
+    let second = c.in_ok-second-in-Two.ensures n named in
+    rw (
+      tree_at-two (profile_under c.args.version) n c.args.before c.if-before-ge-MAX_NODES.false c.args.value.now c.in-Array.list c.in-Array.is
+          (λ none. term.pairwise c.in-Two.scalar) c.index.result.now c.index-in-Two.result.now names long c.index.ensures c.index-in-Two.ensures,
+      first.0,
+      second.0,
+    )
     (rw named.tensors at c.read_binary.ensures)
+
+pub returns-in_err-second-in-Select : goal.returns-in_err-second-in-Select
+returns-in_err-second-in-Select t c = λ n named.
+    let p = err_from_is_err_and c.from_residual-in_err-second-in-Select.result c.from_residual-in_err-second-in-Select.ensures.1 in
+    let names = rw c.in-Select.is at c.in-Some.ensures in
+    let arity = rw c.in-Select.is at c.arity.ensures in
+    let long : length c.in-Array.list.items ≡ 4 = omega (arith, c.in-Array.list.ok.0, arity, c.if-len-arity.false) in
+    let first = c.in_ok-first-in-Array.ensures n named in
+    rw (p.1, p.2)
+    (elim (c.in_err-second-in-Select.ensures n named) [
+      | inl memory ↦ inl memory
+      | inr found ↦ inr (rw (
+        tree_at-three (profile_under c.args.version) n c.args.before c.if-before-ge-MAX_NODES.false c.args.value.now c.in-Array.list c.in-Array.is
+            (λ none. term.select) c.index.result.now c.index-in-Select.result.now (get_or c.in-Array.list.items 3 c.index.result.now) names long c.index.ensures c.index-in-Select.ensures (get_or-at c.in-Array.list.items 3 c.index.result.now (omega (arith, long))),
+        first.0,
+        found,
+      ) refl)
+    ])
+
+pub returns-in_err-third-in-Select : goal.returns-in_err-third-in-Select
+returns-in_err-third-in-Select t c = λ n named.
+    let p = err_from_is_err_and c.from_residual-in_err-third-in-Select.result c.from_residual-in_err-third-in-Select.ensures.1 in
+    let names = rw c.in-Select.is at c.in-Some.ensures in
+    let arity = rw c.in-Select.is at c.arity.ensures in
+    let long : length c.in-Array.list.items ≡ 4 = omega (arith, c.in-Array.list.ok.0, arity, c.if-len-arity.false) in
+    let first = c.in_ok-first-in-Array.ensures n named in
+    let second = c.in_ok-second-in-Select.ensures n named in
+    rw (p.1, p.2)
+    (elim (c.in_err-third-in-Select.ensures n named) [
+      | inl memory ↦ inl memory
+      | inr found ↦ inr (rw (
+        tree_at-three (profile_under c.args.version) n c.args.before c.if-before-ge-MAX_NODES.false c.args.value.now c.in-Array.list c.in-Array.is
+            (λ none. term.select) c.index.result.now c.index-in-Select.result.now c.index-in-Select-2.result.now names long c.index.ensures c.index-in-Select.ensures c.index-in-Select-2.ensures,
+        first.0,
+        second.0,
+        found,
+      ) refl)
+    ])
+
+pub returns-in_ok-third-in-Select : goal.returns-in_ok-third-in-Select
+returns-in_ok-third-in-Select t c = λ n named.
+    let names = rw c.in-Select.is at c.in-Some.ensures in
+    let arity = rw c.in-Select.is at c.arity.ensures in
+    let long : length c.in-Array.list.items ≡ 4 = omega (arith, c.in-Array.list.ok.0, arity, c.if-len-arity.false) in
+    let first = c.in_ok-first-in-Array.ensures n named in
+    let second = c.in_ok-second-in-Select.ensures n named in
+    let third = c.in_ok-third-in-Select.ensures n named in
+    rw (
+      tree_at-three (profile_under c.args.version) n c.args.before c.if-before-ge-MAX_NODES.false c.args.value.now c.in-Array.list c.in-Array.is
+          (λ none. term.select) c.index.result.now c.index-in-Select.result.now c.index-in-Select-2.result.now names long c.index.ensures c.index-in-Select.ensures c.index-in-Select-2.ensures,
+      first.0,
+      second.0,
+      third.0,
+    )
+    (rw named.tensors at c.read_ternary.ensures)

@@ -13,7 +13,7 @@ returns-in-Ok c =
     }
 
 pub returns-in-Err : goal.returns-in-Err
-returns-in-Err c = elim c.refusal.ensures.text [
+returns-in-Err c = elim c.refusal.ensures.bytes [
   | inl own ↦ record { answer = fault c.in-Err.fault; answers = c.in-Err.ensures; written = own; status = c.refusal.ensures.status }
   | inr memory ↦ record { answer = fault NoMemory; answers = inr refl; written = memory; status = c.refusal.ensures.status }
 ]

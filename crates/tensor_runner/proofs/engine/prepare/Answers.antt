@@ -1,4 +1,4 @@
-use Rattle.std.proofs.Common.{◌≡◌, take, refl, ◌∙◌, subst, inr, arith}
+use Rattle.std.proofs.Common.{refl, subst, inr, arith}
 use Rattle.expr_reader.specs.declared.fault.Fault.TheVariants.{NoMemory}
 use Rattle.tensor_runner.specs.Answer.{fault, IsAnswerTo}
 use Rattle.tensor_runner.specs.Run.{most_reads}
@@ -8,11 +8,10 @@ use Rattle.tensor_runner.proofs.engine.prepare.Goals as goal
 pub returns-in-Ok-clause-line : goal.returns-in-Ok-clause-line
 returns-in-Ok-clause-line g c = λ text known.
     let read = rw known at c.in-Ok.ensures.text in
-    let front : c.as_slice.result.now ≡ take most_reads text = c.as_slice.ensures.value ∙ read in
     record {
       answer = c.answer.ensures.answer;
       answers = IsAnswerTo-take most_reads text c.answer.ensures.answer (omega arith)
-          (subst (λ t. IsAnswerTo t c.answer.ensures.answer) front c.answer.ensures.answers);
+          (subst (λ t. IsAnswerTo t c.answer.ensures.answer) read c.answer.ensures.answers);
       written = c.answer.ensures.written;
       status = c.answer.ensures.status;
     }
@@ -22,6 +21,6 @@ returns-in-Err-NoMemory-clause-line g c = λ text known.
     record {
       answer = fault NoMemory;
       answers = inr refl;
-      written = c.no_memory.ensures.text;
+      written = c.no_memory.ensures.bytes;
       status = c.no_memory.ensures.status;
     }

@@ -1,4 +1,4 @@
-use Rattle.std.proofs.Common.{rules, refl}
+use Rattle.std.proofs.Common.{rules}
 use Rattle.event_count.proofs.Stacking.{read_keeps_at}
 use Rattle.event_count.proofs.count.EventCount.load_next.Goals as goal
 
@@ -8,5 +8,6 @@ load-next-requires g c = (
   let words = c.args.seat.now.placed in let few = c.args.seat.now.sized in
       let here = c.requires.fits.stacked c.requires.there in let of = c.requires.of in
       search rules,
-  read_keeps_at _ _ _ _ c.args.seat.now.alone _ _ c.requires.looked c.requires.there refl,
+  read_keeps_at _ _ _ _ c.args.seat.now.alone _ _ c.requires.looked c.requires.there
+      c.next_word_of-place.ensures,
 )

@@ -1,4 +1,4 @@
-use Rattle.std.proofs.Common.{rules, ap, sym}
+use Rattle.std.proofs.Common.{rules, ap, sym, ◌∙◌}
 use Rattle.event_count.specs.Places.{next_place}
 use Rattle.event_count.proofs.Stacking.{store_keeps_at}
 use Rattle.event_count.proofs.count.EventCount.store_next.Goals as goal
@@ -8,5 +8,5 @@ store-requires g c = (
   search rules,
   search rules,
   store_keeps_at _ _ _ _ c.args.seat.now.alone _ _ c.requires.pre c.requires.waiter
-      (sym (ap next_place c.args.seat.now.numbered)),
+      (c.next_word_of-place.ensures ∙ sym (ap next_place c.args.seat.now.numbered)),
 )

@@ -1,0 +1,13 @@
+use Rattle.serde_json.specs.View.{items_view}
+use Rattle.tensor_ops.specs.Term.{unary}
+use Rattle.tensor_ops.specs.Tree.{term_of}
+use Rattle.expr_reader.specs.Version.{forms_of, unary_of}
+use Rattle.expr_reader.proofs.Walk.{made-found}
+use Rattle.expr_reader.proofs.node.read_unary.Goals as goal
+
+pub returns : goal.returns
+returns c =
+    let read = rw c.in_ok-first.ensures at c.in_ok-expr.ensures in
+    rw (made-found c.args.inputs.now (forms_of c.args.operation) (items_view c.args.arguments.now)
+    (λ a. unary (unary_of c.args.operation a) (term_of c.args.operand.expr)) c.args.operand.end (term_of c.in_ok-expr.expr) read)
+    c.checked.ensures

@@ -1,0 +1,45 @@
+-- The arguments of operations: their forms, and what stands in a text for one of each.
+use Rattle.std.specs.Prelude.{ℕ, ℤ, Bool, List, [], ◌∷◌, Option, Some, None}
+use Rattle.std.specs.Option.{option_zip}
+use Rattle.serde_json.specs.Data.{Data, Items, no_items, item}
+use Rattle.serde_json.specs.Find.{as_bool}
+use Rattle.expr_reader.specs.Fields.{within, signed_of, list_in}
+use Rattle.expr_reader.specs.Limits.{greatest_size}
+
+-- the forms: a whole number from 0 up, a list of these, a list of truth values, and a whole number
+-- of the `i64` range
+pub data Form : Type 0 where
+  size : Form
+  sizes : Form
+  flags : Form
+  value : Form
+
+-- what an argument of a form is
+abbrev pub Argument : Form → Type 0
+Argument size = ℕ
+Argument sizes = List ℕ
+Argument flags = List Bool
+Argument value = ℤ
+
+-- a whole number from 0 to the greatest size
+abbrev pub size_in : Data → Option ℕ
+size_in d = within 0 greatest_size d
+
+-- an argument of a form, where the data is one
+abbrev pub argument_in : (f : Form) → Data → Option (Argument f)
+argument_in size d = size_in d
+argument_in sizes d = list_in size_in d
+argument_in flags d = list_in as_bool d
+argument_in value d = signed_of d
+
+-- an argument of each form, in their order
+abbrev pub Arguments : List Form → Type 0
+Arguments [] = Unit {0}
+Arguments (f ∷ fs) = Argument f × Arguments fs
+
+-- the arguments that items are, where there is one of each form and no more
+abbrev pub arguments_in : (fs : List Form) → Items → Option (Arguments fs)
+arguments_in [] no_items = Some tt
+arguments_in [] (item d ds) = None
+arguments_in (f ∷ fs) no_items = None
+arguments_in (f ∷ fs) (item d ds) = option_zip (argument_in f d) (arguments_in fs ds)

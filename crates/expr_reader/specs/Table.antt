@@ -1,0 +1,59 @@
+-- The operations of the text, as a table: what each takes, and what is made of it.
+use Rattle.std.specs.Prelude.{ℕ, ◌+◌, length, List, [], ◌∷◌, codes}
+use Rattle.tensor_ops.specs.Term.{Unary, each, constant, movement, Binary, pairwise}
+use Rattle.tensor_ops.specs.Term.{Ternary, select, broadcast, slice, shuffle, reshape}
+use Rattle.tensor_ops.specs.Term.{chip, reverse}
+use Rattle.tensor_ops.specs.declared.operations.UnaryScalar.{UnaryScalar}
+use Rattle.tensor_ops.specs.declared.operations.UnaryScalar.TheVariants as unary
+use Rattle.tensor_ops.specs.declared.operations.BinaryScalar.{BinaryScalar}
+use Rattle.tensor_ops.specs.declared.operations.BinaryScalar.TheVariants as binary
+use Rattle.expr_reader.specs.Arguments.{Form, size, sizes, flags, value, Arguments}
+
+-- the number of operands, the forms of the arguments behind them, and what these make
+pub data Operation : Type 0 where
+  one : (forms : List Form) → (Arguments forms → Unary) → Operation
+  two : (forms : List Form) → (Arguments forms → Binary) → Operation
+  three : (forms : List Form) → (Arguments forms → Ternary) → Operation
+
+-- how many elements stand after the name: operands, and then arguments
+abbrev pub arity_of : Operation → ℕ
+arity_of (one forms make) = 1 + length forms
+arity_of (two forms make) = 2 + length forms
+arity_of (three forms make) = 3 + length forms
+
+-- the operations on each value, and on each two
+abbrev pub on_each : UnaryScalar → Operation
+on_each o = one [] (λ none. each o)
+
+abbrev pub on_pairs : BinaryScalar → Operation
+on_pairs o = two [] (λ none. pairwise o)
+
+-- the operations of the first version, by their names
+abbrev pub operations_1 : List (List ℕ × Operation)
+operations_1 =
+    (codes "neg", on_each unary.Neg)
+    ∷ (codes "abs", on_each unary.Abs)
+    ∷ (codes "square", on_each unary.Square)
+    ∷ (codes "not", on_each unary.Not)
+    ∷ (codes "add", on_pairs binary.Add)
+    ∷ (codes "sub", on_pairs binary.Sub)
+    ∷ (codes "mul", on_pairs binary.Mul)
+    ∷ (codes "cwise_max", on_pairs binary.CwiseMax)
+    ∷ (codes "cwise_min", on_pairs binary.CwiseMin)
+    ∷ (codes "lt", on_pairs binary.Lt)
+    ∷ (codes "le", on_pairs binary.Le)
+    ∷ (codes "eq", on_pairs binary.Eq)
+    ∷ (codes "ne", on_pairs binary.Ne)
+    ∷ (codes "gt", on_pairs binary.Gt)
+    ∷ (codes "ge", on_pairs binary.Ge)
+    ∷ (codes "and", on_pairs binary.And)
+    ∷ (codes "or", on_pairs binary.Or)
+    ∷ (codes "select", three [] (λ none. select))
+    ∷ (codes "constant", one (value ∷ []) (λ a. constant a.0))
+    ∷ (codes "broadcast", one (sizes ∷ []) (λ a. movement (broadcast a.0)))
+    ∷ (codes "slice", one (sizes ∷ sizes ∷ []) (λ a. movement (slice a.0 a.1.0)))
+    ∷ (codes "shuffle", one (sizes ∷ []) (λ a. movement (shuffle a.0)))
+    ∷ (codes "reshape", one (sizes ∷ []) (λ a. movement (reshape a.0)))
+    ∷ (codes "chip", one (size ∷ size ∷ []) (λ a. movement (chip a.0 a.1.0)))
+    ∷ (codes "reverse", one (flags ∷ []) (λ a. movement (reverse a.0)))
+    ∷ []

@@ -1,0 +1,58 @@
+//! The operations of the text.
+
+ghost use Rattle.std.specs.Prelude.{◌≡◌, length};
+
+use tensor_ops::{BinaryScalar, UnaryScalar};
+
+/// An operation on one operand, without its arguments.
+#[derive(Clone, Copy, Debug, Eq, PartialEq)]
+pub(crate) enum Unary {
+    Each(UnaryScalar),
+    Constant,
+    Broadcast,
+    Slice,
+    Shuffle,
+    Reshape,
+    Chip,
+    Reverse,
+}
+
+/// An operation by the number of its operands.
+#[derive(Clone, Copy, Debug, Eq, PartialEq)]
+pub(crate) enum Operation {
+    One(Unary),
+    Two(BinaryScalar),
+    Select,
+}
+
+impl Unary {
+    ghost use Rattle.expr_reader.specs.Version.{forms_of};
+
+    /// How many arguments stand behind its operand.
+    pub(crate) fn arguments(self) -> usize
+        ensures { result ≡ length (forms_of self) }
+    {
+        match self {
+            Unary::Each(_) => 0,
+            Unary::Constant | Unary::Broadcast | Unary::Shuffle | Unary::Reshape | Unary::Reverse =>
+                1,
+            Unary::Slice | Unary::Chip => 2,
+        }
+    }
+}
+
+impl Operation {
+    ghost use Rattle.expr_reader.specs.Table.{arity_of};
+    ghost use Rattle.expr_reader.specs.Version.{operation_under};
+
+    /// How many elements stand behind its name: operands, and then arguments.
+    pub(crate) fn arity(self) -> usize
+        ensures { result ≡ arity_of (operation_under self) }
+    {
+        match self {
+            Operation::One(unary) => 1 + unary.arguments(),
+            Operation::Two(_) => 2,
+            Operation::Select => 3,
+        }
+    }
+}

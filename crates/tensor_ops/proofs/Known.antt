@@ -1,0 +1,113 @@
+-- What the checks of each movement passed, where it has result dims.
+use Rattle.std.proofs.Common.{◌≡◌, ℕ, ◌<◌, List, length, get_or, remove, Bool, true, false, ◌&&◌, nat_eq, nat_lt, nat_le}
+use Rattle.std.proofs.Common.{Ok, Err, IsOk, if◌then◌else◌, [], refl, ap, sym, ◌∙◌, inl, inr}
+use Rattle.std.proofs.lemmas.Bool.{cases_Bool, and_parts, eqb-true, ltb-true, leb-true}
+use Rattle.std.specs.Result.{result_unwrap_or}
+use Rattle.tensor_shape.specs.Index.{size_of}
+use Rattle.tensor_shape.specs.Legal.{highest_rank, most_elements, bulk_of, IsLegal, are_legal}
+use Rattle.tensor_ops.specs.Movement.{moved_dims, repeated_dims, shuffled_dims, none_is_zero, fit_within, has_all_below}
+use Rattle.tensor_ops.specs.Shaped.{Shaped}
+use Rattle.tensor_ops.specs.Term.{Movement, broadcast, slice, shuffle, reshape, chip, reverse}
+use Rattle.tensor_ops.specs.declared.fault.ExprFault.{ExprFault}
+use Rattle.tensor_ops.specs.declared.fault.ExprFault.TheVariants.{ShapeMismatch, OutOfRange, TooLarge}
+
+-- a check passed, and so did those after it
+check-known : (check : Bool) (rest : Shaped) (fault : ExprFault) → IsOk (if check then rest else Err fault) → (check ≡ true) × IsOk rest
+check-known true rest fault h = (refl, h)
+check-known false rest fault h = (cc)
+
+-- dims that pass the test of being legal are
+pub IsLegal-are_legal : (ds : List ℕ) → are_legal highest_rank ds ≡ true → IsLegal ds
+IsLegal-are_legal ds h =
+    let parts = and_parts (nat_le (length ds) highest_rank) (nat_le (bulk_of ds) most_elements) h in
+    record { rank = leb-true (length ds) highest_rank parts.0; elements = leb-true (bulk_of ds) most_elements parts.1 }
+
+pub record IsBroadcast (counts ds : List ℕ) : Type 0 where
+  pub long : length counts ≡ length ds
+  pub some : none_is_zero counts ≡ true
+  pub legal : are_legal highest_rank (repeated_dims ds counts) ≡ true
+  pub dims : moved_dims (broadcast counts) ds ≡ Ok (repeated_dims ds counts)
+
+pub broadcast-known : (counts ds : List ℕ) → IsOk (moved_dims (broadcast counts) ds) → IsBroadcast counts ds
+broadcast-known counts ds h =
+    let long = check-known (nat_eq (length counts) (length ds)) _ ShapeMismatch h in
+    let some = check-known (none_is_zero counts) _ OutOfRange long.1 in
+    let legal = check-known (are_legal highest_rank (repeated_dims ds counts)) _ TooLarge some.1 in
+    record {
+      long = eqb-true (length counts) (length ds) long.0;
+      some = some.0;
+      legal = legal.0;
+      dims = rw (long.0, some.0, legal.0) refl;
+    }
+
+pub record IsSlice (offsets extents ds : List ℕ) : Type 0 where
+  pub offsets_long : length offsets ≡ length ds
+  pub extents_long : length extents ≡ length ds
+  pub fits : fit_within ds offsets extents ≡ true
+  pub dims : moved_dims (slice offsets extents) ds ≡ Ok extents
+
+pub slice-known : (offsets extents ds : List ℕ) → IsOk (moved_dims (slice offsets extents) ds) → IsSlice offsets extents ds
+slice-known offsets extents ds h =
+    let long = check-known (nat_eq (length offsets) (length ds) && nat_eq (length extents) (length ds)) _ ShapeMismatch h in
+    let fits = check-known (fit_within ds offsets extents) _ OutOfRange long.1 in
+    let each = and_parts (nat_eq (length offsets) (length ds)) (nat_eq (length extents) (length ds)) long.0 in
+    record {
+      offsets_long = eqb-true (length offsets) (length ds) each.0;
+      extents_long = eqb-true (length extents) (length ds) each.1;
+      fits = fits.0;
+      dims = rw (long.0, fits.0) refl;
+    }
+
+pub record IsShuffle (order ds : List ℕ) : Type 0 where
+  pub long : length order ≡ length ds
+  pub all : has_all_below (length ds) order ≡ true
+  pub dims : moved_dims (shuffle order) ds ≡ Ok (shuffled_dims ds order)
+
+pub shuffle-known : (order ds : List ℕ) → IsOk (moved_dims (shuffle order) ds) → IsShuffle order ds
+shuffle-known order ds h =
+    let long = check-known (nat_eq (length order) (length ds)) _ ShapeMismatch h in
+    let all = check-known (has_all_below (length ds) order) _ OutOfRange long.1 in
+    record { long = eqb-true (length order) (length ds) long.0; all = all.0; dims = rw (long.0, all.0) refl }
+
+pub record IsReshape (sizes ds : List ℕ) : Type 0 where
+  pub legal : are_legal highest_rank sizes ≡ true
+  pub same : size_of sizes ≡ size_of ds
+  pub dims : moved_dims (reshape sizes) ds ≡ Ok sizes
+
+pub reshape-known : (sizes ds : List ℕ) → IsOk (moved_dims (reshape sizes) ds) → IsReshape sizes ds
+reshape-known sizes ds h =
+    elim (cases_Bool (are_legal highest_rank sizes)) [
+      | inl legal ↦
+          let checked = rw legal at h in
+          let same = check-known (nat_eq (size_of sizes) (size_of ds)) (Ok sizes) ShapeMismatch checked in
+          record { legal = legal; same = eqb-true (size_of sizes) (size_of ds) same.0; dims = rw (legal, same.0) refl }
+      | inr illegal ↦ let bad = rw illegal at h in (cc)
+    ]
+
+pub record IsChip (offset axis : ℕ) (ds : List ℕ) : Type 0 where
+  pub in_rank : axis < length ds
+  pub in_axis : offset < get_or ds axis 0
+  pub dims : moved_dims (chip offset axis) ds ≡ Ok (remove ds axis)
+
+pub chip-known : (offset axis : ℕ) (ds : List ℕ) → IsOk (moved_dims (chip offset axis) ds) → IsChip offset axis ds
+chip-known offset axis ds h =
+    let inside = check-known (nat_lt axis (length ds) && nat_lt offset (get_or ds axis 0)) _ OutOfRange h in
+    let each = and_parts (nat_lt axis (length ds)) (nat_lt offset (get_or ds axis 0)) inside.0 in
+    record {
+      in_rank = ltb-true axis (length ds) each.0;
+      in_axis = ltb-true offset (get_or ds axis 0) each.1;
+      dims = rw inside.0 refl;
+    }
+
+pub record IsReverse (flags : List Bool) (ds : List ℕ) : Type 0 where
+  pub long : length flags ≡ length ds
+  pub dims : moved_dims (reverse flags) ds ≡ Ok ds
+
+pub reverse-known : (flags : List Bool) (ds : List ℕ) → IsOk (moved_dims (reverse flags) ds) → IsReverse flags ds
+reverse-known flags ds h =
+    let long = check-known (nat_eq (length flags) (length ds)) _ ShapeMismatch h in
+    record { long = eqb-true (length flags) (length ds) long.0; dims = rw long.0 refl }
+
+-- a movement has one list of result dims
+pub moved_dims-unique : (m : Movement) (ds es rs : List ℕ) → moved_dims m ds ≡ Ok es → moved_dims m ds ≡ Ok rs → es ≡ rs
+moved_dims-unique m ds es rs first second = ap (λ r. result_unwrap_or r []) (sym first ∙ second)

@@ -1,0 +1,182 @@
+-- Expressions placed: each kind of node keeps the values.
+use Rattle.std.proofs.Common.{◌≡◌, ℕ, ℤ, pos, ◌+◌, ◌<◌, ◌≤◌, ◌^◌, List, length, map, Bor, true, Result, Ok, Err, IfOk}
+use Rattle.std.proofs.Common.{refl, ap, sym, ◌∙◌, arith}
+use Rattle.std.specs.List.{range_with_len}
+use Rattle.std.proofs.lemmas.List.FromFn.{length-map-range_with_len, get_or-map-range_with_len}
+use Rattle.tensor_shape.specs.Index.{size_of, IsIndexOf, place, index_of}
+use Rattle.tensor_shape.specs.Legal.{most_elements}
+use Rattle.tensor_shape.proofs.Places.{place-below-size_of, index_of-place, place-index_of, IsIndexOf-index_of}
+use Rattle.tensor_ops.specs.Axes.{axes_from, are_along, by_steps, moved_axes, moved_start}
+use Rattle.tensor_ops.specs.Contents.{Contents, value_at}
+use Rattle.tensor_ops.specs.Meaning.{meaning, count_of, IsSound, IsListOf}
+use Rattle.tensor_ops.specs.Movement.{moved, moved_dims}
+use Rattle.tensor_ops.specs.Places.{value_in}
+use Rattle.tensor_ops.specs.Placing.{Gives, IsView, meaning_at}
+use Rattle.tensor_ops.specs.Result.{shape_of, unary_dims}
+use Rattle.tensor_ops.specs.Term.{Term, unary, Unary, each, constant, movement, Movement, reshape}
+use Rattle.tensor_ops.specs.Value.{value, unary_value, applied}
+use Rattle.tensor_ops.specs.Walk.{walk_size, reached}
+use Rattle.tensor_ops.specs.declared.operations.UnaryScalar.{UnaryScalar}
+use Rattle.tensor_ops.specs.declared.placed.Placed.{Placed}
+use Rattle.tensor_ops.specs.declared.placed.Placed.TheVariants.{Lent}
+use Rattle.tensor_ops.specs.declared.walk.Axis.{Axis}
+use Rattle.tensor_ops.proofs.AxisLists.{are_along-from, by_steps-from, walk_size-along, reached-along}
+use Rattle.tensor_ops.proofs.Known.{reshape-known}
+use Rattle.tensor_ops.proofs.Moves.{walk_size-moved, reached-moved, index-moved, moved_start-below}
+use Rattle.tensor_ops.proofs.Walks.{reached-start}
+
+-- what is placed gives its own values
+pub gives-itself : (placed : Placed) (ds : List ℕ) → IsSound placed → count_of placed ≡ size_of ds
+    → Gives placed ds (meaning_at placed ds)
+gives-itself placed ds sound count = record {
+  sound = sound;
+  count = count;
+  means = λ p below. ap (meaning placed) (sym (place-index_of ds p below));
+}
+
+-- a value at an index list
+pub gives-index : (placed : Placed) (ds : List ℕ) (f : List ℕ → ℤ) (index : List ℕ) → Gives placed ds f → IsIndexOf ds index
+    → meaning_at placed ds index ≡ f index
+gives-index placed ds f index gives is_index =
+    gives.means (place ds index) (place-below-size_of ds index is_index) ∙ ap f (index_of-place ds index is_index)
+
+-- the values of an input
+pub gives-input : (values : Bor (List ℤ)) (t : Contents) → values.now ≡ t.values → length t.values ≡ size_of t.dims
+    → Gives (Lent values) t.dims (value_at t)
+gives-input values t same full = record {
+  sound = tt;
+  count = ap length same ∙ full;
+  means = λ p below. ap (λ l. value_in l p) same ∙ ap (value_in t.values) (sym (place-index_of t.dims p below));
+}
+
+-- an operand read along the axes of its own dims, and one that is a walk along them already
+pub view-whole : (placed : Placed) (ds : List ℕ) → IsSound placed → count_of placed ≡ size_of ds → size_of ds ≤ most_elements
+    → IsView placed 0 (axes_from 1 ds) placed ds
+view-whole placed ds sound count few = record {
+  sound = sound;
+  few = omega (arith, count);
+  along = are_along-from 1 ds;
+  inside = λ index is_index. omega (arith, count, by_steps-from 1 ds index, place-below-size_of ds index is_index);
+  means = λ index is_index. ap (meaning placed) (omega (arith, by_steps-from 1 ds index));
+}
+
+pub view-walk : (outer inner : Placed) (start : ℕ) (axes : List Axis) (ds : List ℕ)
+    → ((p : ℕ) → meaning outer p ≡ meaning inner (reached start axes p))
+    → IsSound inner → count_of inner ≤ most_elements → ((p : ℕ) → p < walk_size axes → reached start axes p < count_of inner)
+    → are_along axes ds ≡ true → IsView inner start axes outer ds
+view-walk outer inner start axes ds means sound few inside along =
+    let at : (index : List ℕ) → IsIndexOf ds index → reached start axes (place ds index) ≡ start + by_steps axes index =
+    λ index is_index. reached-start start axes (place ds index)
+    ∙ ap (λ n. start + n) (reached-along axes ds (place ds index) along ∙ ap (by_steps axes) (index_of-place ds index is_index)) in
+    record {
+      sound = sound;
+      few = few;
+      along = along;
+      inside = λ index is_index.
+          let below : place ds index < walk_size axes =
+          omega (arith, walk_size-along axes ds along, place-below-size_of ds index is_index) in
+          omega (arith, at index is_index, inside (place ds index) below);
+      means = λ index is_index. sym (means (place ds index) ∙ ap (meaning inner) (at index is_index));
+    }
+
+-- a walk over such an operand
+pub gives-walk : (m : Movement) (inner outer whole : Placed) (start from : ℕ) (axes along : List Axis) (ds rs : List ℕ)
+    → IsView inner start axes outer ds → moved_dims m ds ≡ Ok rs → from ≡ moved_start m start axes → along ≡ moved_axes m axes
+    → ((p : ℕ) → meaning whole p ≡ meaning inner (reached from along p)) → count_of whole ≡ walk_size along
+    → (IsSound inner → count_of inner ≤ most_elements
+    → ((p : ℕ) → p < walk_size along → reached from along p < count_of inner) → IsSound whole)
+    → Gives whole rs (λ index. meaning_at outer ds (moved m ds index))
+gives-walk m inner outer whole start from axes along ds rs view dims is_from is_along means count sound =
+    let size : walk_size along ≡ size_of rs = ap walk_size is_along ∙ walk_size-moved axes ds rs view.along m dims in
+    let at : (p : ℕ) → p < size_of rs → reached from along p ≡ start + by_steps axes (moved m ds (index_of rs p)) =
+    λ p below. ap (λ s. reached s along p) is_from ∙ ap (λ l. reached (moved_start m start axes) l p) is_along
+    ∙ reached-moved axes ds rs view.along m start p dims below in
+    let within : (p : ℕ) → p < size_of rs → IsIndexOf ds (moved m ds (index_of rs p)) =
+    λ p below. index-moved axes ds rs view.along m (index_of rs p) dims (IsIndexOf-index_of rs p below) in
+    record {
+      sound = sound view.sound view.few
+          (λ p below.
+          let inside : p < size_of rs = omega arith in
+          omega (arith, at p inside, view.inside (moved m ds (index_of rs p)) (within p inside)));
+      count = count ∙ size;
+      means = λ p below. means p ∙ ap (meaning inner) (at p below) ∙ view.means (moved m ds (index_of rs p)) (within p below);
+    }
+
+-- where it starts is within bounds
+pub moved_start-few : (m : Movement) (inner outer : Placed) (start : ℕ) (axes : List Axis) (ds rs : List ℕ)
+    → IsView inner start axes outer ds → moved_dims m ds ≡ Ok rs → 0 < size_of rs → moved_start m start axes < 2 ^ 32
+moved_start-few m inner outer start axes ds rs view dims some =
+    let inside = view.inside (moved m ds (index_of rs 0)) (index-moved axes ds rs view.along m (index_of rs 0) dims (IsIndexOf-index_of rs 0 some)) in
+    moved_start-below axes ds rs view.along m start (2 ^ 32) dims some (omega (arith, inside, view.few))
+
+-- an operation on each value
+pub gives-each : (o : UnaryScalar) (a b whole : Placed) (ds : List ℕ) → b ≡ a → (IsSound b → IsSound whole) → count_of whole ≡ count_of b
+    → ((p : ℕ) → meaning whole p ≡ applied o (meaning b p)) → IsSound a → count_of a ≡ size_of ds
+    → Gives whole ds (λ index. applied o (meaning_at a ds index))
+gives-each o a b whole ds same sounds count means sound full = record {
+  sound = sounds (rw same sound);
+  count = count ∙ ap count_of same ∙ full;
+  means = λ p below. means p ∙ ap (λ q. applied o (meaning b q)) (sym (place-index_of ds p below))
+      ∙ ap (λ x. applied o (meaning x (place ds (index_of ds p)))) same;
+}
+
+-- values that were worked out
+pub gives-list : (whole placed : Placed) (items : List ℤ) (ds : List ℕ) (count : ℕ) → IsListOf whole items → IsSound whole
+    → items ≡ map (meaning placed) (range_with_len 0 count) → count ≡ size_of ds → Gives whole ds (meaning_at placed ds)
+gives-list whole placed items ds count is sound same full = record {
+  sound = sound;
+  count = is.count ∙ ap length same ∙ length-map-range_with_len (meaning placed) 0 count ∙ full;
+  means = λ p below. is.each p ∙ ap (λ l. value_in l p) same
+      ∙ get_or-map-range_with_len (meaning placed) 0 count p p (pos 0) (omega arith) (omega arith)
+      ∙ ap (meaning placed) (sym (place-index_of ds p below));
+}
+
+-- a reshape has its operand's values at the same places
+pub gives-reshape : (sizes ds rs : List ℕ) (placed : Placed) → IsSound placed → count_of placed ≡ size_of ds
+    → moved_dims (reshape sizes) ds ≡ Ok rs → Gives placed rs (λ index. meaning_at placed ds (moved (reshape sizes) ds index))
+gives-reshape sizes ds rs placed sound count dims =
+    let known = reshape-known sizes ds (rw dims refl) in
+    let result : sizes ≡ rs = (cc known.dims) in
+    let size : size_of rs ≡ size_of ds = sym (ap size_of result) ∙ known.same in
+    record {
+      sound = sound;
+      count = count ∙ sym size;
+      means = λ p below.
+          let in_sizes : p < size_of sizes = omega (arith, known.same) in
+          let same : place ds (index_of ds (place sizes (index_of sizes p))) ≡ p =
+          ap (λ q. place ds (index_of ds q)) (place-index_of sizes p in_sizes) ∙ place-index_of ds p (omega arith) in
+          ap (meaning placed) (sym same) ∙ ap (λ r. meaning placed (place ds (index_of ds (place sizes (index_of r p))))) result;
+    }
+
+-- values of the same function
+pub gives-other : (placed : Placed) (rs : List ℕ) (f g : List ℕ → ℤ) → Gives placed rs f
+    → ((index : List ℕ) → IsIndexOf rs index → f index ≡ g index) → Gives placed rs g
+gives-other placed rs f g gives same = record {
+  sound = gives.sound;
+  count = gives.count;
+  means = λ p below. gives.means p below ∙ same (index_of rs p) (IsIndexOf-index_of rs p below);
+}
+
+-- an operation on one tensor, of an operand with the values of a function
+pub unary_value-other : (o : Unary) (ds rs : List ℕ) (f g : List ℕ → ℤ) → unary_dims o ds ≡ Ok rs
+    → ((index : List ℕ) → IsIndexOf ds index → f index ≡ g index)
+    → (index : List ℕ) → IsIndexOf rs index → unary_value o ds f index ≡ unary_value o ds g index
+unary_value-other (each o) ds rs f g dims same index is_index =
+    let whole : rs ≡ ds = (cc) in
+    ap (applied o) (same index (rw (← whole) is_index))
+unary_value-other (constant v) ds rs f g dims same index is_index = refl
+unary_value-other (movement m) ds rs f g dims same index is_index = same (moved m ds index) (index-moved (axes_from 1 ds) ds rs (are_along-from 1 ds) m index dims is_index)
+
+pub gives-unary : (inputs : List Contents) (t : Term) (o : Unary) (a whole : Placed) (ds rs : List ℕ) → Gives a ds (value t inputs)
+    → ds ≡ shape_of t inputs → unary_dims o ds ≡ Ok rs → Gives whole rs (unary_value o ds (meaning_at a ds))
+    → Gives whole rs (value (unary o t) inputs)
+gives-unary inputs t o a whole ds rs operand shape dims gives =
+    gives-other whole rs (unary_value o ds (meaning_at a ds)) (value (unary o t) inputs) gives
+    (λ index is_index.
+    unary_value-other o ds rs (meaning_at a ds) (value t inputs) dims (λ js. gives-index a ds (value t inputs) js operand) index is_index
+    ∙ ap (λ d. unary_value o d (value t inputs) index) shape)
+
+-- two facts of the same result
+pub IfOk-both : {X E : Type 0} (r : Result X E) (P Q R : X → Type 0) → ((x : X) → P x → Q x → R x) → IfOk r P → IfOk r Q → IfOk r R
+IfOk-both (Ok x) P Q R join p q = join x p q
+IfOk-both (Err e) P Q R join p q = p

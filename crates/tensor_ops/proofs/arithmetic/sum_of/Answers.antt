@@ -1,6 +1,0 @@
-use Rattle.std.proofs.Common.{rules}
-use Rattle.std.proofs.lemmas.Int.{wraps}
-use Rattle.tensor_ops.proofs.arithmetic.sum_of.Goals as goal
-
-pub returns : goal.returns
-returns c = search (rules, wraps)

@@ -1,0 +1,145 @@
+use Rattle.std.proofs.Common.{◌≡◌, map, IfOk, ap, subst, ◌∙◌, rules, arith}
+use Rattle.std.specs.Cow.{cow_slice_items}
+use Rattle.std.specs.Prelude.{replicate}
+use Rattle.tensor_ops.specs.Loops.{either_way, selected}
+use Rattle.tensor_ops.specs.Meaning.{meaning, count_of, depth_of}
+use Rattle.tensor_ops.specs.Places.{places_of}
+use Rattle.tensor_ops.specs.Value.{applied}
+use Rattle.tensor_ops.specs.Walk.{reached, walk_size}
+use Rattle.tensor_ops.proofs.Runs.{places-applied, places-combined, places-selected, places-moved, map-constant}
+use Rattle.tensor_ops.proofs.Soundness.{reached-within}
+use Rattle.tensor_ops.proofs.placed.+values_at.Goals as goal
+
+pub sources-requires-clause-fits : goal.sources-requires-clause-fits
+sources-requires-clause-fits t c =
+    let sound = rw c.in-Walk.is at c.requires.sound in
+    rw c.deref-in-Walk-2.ensures.value (λ p below. omega (arith, sound.1.0, sound.1.1 p below))
+
+pub values_at-requires : goal.values_at-requires
+values_at-requires t c = (
+  omega (arith, c.decreases, ap depth_of c.in-Unary.is, ap depth_of c.deref.ensures),
+  (
+    rw (c.deref.ensures) (rw c.in-Unary.is at c.requires.sound),
+    rw (c.deref.ensures) (rw c.in-Unary.is at c.requires.places),
+  ),
+)
+
+pub values_at-requires-in-Binary : goal.values_at-requires-in-Binary
+values_at-requires-in-Binary t c =
+    let sound = rw c.in-Binary.is at c.requires.sound in (
+      omega (arith, c.decreases, ap depth_of c.in-Binary.is, ap depth_of c.deref-in-Binary.ensures),
+      (
+        rw (c.deref-in-Binary.ensures) sound.0,
+        rw (c.deref-in-Binary.ensures) (rw c.in-Binary.is at c.requires.places),
+      ),
+    )
+
+pub values_at-requires-in-Binary-2 : goal.values_at-requires-in-Binary-2
+values_at-requires-in-Binary-2 t c =
+    let sound = rw c.in-Binary.is at c.requires.sound in (
+      omega (arith, c.decreases, ap depth_of c.in-Binary.is, ap depth_of c.deref-in-Binary-2.ensures),
+      (
+        rw (c.deref-in-Binary-2.ensures) sound.1.0,
+        rw (c.deref-in-Binary-2.ensures, sound.1.1) (rw c.in-Binary.is at c.requires.places),
+      ),
+    )
+
+pub values_at-requires-in-Walk : goal.values_at-requires-in-Walk
+values_at-requires-in-Walk t c = (
+  omega (arith, c.decreases, ap depth_of c.in-Walk.is, ap depth_of c.deref-in-Walk-3.ensures),
+  (
+    let sound = rw c.in-Walk.is at c.requires.sound in rw c.deref-in-Walk-3.ensures sound.0,
+    let sound = rw c.in-Walk.is at c.requires.sound in
+        let below = rw c.in-Walk.is at c.requires.places in
+        let listed : c.deref-in-Walk-4.result.now ≡ map (reached c.in-Walk.start c.in-Walk.axes.items) (places_of c.args.places.now) =
+        c.deref-in-Walk-4.ensures.value ∙ c.in_ok-sources-in-Walk.ensures
+        ∙ ap (λ l. map (reached c.in-Walk.start l) (places_of c.args.places.now)) c.deref-in-Walk-2.ensures.value in
+        rw (listed, c.deref-in-Walk-3.ensures)
+        (λ k within. reached-within (reached c.in-Walk.start c.in-Walk.axes.items) c.args.places.now (walk_size c.in-Walk.axes.items)
+        (count_of c.in-Walk.operand.value) k below sound.1.1 within),
+  ),
+)
+
+pub returns-in_ok-values-in-Unary : goal.returns-in_ok-values-in-Unary
+returns-in_ok-values-in-Unary t c =
+    rw c.in-Unary.is
+    (places-applied (places_of c.args.places.now) (applied c.in-Unary.operation) (meaning c.in-Unary.operand.value)
+    c.in_ok-values-in-Unary.values.items c.apply.new.values.items
+    (c.in_ok-values-in-Unary.ensures ∙ c.in_ok-values_at-in-Unary.ensures
+    ∙ ap (λ a. map (meaning a) (places_of c.args.places.now)) c.deref.ensures)
+    c.apply.ensures.len c.apply.ensures.each)
+
+pub returns-in_ok-second-in-Binary : goal.returns-in_ok-second-in-Binary
+returns-in_ok-second-in-Binary t c =
+    rw c.in-Binary.is
+    (places-combined (places_of c.args.places.now) (either_way c.in-Binary.operation c.in-Binary.turned)
+    (meaning c.in-Binary.first.value) (meaning c.in-Binary.second.value)
+    c.in_ok-values-in-Binary.values.items c.as_slice-in-Binary.result.now c.combine.new.values.items
+    (c.in_ok-values-in-Binary.ensures ∙ c.in_ok-values_at-in-Binary.ensures
+    ∙ ap (λ a. map (meaning a) (places_of c.args.places.now)) c.deref-in-Binary.ensures)
+    (c.as_slice-in-Binary.ensures.value ∙ c.in_ok-second-in-Binary.ensures
+    ∙ ap (λ a. map (meaning a) (places_of c.args.places.now)) c.deref-in-Binary-2.ensures)
+    c.combine.ensures.len c.combine.ensures.each)
+
+pub returns-in_ok-sources-in-Walk : goal.returns-in_ok-sources-in-Walk
+returns-in_ok-sources-in-Walk t c =
+    let listed : c.deref-in-Walk-4.result.now ≡ map (reached c.in-Walk.start c.in-Walk.axes.items) (places_of c.args.places.now) =
+    c.deref-in-Walk-4.ensures.value ∙ c.in_ok-sources-in-Walk.ensures
+    ∙ ap (λ l. map (reached c.in-Walk.start l) (places_of c.args.places.now)) c.deref-in-Walk-2.ensures.value in
+    let whole : map (meaning c.deref-in-Walk-3.result.now) c.deref-in-Walk-4.result.now
+    ≡ map (λ p. meaning c.in-Walk.operand.value (reached c.in-Walk.start c.in-Walk.axes.items p)) (places_of c.args.places.now) =
+    ap (λ a. map (meaning a) c.deref-in-Walk-4.result.now) c.deref-in-Walk-3.ensures
+    ∙ ap (λ l. map (meaning c.in-Walk.operand.value) l) listed
+    ∙ places-moved (places_of c.args.places.now) (meaning c.in-Walk.operand.value) (reached c.in-Walk.start c.in-Walk.axes.items) in
+    rw c.in-Walk.is
+    (subst (λ l. IfOk c.values_at-in-Walk.result (λ v. cow_slice_items v ≡ l)) whole c.values_at-in-Walk.ensures)
+
+pub values_at-requires-in-Select : goal.values_at-requires-in-Select
+values_at-requires-in-Select t c =
+    let sound = rw c.in-Select.is at c.requires.sound in (
+      omega (arith, c.decreases, ap depth_of c.in-Select.is, ap depth_of c.deref-in-Select.ensures),
+      (
+        rw (c.deref-in-Select.ensures) sound.0,
+        rw (c.deref-in-Select.ensures) (rw c.in-Select.is at c.requires.places),
+      ),
+    )
+
+pub values_at-requires-in-Select-2 : goal.values_at-requires-in-Select-2
+values_at-requires-in-Select-2 t c =
+    let sound = rw c.in-Select.is at c.requires.sound in (
+      omega (arith, c.decreases, ap depth_of c.in-Select.is, ap depth_of c.deref-in-Select-2.ensures),
+      (
+        rw (c.deref-in-Select-2.ensures) sound.1.0.0,
+        rw (c.deref-in-Select-2.ensures, sound.1.0.1) (rw c.in-Select.is at c.requires.places),
+      ),
+    )
+
+pub values_at-requires-in-Select-3 : goal.values_at-requires-in-Select-3
+values_at-requires-in-Select-3 t c =
+    let sound = rw c.in-Select.is at c.requires.sound in (
+      omega (arith, c.decreases, ap depth_of c.in-Select.is, ap depth_of c.deref-in-Select-3.ensures),
+      (
+        rw (c.deref-in-Select-3.ensures) sound.1.1.0,
+        rw (c.deref-in-Select-3.ensures, sound.1.1.1) (rw c.in-Select.is at c.requires.places),
+      ),
+    )
+
+pub returns-in_ok-third-in-Select : goal.returns-in_ok-third-in-Select
+returns-in_ok-third-in-Select t c =
+    rw c.in-Select.is
+    (places-selected (places_of c.args.places.now) (selected c.in-Select.order)
+    (meaning c.in-Select.first.value) (meaning c.in-Select.second.value) (meaning c.in-Select.third.value)
+    c.in_ok-values-in-Select.values.items c.as_slice-in-Select.result.now c.as_slice-in-Select-2.result.now c.select.new.values.items
+    (c.in_ok-values-in-Select.ensures ∙ c.in_ok-values_at-in-Select.ensures
+    ∙ ap (λ a. map (meaning a) (places_of c.args.places.now)) c.deref-in-Select.ensures)
+    (c.as_slice-in-Select.ensures.value ∙ c.in_ok-second-in-Select.ensures
+    ∙ ap (λ a. map (meaning a) (places_of c.args.places.now)) c.deref-in-Select-2.ensures)
+    (c.as_slice-in-Select-2.ensures.value ∙ c.in_ok-third-in-Select.ensures
+    ∙ ap (λ a. map (meaning a) (places_of c.args.places.now)) c.deref-in-Select-3.ensures)
+    c.select.ensures.len c.select.ensures.each)
+
+pub returns-in_ok-values-in-Same : goal.returns-in_ok-values-in-Same
+returns-in_ok-values-in-Same t c =
+    let made : c.in_ok-values-in-Same.values.items ≡ replicate c.len.result c.in-Same.value = search rules in
+    rw c.in-Same.is
+    (made ∙ ap (λ n. replicate n c.in-Same.value) c.len.ensures ∙ map-constant c.in-Same.value (places_of c.args.places.now))

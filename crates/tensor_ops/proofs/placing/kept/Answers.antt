@@ -1,0 +1,11 @@
+use Rattle.std.proofs.Common.{◌-◌, refl, arith}
+use Rattle.tensor_ops.proofs.Placings.{gives-itself, gives-list}
+use Rattle.tensor_ops.proofs.placing.kept.Goals as goal
+
+pub returns-then-count-reads : goal.returns-then-count-reads
+returns-then-count-reads c = gives-itself c.args.placed c.args.dims.now c.requires.sound c.requires.count
+
+pub returns : goal.returns
+returns c =
+    gives-list _ c.args.placed c.in_ok-values.field-0.items c.args.dims.now (c.size-count.result - 0)
+    (record { count = refl; each = λ p. refl }) tt c.in_ok-values.ensures (omega (arith, c.size-count.ensures.value))

@@ -1,0 +1,14 @@
+-- What an evaluator evaluates.
+use Rattle.std.specs.Prelude.{List}
+use Rattle.tensor_ops.specs.Contents.{Contents}
+use Rattle.tensor_ops.specs.Term.{Term}
+use Rattle.tensor_ops.specs.Tree.{term_of}
+use Rattle.tensor_ops.specs.declared.evaluator.TensorEvaluator.{TensorEvaluator}
+
+-- the term whose values it gives
+abbrev pub term_evaluated : TensorEvaluator → Term
+term_evaluated e = term_of e.expr.now
+
+-- the inputs of that term
+abbrev pub inputs_evaluated : TensorEvaluator → List Contents
+inputs_evaluated e = e.inputs.now

@@ -1,0 +1,74 @@
+-- What a placed expression means: a value a place.
+use Rattle.std.specs.Prelude.{◌≡◌, ℕ, ℤ, ◌+◌, ◌<◌, ◌≤◌, List, length}
+use Rattle.std.specs.Coded.{×_prop, Π_prop, Unit-prop, le_prop}
+use native.Mathlib.Nat.{ℕ_set}
+use Rattle.tensor_shape.specs.Legal.{most_elements}
+use Rattle.tensor_ops.specs.Loops.{either_way, selected}
+use Rattle.tensor_ops.specs.Places.{value_in}
+use Rattle.tensor_ops.specs.Value.{applied}
+use Rattle.tensor_ops.specs.Walk.{walk_size, reached}
+use Rattle.tensor_ops.specs.declared.placed.Placed.{Placed}
+use Rattle.tensor_ops.specs.declared.placed.Placed.TheVariants.{Lent, Kept, Same}
+use Rattle.tensor_ops.specs.declared.placed.Placed.TheVariants.{Unary', Binary', Select', Walk'}
+
+-- the value at a place
+abbrev pub meaning : Placed → ℕ → ℤ
+meaning (Lent values) p = value_in values.now p
+meaning (Kept values) p = value_in values.items p
+meaning (Same value count) p = value
+meaning (Unary' o k a) p = applied o (meaning a p)
+meaning (Binary' o turned k a l b) p = either_way o turned (meaning a p) (meaning b p)
+meaning (Select' order k a l b m c) p = selected order (meaning a p) (meaning b p) (meaning c p)
+meaning (Walk' start axes k a) p = meaning a (reached start axes.items p)
+
+-- how many places it has
+abbrev pub count_of : Placed → ℕ
+count_of (Lent values) = length values.now
+count_of (Kept values) = length values.items
+count_of (Same value count) = count
+count_of (Unary' o k a) = count_of a
+count_of (Binary' o turned k a l b) = count_of a
+count_of (Select' order k a l b m c) = count_of a
+count_of (Walk' start axes k a) = walk_size axes.items
+
+-- how deep it is
+abbrev pub depth_of : Placed → ℕ
+depth_of (Lent values) = 0
+depth_of (Kept values) = 0
+depth_of (Same value count) = 0
+depth_of (Unary' o k a) = depth_of a + 1
+depth_of (Binary' o turned k a l b) = depth_of a + depth_of b + 1
+depth_of (Select' order k a l b m c) = depth_of a + depth_of b + depth_of c + 1
+depth_of (Walk' start axes k a) = depth_of a + 1
+
+-- operands have the places that are read of them
+abbrev pub IsSound : Placed → Type 0
+IsSound (Lent values) = Unit {0}
+IsSound (Kept values) = Unit {0}
+IsSound (Same value count) = Unit {0}
+IsSound (Unary' o k a) = IsSound a
+IsSound (Binary' o turned k a l b) = IsSound a × (IsSound b × (count_of b ≡ count_of a))
+IsSound (Select' order k a l b m c) =
+    IsSound a × ((IsSound b × (count_of b ≡ count_of a)) × (IsSound c × (count_of c ≡ count_of a)))
+IsSound (Walk' start axes k a) =
+    IsSound a × ((count_of a ≤ most_elements)
+    × ((p : ℕ) → p < walk_size axes.items → reached start axes.items p < count_of a))
+
+-- which is known in one way only
+pub IsSound-prop : (placed : Placed) → IsProp (IsSound placed)
+IsSound-prop (Lent values) = Unit-prop
+IsSound-prop (Kept values) = Unit-prop
+IsSound-prop (Same value count) = Unit-prop
+IsSound-prop (Unary' o k a) = IsSound-prop a
+IsSound-prop (Binary' o turned k a l b) =
+    ×_prop (IsSound-prop a) (×_prop (IsSound-prop b) (ℕ_set _ _))
+IsSound-prop (Select' order k a l b m c) =
+    ×_prop (IsSound-prop a)
+    (×_prop (×_prop (IsSound-prop b) (ℕ_set _ _)) (×_prop (IsSound-prop c) (ℕ_set _ _)))
+IsSound-prop (Walk' start axes k a) =
+    ×_prop (IsSound-prop a) (×_prop le_prop (Π_prop λ p. Π_prop λ below. le_prop))
+
+-- its values are this list
+pub record IsListOf (placed : Placed) (values : List ℤ) : Type 0 where
+  pub count : count_of placed ≡ length values
+  pub each : (p : ℕ) → meaning placed p ≡ value_in values p

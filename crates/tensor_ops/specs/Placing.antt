@@ -1,0 +1,34 @@
+-- What placing an expression, and each part of it, gives.
+use Rattle.std.specs.Prelude.{◌≡◌, ℕ, ℤ, ◌+◌, ◌<◌, ◌≤◌, List, true}
+use Rattle.tensor_shape.specs.Index.{size_of, IsIndexOf, place, index_of}
+use Rattle.tensor_shape.specs.Legal.{most_elements}
+use Rattle.tensor_ops.specs.Axes.{are_along, by_steps}
+use Rattle.tensor_ops.specs.Meaning.{meaning, count_of, IsSound}
+use Rattle.tensor_ops.specs.declared.placed.Placed.{Placed}
+use Rattle.tensor_ops.specs.declared.walk.Axis.{Axis}
+
+-- its values, in order, are those of a function at all index lists of these dims
+pub record Gives (placed : Placed) (ds : List ℕ) (f : List ℕ → ℤ) : Type 0 where
+  pub sound : IsSound placed
+  pub count : count_of placed ≡ size_of ds
+  pub means : (p : ℕ) → p < size_of ds → meaning placed p ≡ f (index_of ds p)
+
+-- it has as many places as another one, and the values of a function
+pub record IsJoined (placed other : Placed) (f : ℕ → ℤ) : Type 0 where
+  pub sound : IsSound placed
+  pub count : count_of placed ≡ count_of other
+  pub means : (p : ℕ) → meaning placed p ≡ f p
+
+-- the value at an index list of these dims
+abbrev pub meaning_at : Placed → List ℕ → List ℕ → ℤ
+meaning_at placed ds index = meaning placed (place ds index)
+
+-- a placed expression of these dims, read along axes from a start in another one
+pub record IsView (inner : Placed) (start : ℕ) (axes : List Axis)
+    (outer : Placed) (ds : List ℕ) : Type 0 where
+  pub sound : IsSound inner
+  pub few : count_of inner ≤ most_elements
+  pub along : are_along axes ds ≡ true
+  pub inside : (index : List ℕ) → IsIndexOf ds index → start + by_steps axes index < count_of inner
+  pub means : (index : List ℕ) → IsIndexOf ds index
+      → meaning inner (start + by_steps axes index) ≡ meaning_at outer ds index

@@ -1,0 +1,22 @@
+-- Walks: the operand's places in the order of the result's, by a size and a step an axis.
+use Rattle.std.specs.Prelude.{ℕ, ◌+◌, ◌-◌, ◌*◌, ◌/◌, ◌%◌, List, [], ◌∷◌, slice_index, if◌then◌else◌}
+use Rattle.tensor_ops.specs.declared.walk.Axis.{Axis}
+
+-- how many places the axes have, the fastest first
+abbrev pub walk_size : List Axis → ℕ
+walk_size [] = 1
+walk_size (a ∷ rest) = a.size * walk_size rest
+
+-- how many steps an index is: itself, or where the axis falls what is left above it
+abbrev pub steps_to : Axis → ℕ → ℕ
+steps_to a i = if a.falls then a.size - 1 - i else i
+
+-- the place that is reached at a place of the result: from a start, the steps of its index list
+abbrev pub reached : ℕ → List Axis → ℕ → ℕ
+reached start [] p = start
+reached start (a ∷ rest) p = reached start rest (p / a.size) + steps_to a (p % a.size) * a.step
+
+-- the same along an axis, from the starts of its rows, of which the first has the place `first`
+abbrev pub along : List ℕ → Axis → ℕ → ℕ → ℕ
+along rows a first p =
+    slice_index rows (p / a.size - first / a.size) + steps_to a (p % a.size) * a.step

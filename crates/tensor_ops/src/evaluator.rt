@@ -1,0 +1,79 @@
+//! The values of an expression at ranges of places.
+
+ghost use Rattle.std.specs.Prelude.{◌≡◌, ◌<◌, ◌≤◌, ◌-◌, ℕ, length, IsTrue, IsOk, IfOk};
+ghost use Rattle.tensor_shape.specs.Index.{size_of};
+ghost use Rattle.tensor_ops.specs.Meaning.{meaning, count_of, IsSound, IsSound-prop};
+ghost use Rattle.tensor_ops.specs.Result.{dims_of, shape_of};
+ghost use Rattle.tensor_ops.specs.Term.{has_inputs};
+ghost use Rattle.tensor_ops.specs.Tree.{term_of};
+ghost use Rattle.tensor_ops.specs.Value.{value_of_place, values_from};
+
+#[cfg(test)]
+mod tests;
+
+use crate::expr::Expr;
+use crate::inputs::Inputs;
+use crate::placed::Placed;
+use crate::placing::place_expr;
+use std::alloc::{AllocError, Global};
+use tensor_shape::Dims;
+
+/// An expression that has result dims, over its inputs, made ready to be evaluated by ranges of
+/// places, as Eigen's evaluator of the same name. It is made once; all who work on ranges of it
+/// share it.
+#[derive(Drop)]
+pub struct TensorEvaluator<'a> {
+    expr: &'a Expr,
+    inputs: &'a Inputs,
+    dims: Dims,
+    placed: Placed<'a>,
+    ghost has_shape: { dims ≡ shape_of (term_of expr.now) inputs.now },
+    ghost sound: { IsSound placed } by { IsSound-prop placed },
+    ghost count: { count_of placed ≡ size_of (shape_of (term_of expr.now) inputs.now) },
+    ghost means: { (p : ℕ) → p < size_of (shape_of (term_of expr.now) inputs.now)
+        → meaning placed p ≡ value_of_place (term_of expr.now) inputs.now p },
+}
+
+impl<'a> TensorEvaluator<'a> {
+    ghost use Rattle.tensor_ops.specs.Evaluator.{term_evaluated, inputs_evaluated};
+
+    /// An evaluator of an expression. Values of operands of broadcasts are worked out here, at most
+    /// 32,768 of them.
+    pub fn of(
+        alloc: Global,
+        expr: &'a Expr,
+        inputs: &'a Inputs,
+    ) -> Result<TensorEvaluator<'a>, AllocError>
+        requires inputs { IsTrue (has_inputs (term_of expr.now) (length inputs.now)) }
+        requires dims { IsOk (dims_of (term_of expr.now) inputs.now) }
+        ensures term { IfOk result (λ e. term_evaluated e ≡ term_of expr.now) }
+        ensures inputs { IfOk result (λ e. inputs_evaluated e ≡ inputs.now) }
+    {
+        let (placed, dims) = place_expr(alloc, expr, inputs)?;
+        Ok(TensorEvaluator {
+            expr,
+            inputs,
+            dims,
+            placed,
+        })
+    }
+
+    /// The result dims.
+    pub fn dims(&self) -> &Dims
+        ensures { result.now ≡ shape_of (term_evaluated self.now) (inputs_evaluated self.now) }
+    {
+        &self.dims
+    }
+
+    /// The values of the expression at the places from the first to before the last of its result,
+    /// in order. Takes memory for them, and for a few pieces of 1,024 places.
+    pub fn values(&self, alloc: Global, first: u64, last: u64) -> Result<Vec<i64>, AllocError>
+        requires order { first ≤ last }
+        requires within { last
+            ≤ size_of (shape_of (term_evaluated self.now) (inputs_evaluated self.now)) }
+        ensures { IfOk result (λ v. v.items ≡ values_from
+            (term_evaluated self.now) (inputs_evaluated self.now) first (last - first)) }
+    {
+        self.placed.values(alloc, first as usize, last as usize)
+    }
+}

@@ -1,0 +1,148 @@
+//! Placed expressions: what is left of an expression once index lists are settled, a tree whose
+//! values are asked for by place. The values are worked out by loops over places.
+
+ghost use Rattle.std.specs.Prelude.{◌≡◌, ◌≤◌, ◌-◌, length, map, IfOk, IfSome};
+ghost use Rattle.std.specs.Cow.{cow_slice_items};
+ghost use Rattle.std.specs.List.{range_with_len};
+ghost use Rattle.tensor_ops.specs.Meaning.{meaning, count_of, IsSound, IsListOf};
+ghost use Rattle.tensor_ops.specs.Places.{places_of, AreBelow};
+
+use crate::gather::{picked, picked_along};
+use crate::loops::{SelectOrder, apply, combine, select};
+use crate::operations::{BinaryScalar, UnaryScalar};
+use crate::places::Places;
+use crate::walk::{Axis, sources};
+use std::alloc::{AllocError, Global};
+use std::borrow::CowSlice;
+
+/// How many places are worked out at a time, so that their values stay in the nearest cache.
+const PIECE: usize = 1024;
+
+/// An expression over inputs that are lent, without dims, index lists and arguments. Where there
+/// are several operands the first is the one that wants the most memory, which is then worked out
+/// while nothing of the others is held.
+#[derive(Drop)]
+pub(crate) enum Placed<'a> {
+    /// The values of an input.
+    Lent(&'a [i64]),
+    /// Values that were worked out before.
+    Kept(Vec<i64>),
+    /// One value at so many places.
+    Same(i64, usize),
+    /// The operation on the value at the same place.
+    Unary(UnaryScalar, Box<Placed<'a>>),
+    /// The operation on both values at the same place, of which the second comes first where they
+    /// are turned.
+    Binary(BinaryScalar, bool, Box<Placed<'a>>, Box<Placed<'a>>),
+    /// Select on the three values at the same place.
+    Select(SelectOrder, Box<Placed<'a>>, Box<Placed<'a>>, Box<Placed<'a>>),
+    /// The operand's value at the place that the axes reach from a start.
+    Walk(usize, Vec<Axis>, Box<Placed<'a>>),
+}
+
+impl<'a> Placed<'a> {
+    /// The values at the places from the first to before the last, in order.
+    pub(crate) fn values(
+        &self,
+        alloc: Global,
+        first: usize,
+        last: usize,
+    ) -> Result<Vec<i64>, AllocError>
+        requires order { first ≤ last }
+        requires sound { IsSound self.now }
+        requires within { last ≤ count_of self.now }
+        ensures { IfOk result (λ v. v.items
+            ≡ map (meaning self.now) (range_with_len first (last - first))) }
+    {
+        let mut values = Vec::with_capacity(alloc, last - first)?;
+        let mut from = first;
+        while from < last {
+            let to = from + (last - from).min(PIECE);
+            let piece = values_at(alloc, self, &Places::Run(from, to))?;
+            values.extend_from_slice(piece.as_slice())?;
+            from = to;
+        }
+        Ok(values)
+    }
+
+    /// Whether a value takes no operation: it is in a list, at its place or along a walk.
+    pub(crate) fn is_at_hand(&self) -> bool {
+        match self {
+            Placed::Lent(_) | Placed::Kept(_) | Placed::Same(_, _) => true,
+            Placed::Walk(_, _, operand) => operand.list().is_some(),
+            _ => false,
+        }
+    }
+
+    /// Its values, where they are a list.
+    pub(crate) fn list(&self) -> Option<&[i64]>
+        ensures { IfSome result (λ values. IsListOf self.now values.now) }
+    {
+        match self {
+            Placed::Lent(values) => Some(values),
+            Placed::Kept(values) => Some(values.as_slice()),
+            _ => None,
+        }
+    }
+}
+
+/// The values at places, in their order. Those of a run of a list are lent.
+fn values_at<'t, 'a>(
+    alloc: Global,
+    placed: &'t Placed<'a>,
+    places: &Places<'_>,
+) -> Result<CowSlice<'t, i64, Global>, AllocError>
+    requires sound { IsSound placed.now }
+    requires places { AreBelow places.now (count_of placed.now) }
+    ensures { IfOk result (λ v. cow_slice_items v
+        ≡ map (meaning placed.now) (places_of places.now)) }
+{
+    match placed {
+        Placed::Lent(values) => picked(alloc, values, places),
+        Placed::Kept(values) => picked(alloc, values.as_slice(), places),
+        Placed::Same(value, _) => {
+            let values = vec![in alloc; *value; places.len()]?;
+            Ok(CowSlice::Owned(values))
+        }
+        Placed::Unary(operation, operand) => {
+            let mut values = owned(alloc, values_at(alloc, operand, places)?)?;
+            apply(*operation, &mut values);
+            Ok(CowSlice::Owned(values))
+        }
+        Placed::Binary(operation, turned, first, second) => {
+            let mut values = owned(alloc, values_at(alloc, first, places)?)?;
+            let second = values_at(alloc, second, places)?;
+            combine(*operation, *turned, &mut values, second.as_slice());
+            Ok(CowSlice::Owned(values))
+        }
+        Placed::Select(order, first, second, third) => {
+            let mut values = owned(alloc, values_at(alloc, first, places)?)?;
+            let second = values_at(alloc, second, places)?;
+            let third = values_at(alloc, third, places)?;
+            select(*order, &mut values, second.as_slice(), third.as_slice());
+            Ok(CowSlice::Owned(values))
+        }
+        Placed::Walk(start, axes, operand) => {
+            if let Some(list) = operand.list() {
+                let values = picked_along(alloc, list, *start, axes, places)?;
+                return Ok(CowSlice::Owned(values));
+            }
+            let sources = sources(alloc, *start, axes, places)?;
+            values_at(alloc, operand, &Places::Listed(&sources))
+        }
+    }
+}
+
+/// The values, copied where they are lent.
+fn owned(alloc: Global, values: CowSlice<'_, i64, Global>) -> Result<Vec<i64>, AllocError>
+    ensures { IfOk result (λ v. v.items ≡ cow_slice_items values.entry) }
+{
+    match values {
+        CowSlice::Borrowed(values) => {
+            let mut copy = Vec::with_capacity(alloc, values.len())?;
+            copy.extend_from_slice(values)?;
+            Ok(copy)
+        }
+        CowSlice::Owned(values) => Ok(values),
+    }
+}

@@ -1,0 +1,358 @@
+//! Placing: from an expression to a tree without dims, index lists and arguments, in one walk.
+
+ghost use Rattle.std.specs.Prelude.{◌≡◌, length, Ok, IsTrue, IsOk, IfOk, if◌then◌else◌};
+ghost use Rattle.tensor_shape.specs.Index.{size_of};
+ghost use Rattle.tensor_ops.specs.Loops.{either_way, selected};
+ghost use Rattle.tensor_ops.specs.Meaning.{meaning, count_of, IsSound};
+ghost use Rattle.tensor_ops.specs.Movement.{moved, moved_dims};
+ghost use Rattle.tensor_ops.specs.Placing.{Gives, IsJoined, IsView, meaning_at};
+ghost use Rattle.tensor_ops.specs.Result.{dims_of, shape_of, unary_dims};
+ghost use Rattle.tensor_ops.specs.Term.{has_inputs};
+ghost use Rattle.tensor_ops.specs.Tree.{term_of, movement_at, unary_at};
+ghost use Rattle.tensor_ops.specs.Value.{value, unary_value, combined, is_true};
+
+use crate::axes::{are_along, moved_axes, moved_start, whole_axes};
+use crate::expr::Expr;
+use crate::inputs::Inputs;
+use crate::loops::SelectOrder;
+use crate::movement_dims::moved_dims;
+use crate::node::{Binary, Movement, Node, Ternary, Unary};
+use crate::operations::BinaryScalar;
+use crate::placed::Placed;
+use crate::walk::Axis;
+use std::alloc::{AllocError, Global};
+use tensor_shape::Dims;
+
+/// How many places of operands are worked out, all together, when an expression is placed: 256 KiB
+/// of values.
+const KEPT: usize = 32_768;
+
+/// A part of an expression, placed, with its dims.
+#[derive(Drop)]
+struct Part<'a> {
+    placed: Placed<'a>,
+    dims: Dims,
+    /// How many pieces are held at once while its values are worked out.
+    pieces: u32,
+}
+
+/// A placed expression that is read along axes from a start.
+#[derive(Drop)]
+struct View<'a> {
+    start: usize,
+    axes: Vec<Axis>,
+    placed: Box<Placed<'a>>,
+}
+
+/// An expression placed, and its result dims.
+pub(crate) fn place_expr<'a>(
+    alloc: Global,
+    expr: &Expr,
+    inputs: &'a Inputs,
+) -> Result<(Placed<'a>, Dims), AllocError>
+    requires inputs { IsTrue (has_inputs (term_of expr.now) (length inputs.now)) }
+    requires dims { IsOk (dims_of (term_of expr.now) inputs.now) }
+    ensures placed { IfOk result (λ r. Gives r.0 r.1 (value (term_of expr.now) inputs.now)) }
+    ensures dims { IfOk result (λ r. r.1 ≡ shape_of (term_of expr.now) inputs.now) }
+{
+    let mut room = KEPT;
+    let part = place(alloc, expr, inputs, &mut room)?;
+    Ok((part.placed, part.dims))
+}
+
+/// An expression placed, where so many places of operands may still be worked out.
+fn place<'a>(
+    alloc: Global,
+    expr: &Expr,
+    inputs: &'a Inputs,
+    room: &mut usize,
+) -> Result<Part<'a>, AllocError>
+    requires inputs { IsTrue (has_inputs (term_of expr.now) (length inputs.now)) }
+    requires dims { IsOk (dims_of (term_of expr.now) inputs.now) }
+    ensures placed { IfOk result (λ r.
+        Gives r.placed r.dims (value (term_of expr.now) inputs.now)) }
+    ensures dims { IfOk result (λ r. r.dims ≡ shape_of (term_of expr.now) inputs.now) }
+{
+    match expr.node() {
+        Node::Input(number) => {
+            let input = inputs.get(number);
+            Ok(Part {
+                placed: Placed::Lent(input.values()),
+                dims: input.dims().copied(),
+                pieces: 0,
+            })
+        }
+        Node::Unary(operation, operand) => {
+            let operand = place(alloc, operand, inputs, room)?;
+            place_unary(alloc, operation, operand, room)
+        }
+        Node::Binary(Binary::Pairwise(operation), left, right) => {
+            let left = place(alloc, left, inputs, room)?;
+            let right = place(alloc, right, inputs, room)?;
+            place_pairwise(alloc, operation, left, right)
+        }
+        Node::Ternary(Ternary::Select, condition, yes, no) => {
+            let condition = place(alloc, condition, inputs, room)?;
+            let yes = place(alloc, yes, inputs, room)?;
+            let no = place(alloc, no, inputs, room)?;
+            place_select(alloc, condition, yes, no)
+        }
+    }
+}
+
+/// An operation on one tensor, placed.
+fn place_unary<'a>(
+    alloc: Global,
+    operation: Unary<'_>,
+    operand: Part<'a>,
+    room: &mut usize,
+) -> Result<Part<'a>, AllocError>
+    requires sound { IsSound operand.placed }
+    requires count { count_of operand.placed ≡ size_of operand.dims }
+    requires dims { IsOk (unary_dims (unary_at operation) operand.dims) }
+    ensures placed { IfOk result (λ r. Gives r.placed r.dims
+        (unary_value (unary_at operation.entry) operand.entry.dims
+        (meaning_at operand.entry.placed operand.entry.dims))) }
+    ensures dims { IfOk result (λ r.
+        unary_dims (unary_at operation.entry) operand.entry.dims ≡ Ok r.dims) }
+{
+    match operation {
+        Unary::Each(operation) => {
+            let placed = Box::new(alloc, operand.placed)?;
+            Ok(Part {
+                placed: Placed::Unary(operation, placed),
+                dims: operand.dims,
+                pieces: operand.pieces.max(1),
+            })
+        }
+        Unary::Constant(value) => {
+            let count = operand.dims.size() as usize;
+            Ok(Part {
+                placed: Placed::Same(value, count),
+                dims: operand.dims,
+                pieces: 1,
+            })
+        }
+        Unary::Move(movement) => place_movement(alloc, movement, operand, room),
+    }
+}
+
+/// An operation on each two values, placed. The operand that wants more pieces comes first.
+fn place_pairwise<'a>(
+    alloc: Global,
+    operation: BinaryScalar,
+    left: Part<'a>,
+    right: Part<'a>,
+) -> Result<Part<'a>, AllocError>
+    requires left { IsSound left.placed }
+    requires right { IsSound right.placed }
+    requires same { count_of right.placed ≡ count_of left.placed }
+    requires dims { right.dims ≡ left.dims }
+    ensures dims { IfOk result (λ r. r.dims ≡ left.entry.dims) }
+    ensures placed { IfOk result (λ r. IsJoined r.placed left.entry.placed
+        (λ p. combined operation (meaning left.entry.placed p) (meaning right.entry.placed p))) }
+{
+    if left.pieces < right.pieces {
+        pair(alloc, operation, true, right, left)
+    } else {
+        pair(alloc, operation, false, left, right)
+    }
+}
+
+/// An operation on each two values, placed, of which the second comes first where they are turned.
+fn pair<'a>(
+    alloc: Global,
+    operation: BinaryScalar,
+    turned: bool,
+    first: Part<'a>,
+    second: Part<'a>,
+) -> Result<Part<'a>, AllocError>
+    requires first { IsSound first.placed }
+    requires second { IsSound second.placed }
+    requires same { count_of second.placed ≡ count_of first.placed }
+    ensures dims { IfOk result (λ r. r.dims ≡ first.entry.dims) }
+    ensures placed { IfOk result (λ r. IsJoined r.placed first.entry.placed
+        (λ p. either_way operation turned
+        (meaning first.entry.placed p) (meaning second.entry.placed p))) }
+{
+    let pieces = first.pieces.max(second.pieces.saturating_add(1));
+    let dims = first.dims;
+    let first = Box::new(alloc, first.placed)?;
+    let second = Box::new(alloc, second.placed)?;
+    Ok(Part {
+        placed: Placed::Binary(operation, turned, first, second),
+        dims,
+        pieces,
+    })
+}
+
+/// Select, placed. The operand that wants most pieces comes first.
+fn place_select<'a>(
+    alloc: Global,
+    condition: Part<'a>,
+    yes: Part<'a>,
+    no: Part<'a>,
+) -> Result<Part<'a>, AllocError>
+    requires condition { IsSound condition.placed }
+    requires yes { IsSound yes.placed }
+    requires no { IsSound no.placed }
+    requires same_yes { count_of yes.placed ≡ count_of condition.placed }
+    requires same_no { count_of no.placed ≡ count_of condition.placed }
+    requires dims_yes { yes.dims ≡ condition.dims }
+    requires dims_no { no.dims ≡ condition.dims }
+    ensures dims { IfOk result (λ r. r.dims ≡ condition.entry.dims) }
+    ensures placed { IfOk result (λ r. IsJoined r.placed condition.entry.placed
+        (λ p. if is_true (meaning condition.entry.placed p)
+        then meaning yes.entry.placed p
+        else meaning no.entry.placed p)) }
+{
+    if yes.pieces.max(no.pieces) <= condition.pieces {
+        three(alloc, SelectOrder::ConditionFirst, condition, yes, no)
+    } else if no.pieces <= yes.pieces {
+        three(alloc, SelectOrder::YesFirst, yes, condition, no)
+    } else {
+        three(alloc, SelectOrder::NoFirst, no, condition, yes)
+    }
+}
+
+/// Select, placed, with its operands in this order.
+fn three<'a>(
+    alloc: Global,
+    order: SelectOrder,
+    first: Part<'a>,
+    second: Part<'a>,
+    third: Part<'a>,
+) -> Result<Part<'a>, AllocError>
+    requires first { IsSound first.placed }
+    requires second { IsSound second.placed }
+    requires third { IsSound third.placed }
+    requires same_second { count_of second.placed ≡ count_of first.placed }
+    requires same_third { count_of third.placed ≡ count_of first.placed }
+    ensures dims { IfOk result (λ r. r.dims ≡ first.entry.dims) }
+    ensures placed { IfOk result (λ r. IsJoined r.placed first.entry.placed
+        (λ p. selected order (meaning first.entry.placed p)
+        (meaning second.entry.placed p) (meaning third.entry.placed p))) }
+{
+    let after = second.pieces.max(third.pieces.saturating_add(1));
+    let pieces = first.pieces.max(after.saturating_add(1));
+    let dims = first.dims;
+    let first = Box::new(alloc, first.placed)?;
+    let second = Box::new(alloc, second.placed)?;
+    let third = Box::new(alloc, third.placed)?;
+    Ok(Part {
+        placed: Placed::Select(order, first, second, third),
+        dims,
+        pieces,
+    })
+}
+
+/// A movement, placed. Where it has no values nothing is read of the operand.
+fn place_movement<'a>(
+    alloc: Global,
+    movement: Movement<'_>,
+    operand: Part<'a>,
+    room: &mut usize,
+) -> Result<Part<'a>, AllocError>
+    requires sound { IsSound operand.placed }
+    requires count { count_of operand.placed ≡ size_of operand.dims }
+    requires dims { IsOk (moved_dims (movement_at movement) operand.dims) }
+    ensures dims { IfOk result (λ r.
+        moved_dims (movement_at movement.entry) operand.entry.dims ≡ Ok r.dims) }
+    ensures placed { IfOk result (λ r. Gives r.placed r.dims (λ index.
+        meaning_at operand.entry.placed operand.entry.dims
+        (moved (movement_at movement.entry) operand.entry.dims index))) }
+{
+    let dims = known_dims(movement, &operand.dims);
+    let count = dims.size() as usize;
+    if count == 0 {
+        return Ok(Part {
+            placed: Placed::Same(0, 0),
+            dims,
+            pieces: 1,
+        });
+    }
+    if let Movement::Reshape(_) = movement {
+        return Ok(Part {
+            placed: operand.placed,
+            dims,
+            pieces: operand.pieces,
+        });
+    }
+    let whole = kept(alloc, operand.placed, &operand.dims, count, room)?;
+    let view = view_of(alloc, whole, &operand.dims)?;
+    let start = moved_start(movement, view.start, &view.axes);
+    let axes = moved_axes(alloc, movement, view.axes)?;
+    Ok(Part {
+        placed: Placed::Walk(start, axes, view.placed),
+        dims,
+        pieces: operand.pieces.max(1),
+    })
+}
+
+/// The result dims of a movement that has some.
+fn known_dims(movement: Movement<'_>, dims: &Dims) -> Dims
+    requires { IsOk (moved_dims (movement_at movement) dims.now) }
+    ensures { moved_dims (movement_at movement.entry) dims.now ≡ Ok result }
+{
+    match moved_dims(movement, dims) {
+        Ok(dims) => dims,
+        Err(_) => unreachable!(),
+    }
+}
+
+/// An operand with its values worked out, where it has fewer places than are read of it, as that of
+/// a broadcast, and there is room.
+fn kept<'a>(
+    alloc: Global,
+    placed: Placed<'a>,
+    dims: &Dims,
+    reads: usize,
+    room: &mut usize,
+) -> Result<Placed<'a>, AllocError>
+    requires sound { IsSound placed }
+    requires count { count_of placed ≡ size_of dims.now }
+    ensures { IfOk result (λ r. Gives r dims.now (meaning_at placed.entry dims.now)) }
+{
+    let count = dims.size() as usize;
+    if count >= reads || count > *room || placed.is_at_hand() {
+        return Ok(placed);
+    }
+    *room -= count;
+    Ok(Placed::Kept(placed.values(alloc, 0, count)?))
+}
+
+/// A placed expression of these dims, read along axes.
+fn view_of<'a>(alloc: Global, placed: Placed<'a>, dims: &Dims) -> Result<View<'a>, AllocError>
+    requires sound { IsSound placed }
+    requires count { count_of placed ≡ size_of dims.now }
+    ensures { IfOk result (λ v. IsView v.placed.value v.start v.axes.items placed.entry dims.now) }
+{
+    match placed {
+        Placed::Walk(start, axes, inner) => {
+            if are_along(&axes, dims.as_slice()) {
+                return Ok(View {
+                    start,
+                    axes,
+                    placed: inner,
+                });
+            }
+            whole_view(alloc, Placed::Walk(start, axes, inner), dims)
+        }
+        other => whole_view(alloc, other, dims),
+    }
+}
+
+/// A placed expression, read along the axes of its own dims.
+fn whole_view<'a>(alloc: Global, placed: Placed<'a>, dims: &Dims) -> Result<View<'a>, AllocError>
+    requires sound { IsSound placed }
+    requires count { count_of placed ≡ size_of dims.now }
+    ensures { IfOk result (λ v. IsView v.placed.value v.start v.axes.items placed.entry dims.now) }
+{
+    let axes = whole_axes(alloc, dims)?;
+    let placed = Box::new(alloc, placed)?;
+    Ok(View {
+        start: 0,
+        axes,
+        placed,
+    })
+}

@@ -1,0 +1,197 @@
+//! Walks: which places of the operand a movement reads, in the order of the result's places.
+
+ghost use Rattle.std.specs.Prelude.{◌≡◌, ◌<◌, ◌≤◌, ◌-◌, ◌+◌, ◌*◌, ◌/◌, ◌^◌, ◌++◌, ℕ, length, map};
+ghost use Rattle.std.specs.Prelude.{IfOk, slice_index, vec_len, vec_capacity};
+ghost use Rattle.std.specs.List.{range_with_len};
+ghost use Rattle.tensor_ops.specs.Places.{places_of, AreBelow};
+ghost use Rattle.tensor_ops.specs.Walk.{walk_size, reached, along, steps_to};
+
+use crate::places::Places;
+use std::alloc::{AllocError, Global};
+
+/// One axis of the result: its size, and how far its next place is in the operand.
+#[derive(Clone, Copy, Drop)]
+pub(crate) struct Axis {
+    pub(crate) size: usize,
+    pub(crate) step: usize,
+    /// Whether the places go down along it.
+    pub(crate) falls: bool,
+}
+
+/// The operand's places for places of the result.
+pub(crate) fn sources(
+    alloc: Global,
+    start: usize,
+    axes: &[Axis],
+    places: &Places<'_>,
+) -> Result<Vec<u32>, AllocError>
+    requires within { AreBelow places.now (walk_size axes.now) }
+    requires fits { (p : ℕ) → p < walk_size axes.now → reached start axes.now p < 2 ^ 32 }
+    ensures { IfOk result (λ v. v.items ≡ map (reached start axes.now) (places_of places.now)) }
+{
+    match places {
+        Places::Run(first, last) => walked(alloc, start, axes, *first, *last),
+        Places::Listed(places) => looked_up(alloc, start, axes, places),
+    }
+}
+
+/// The operand's places for a run.
+fn walked(
+    alloc: Global,
+    start: usize,
+    axes: &[Axis],
+    first: usize,
+    last: usize,
+) -> Result<Vec<u32>, AllocError>
+    requires order { first ≤ last }
+    requires within { last ≤ walk_size axes.now }
+    requires fits { (p : ℕ) → p < walk_size axes.now → reached start axes.now p < 2 ^ 32 }
+    ensures { IfOk result (λ v. v.items
+        ≡ map (reached start axes.now) (range_with_len first (last - first))) }
+{
+    if first == last {
+        return Ok(Vec::new(alloc));
+    }
+    let (axis, rows) = rows_of(alloc, start, axes, first, last)?;
+    laid_out(alloc, &rows, axis, first, last)
+}
+
+/// The first axis that has steps, and where its rows start that have the places of a run: at the
+/// places that the slower axes reach.
+pub(crate) fn rows_of(
+    alloc: Global,
+    start: usize,
+    axes: &[Axis],
+    first: usize,
+    last: usize,
+) -> Result<(Axis, Vec<u32>), AllocError>
+    requires some { first < last }
+    requires within { last ≤ walk_size axes.now }
+    requires fits { (p : ℕ) → p < walk_size axes.now → reached start axes.now p < 2 ^ 32 }
+    ensures size { IfOk result (λ r. 0 < r.0.size) }
+    ensures cover { IfOk result (λ r. last ≤ r.0.size * (first / r.0.size + length r.1.items)) }
+    ensures along { IfOk result (λ r. (p : ℕ) → first ≤ p → p < last
+        → along r.1.items r.0 first p ≡ reached start axes.now p) }
+{
+    let Some((axis, slower)) = axes.split_first() else {
+        let alone = Axis {
+            size: 1,
+            step: 0,
+            falls: false,
+        };
+        return Ok((alone, vec![in alloc; start as u32]?));
+    };
+    if axis.size == 1 {
+        return rows_of(alloc, start, slower, first, last);
+    }
+    let from = first / axis.size;
+    let to = (last - 1) / axis.size + 1;
+    let (next, starts) = rows_of(alloc, start, slower, from, to)?;
+    let rows = laid_out(alloc, &starts, next, from, to)?;
+    Ok((*axis, rows))
+}
+
+/// The places of a run along an axis, from the starts of its rows.
+fn laid_out(
+    alloc: Global,
+    rows: &[u32],
+    axis: Axis,
+    first: usize,
+    last: usize,
+) -> Result<Vec<u32>, AllocError>
+    requires size { 0 < axis.size }
+    requires order { first ≤ last }
+    requires rows { last ≤ axis.size * (first / axis.size + length rows.now) }
+    requires fits { (p : ℕ) → first ≤ p → p < last → along rows.now axis first p < 2 ^ 32 }
+    ensures { IfOk result (λ v. v.items
+        ≡ map (along rows.now axis first) (range_with_len first (last - first))) }
+{
+    let mut places = Vec::with_capacity(alloc, last - first)?;
+    add_rows(&mut places, rows, axis, first, last);
+    Ok(places)
+}
+
+/// Appends the places of a run: for each row's start a row along the axis, the first row and the
+/// last cut to the run.
+fn add_rows(places: &mut Vec<u32>, rows: &[u32], axis: Axis, first: usize, last: usize)
+    requires size { 0 < axis.size }
+    requires order { first ≤ last }
+    requires rows { last ≤ axis.size * (first / axis.size + length rows.now) }
+    requires room { vec_len places.old + (last - first) ≤ vec_capacity places.old }
+    requires fits { (p : ℕ) → first ≤ p → p < last → along rows.now axis first p < 2 ^ 32 }
+    ensures { places.new.items ≡ places.old.items
+        ++ map (along rows.now axis first) (range_with_len first (last - first)) }
+{
+    let mut place = first;
+    let mut index = first % axis.size;
+    for row in rows {
+        let count = (axis.size - index).min(last - place);
+        add_row(places, *row as usize, axis, index, index + count);
+        place += count;
+        index = 0;
+    }
+}
+
+/// Appends a row's places from index to index.
+fn add_row(places: &mut Vec<u32>, row: usize, axis: Axis, from: usize, to: usize)
+    requires order { from ≤ to }
+    requires within { to ≤ axis.size }
+    requires room { vec_len places.old + (to - from) ≤ vec_capacity places.old }
+    requires fits { (i : ℕ) → from ≤ i → i < to → row + steps_to axis i * axis.step < 2 ^ 32 }
+    ensures items { places.new.items ≡ places.old.items
+        ++ map (λ i. row + steps_to axis i * axis.step) (range_with_len from (to - from)) }
+    ensures len { vec_len places.new ≡ vec_len places.old + (to - from) }
+    ensures capacity { vec_capacity places.new ≡ vec_capacity places.old }
+{
+    for index in from..to {
+        places.push_reserved((row + steps_to(axis, index) * axis.step) as u32);
+    }
+}
+
+/// The operand's places for a list of places, by a division an axis.
+pub(crate) fn looked_up(
+    alloc: Global,
+    start: usize,
+    axes: &[Axis],
+    places: &[u32],
+) -> Result<Vec<u32>, AllocError>
+    requires within { (k : ℕ) → k < length places.now
+        → slice_index places.now k < walk_size axes.now }
+    requires fits { (p : ℕ) → p < walk_size axes.now → reached start axes.now p < 2 ^ 32 }
+    ensures { IfOk result (λ v. v.items ≡ map (reached start axes.now) places.now) }
+{
+    let mut sources = Vec::with_capacity(alloc, places.len())?;
+    for place in places {
+        sources.push_reserved(reached(start, axes, *place as usize) as u32);
+    }
+    Ok(sources)
+}
+
+/// The operand's place for one place.
+#[inline(always)]
+fn reached(start: usize, axes: &[Axis], place: usize) -> usize
+    requires within { place < walk_size axes.now }
+    requires fits { reached start axes.now place < 2 ^ 32 }
+    ensures { result ≡ reached start axes.now place }
+{
+    let mut rest = place;
+    let mut reached = 0;
+    for axis in axes {
+        reached += steps_to(*axis, rest % axis.size) * axis.step;
+        rest /= axis.size;
+    }
+    start + reached
+}
+
+/// How many steps an index along an axis is.
+#[inline(always)]
+pub(crate) fn steps_to(axis: Axis, index: usize) -> usize
+    requires { index < axis.size }
+    ensures { result ≡ steps_to axis index }
+{
+    if axis.falls {
+        axis.size - 1 - index
+    } else {
+        index
+    }
+}
