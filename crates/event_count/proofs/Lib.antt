@@ -1,6 +1,7 @@
 pub mod Acting
 pub mod Cards
 pub mod Closing
+pub mod CountWorlds
 pub mod Missing
 pub mod Owing
 pub mod Dealing

@@ -22,3 +22,4 @@ pub mod Tries
 pub mod Waits
 pub mod Counts
 pub mod Laws
+pub mod LockedCount

@@ -15,9 +15,6 @@ use crate::view::View;
 use atomic_table::Table;
 use std::alloc::{AllocError, Allocator, Global};
 
-#[cfg(test)]
-mod tests;
-
 /// A packed word and a line of words for each waiter, on which threads wait for one another, as in
 /// Eigen's `EventCount.h`.
 ///

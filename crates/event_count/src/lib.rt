@@ -23,6 +23,9 @@
 //! take it, even one that has come since, and then it is that one that checks the condition.
 //! Threads that wait for different conditions need a count each.
 //!
+//! `LockedCount` is the same behind a lock, over a plain `World`. A pool is generic over both, by
+//! the trait `WaitPoint`.
+//!
 //! # Words and tokens
 //!
 //! | Word | Bits | Says |
@@ -65,10 +68,12 @@ mod fault;
 mod gathering;
 mod laws;
 mod loads;
+mod locked_count;
 mod opening;
 mod plays;
 mod rule;
 mod seat;
+mod stepped_world;
 mod tries;
 mod unparks;
 mod view;
@@ -83,6 +88,7 @@ pub use laws::{
     counts_follow, pre_seats_wait, pushes_found_no_signal, seats_stand_once, signals_are_answered,
     table_shows_a_lawful_world,
 };
+pub use locked_count::{LockedCount, LockedSeat};
 pub use rule::{EPOCHS, Law, MOST_WAITERS, Sizes};
 pub use seat::Seat;
 pub use view::{Card, Exchange, View};

@@ -19,6 +19,8 @@ use std::sync::Wait;
 ///
 /// A waiter enters, checks its condition, and then sleeps or leaves. A notifier makes the condition
 /// true, and then wakes one or all. The seats of the lowest numbers may wait, and all may wake.
+///
+/// `EventCount` is one without a lock, and `LockedCount` the plain one, behind a lock.
 pub trait WaitPoint<A: Allocator>: Sized + Drop {
     type Seat: Send + Drop;
 

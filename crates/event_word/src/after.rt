@@ -4,9 +4,6 @@ ghost use Rattle.event_word.specs.Fields.{fields_of};
 ghost use Rattle.event_word.specs.Word.{nobody, prewaited, cancelled, popped, IsCommit, IsNotify};
 ghost use Rattle.event_word.specs.Word.{IsNotifyAll};
 
-#[cfg(test)]
-mod tests;
-
 use crate::word::{EPOCH, NOBODY, PRE_WAITER, SIGNAL};
 
 /// What a commit does to the word.

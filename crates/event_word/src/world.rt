@@ -5,8 +5,6 @@ ghost use Rattle.event_word.specs.World.{phase_of, owed_by, has_token, length_of
 
 mod debts;
 mod step;
-#[cfg(test)]
-mod tests;
 
 use crate::phase::Phase;
 use debts::{Debt, nth_owed};

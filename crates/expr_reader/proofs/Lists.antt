@@ -7,6 +7,7 @@ use Rattle.tensor_ops.specs.Legal.{are_legal}
 use Rattle.serde_json.specs.Data.{Data, Items, no_items, item}
 use Rattle.serde_json.specs.Events.{items_len}
 use Rattle.serde_json.specs.Find.{as_array}
+use Rattle.expr_reader.specs.Arguments.{size_in, pair_of, pair_in}
 use Rattle.expr_reader.specs.Fields.{whole_of, signed_of, each_of, cons_of, list_in}
 use Rattle.expr_reader.specs.Tensors.{dims_in, values_in}
 
@@ -27,6 +28,18 @@ length-each_of f no_items xs h = let same : [] ≡ xs = cc in ap length (sym sam
 length-each_of f (item d ds) xs h =
     let parts = length-cons_of (f d) (each_of f ds) xs h in
     parts.2 ∙ ap suc (length-each_of f ds parts.0 parts.1)
+
+-- a list of another length is no pair
+pub pair_in-other : (d : Data) (ds : Items) → as_array d ≡ Some ds → (items_len ds ≡ 2 → ⊥) → pair_in d ≡ None
+pair_in-other d ds is other = rw is (none (each_of size_in ds) (length-each_of size_in ds))
+  where
+    none : (sizes : Option (List ℕ)) → ((xs : List ℕ) → sizes ≡ Some xs → length xs ≡ items_len ds)
+        → option_and_then pair_of sizes ≡ None
+    none None long = refl
+    none (Some []) long = refl
+    none (Some (x ∷ [])) long = refl
+    none (Some (x ∷ y ∷ [])) long = absurd (other (sym (long (x ∷ y ∷ []) refl)))
+    none (Some (x ∷ y ∷ z ∷ more)) long = refl
 
 -- a list of another length has no such values
 pub values_in-other : (size : ℕ) (d : Data) (ds : Items) → as_array d ≡ Some ds → (items_len ds ≡ size → ⊥) → values_in size d ≡ None

@@ -9,7 +9,9 @@ use Rattle.serde_json.specs.View.{view, items_view}
 use Rattle.serde_json.specs.declared.value.Value.{Value, Array}
 use Rattle.serde_json.proofs.Views.{view-Array, items_len-items_view}
 use Rattle.tensor_ops.specs.Contents.{Contents}
-use Rattle.tensor_ops.specs.Term.{Term, Unary, Binary, Ternary, unary, binary, ternary}
+use Rattle.std.specs.Prelude.{◌&&◌}
+use Rattle.tensor_ops.specs.Result.{dims_of, operand_dims}
+use Rattle.tensor_ops.specs.Term.{Term, Unary, Binary, Ternary, unary, binary, ternary, has_inputs}
 use Rattle.expr_reader.specs.Arguments.{Form, Arguments, arguments_in}
 use Rattle.expr_reader.specs.Limits.{most_nodes}
 use Rattle.expr_reader.specs.Node.{operation_at, applied, made, checked, tree_at}
@@ -29,6 +31,21 @@ made-found inputs fs items make end t found = from (arguments_in fs items) found
         → and_then (ok_or there BadArgument) (λ a. checked inputs (make a) end) ≡ checked inputs t end
     from None h = (cc)
     from (Some a) h = let same : make a ≡ t = cc in ap (λ u. checked inputs u end) same
+
+-- what arguments make of an operand has that operand
+pub made-unary : {A : Type 0} (make : A → Unary) (t u : Term) (there : Option A)
+    → option_map (λ a. unary (make a) t) there ≡ Some u → (inputs : List Contents) → operand_dims u inputs ≡ dims_of t inputs ∷ []
+made-unary make t u None h inputs = absurd (cc)
+made-unary make t u (Some a) h inputs = let same : u ≡ unary (make a) t = cc in rw same refl
+
+-- the same of two operands
+pub made-binary : {A : Type 0} (make : A → Binary) (t s u : Term) (there : Option A)
+    → option_map (λ a. binary (make a) t s) there ≡ Some u
+    → ((inputs : List Contents) → operand_dims u inputs ≡ dims_of t inputs ∷ dims_of s inputs ∷ [])
+    × ((count : ℕ) → has_inputs u count ≡ has_inputs t count && has_inputs s count)
+made-binary make t s u None h = absurd (cc)
+made-binary make t s u (Some a) h =
+    let same : u ≡ binary (make a) t s = cc in ((λ inputs. rw same refl), (λ count. rw same refl))
 
 -- each operation has an operand
 no_operand : (o : Operation) → 1 ≡ 1 + arity_of o → ⊥
@@ -111,25 +128,27 @@ module _ (profile : Profile) (named : Named) (n : ℕ) (below : n < most_nodes) 
       from (x ∷ y ∷ vs) same long first =
           rw first (tree_at-applied profile named n below (one forms make) v list is names x (y ∷ vs) same (omega (arith, long)))
 
-  -- one on two operands, and one on three, without arguments
-  pub tree_at-two : (make : Arguments [] → Binary) (a b : Value)
-      → Some (two [] make) ≡ option_and_then (operation_at profile) (get_item 0 (items_view list.items))
-      → length list.items ≡ 3 → a ≡ get_or list.items 1 a → b ≡ get_or list.items 2 b
+  -- the same of one on two operands
+  pub tree_at-two : (forms : List Form) (make : Arguments forms → Binary) (a b : Value)
+      → Some (two forms make) ≡ option_and_then (operation_at profile) (get_item 0 (items_view list.items))
+      → length list.items ≡ 3 + length forms → a ≡ get_or list.items 1 a → b ≡ get_or list.items 2 b
       → tree_at profile named n (view v)
       ≡ and_then (tree_at profile named (n + 1) (view a)) (λ x. and_then (tree_at profile named x.end (view b)) (λ y.
-      checked named.tensors (binary (make tt) x.term y.term) y.end))
-  tree_at-two make a b names long first second = from list.items refl long first second
+      made named.tensors forms (items_view (drop 3 list.items)) (λ args. binary (make args) x.term y.term) y.end))
+  tree_at-two forms make a b names long first second = from list.items refl long first second
     where
-      from : (vs : List Value) → list.items ≡ vs → length vs ≡ 3 → a ≡ get_or vs 1 a → b ≡ get_or vs 2 b
+      from : (vs : List Value) → list.items ≡ vs → length vs ≡ 3 + length forms → a ≡ get_or vs 1 a → b ≡ get_or vs 2 b
           → tree_at profile named n (view v)
           ≡ and_then (tree_at profile named (n + 1) (view a)) (λ x. and_then (tree_at profile named x.end (view b)) (λ y.
-          checked named.tensors (binary (make tt) x.term y.term) y.end))
+          made named.tensors forms (items_view (drop 3 vs)) (λ args. binary (make args) x.term y.term) y.end))
       from [] same long first second = absurd (omega arith)
       from (x ∷ []) same long first second = absurd (omega arith)
       from (x ∷ y ∷ []) same long first second = absurd (omega arith)
-      from (x ∷ y ∷ z ∷ []) same long first second =
-          rw (first, second) (tree_at-applied profile named n below (two [] make) v list is names x (y ∷ z ∷ []) same refl)
-      from (x ∷ y ∷ z ∷ w ∷ vs) same long first second = absurd (omega arith)
+      from (x ∷ y ∷ z ∷ vs) same long first second =
+          rw (first, second)
+          (tree_at-applied profile named n below (two forms make) v list is names x (y ∷ z ∷ vs) same (omega (arith, long)))
+
+  -- one on three operands, without arguments
 
   pub tree_at-three : (make : Arguments [] → Ternary) (a b c : Value)
       → Some (three [] make) ≡ option_and_then (operation_at profile) (get_item 0 (items_view list.items))

@@ -1,16 +1,18 @@
 -- The arguments of operations: their forms, and what stands in a text for one of each.
 use Rattle.std.specs.Prelude.{ℕ, ℤ, Bool, List, [], ◌∷◌, Option, Some, None}
+use Rattle.std.specs.Prelude.{option_and_then}
 use Rattle.std.specs.Option.{option_zip}
 use Rattle.serde_json.specs.Data.{Data, Items, no_items, item}
 use Rattle.serde_json.specs.Find.{as_bool}
 use Rattle.expr_reader.specs.Fields.{within, signed_of, list_in}
 use Rattle.expr_reader.specs.Limits.{greatest_size}
 
--- the forms: a whole number from 0 up, a list of these, a list of truth values, and a whole number
--- of the `i64` range
+-- the forms: a whole number from 0 up, a list of these, a list of pairs of these, a list of truth
+-- values, and a whole number of the `i64` range
 pub data Form : Type 0 where
   size : Form
   sizes : Form
+  pairs : Form
   flags : Form
   value : Form
 
@@ -18,6 +20,7 @@ pub data Form : Type 0 where
 abbrev pub Argument : Form → Type 0
 Argument size = ℕ
 Argument sizes = List ℕ
+Argument pairs = List (ℕ × ℕ)
 Argument flags = List Bool
 Argument value = ℤ
 
@@ -25,10 +28,22 @@ Argument value = ℤ
 abbrev pub size_in : Data → Option ℕ
 size_in d = within 0 greatest_size d
 
+-- the two numbers of a list of two
+abbrev pub pair_of : List ℕ → Option (ℕ × ℕ)
+pair_of [] = None
+pair_of (x ∷ []) = None
+pair_of (x ∷ y ∷ []) = Some (x, y)
+pair_of (x ∷ y ∷ z ∷ more) = None
+
+-- a list of two sizes
+abbrev pub pair_in : Data → Option (ℕ × ℕ)
+pair_in d = option_and_then pair_of (list_in size_in d)
+
 -- an argument of a form, where the data is one
 abbrev pub argument_in : (f : Form) → Data → Option (Argument f)
 argument_in size d = size_in d
 argument_in sizes d = list_in size_in d
+argument_in pairs d = list_in pair_in d
 argument_in flags d = list_in as_bool d
 argument_in value d = signed_of d
 

@@ -1,13 +1,16 @@
 -- The operations of the text, as a table: what each takes, and what is made of it.
 use Rattle.std.specs.Prelude.{ℕ, ◌+◌, length, List, [], ◌∷◌, codes}
-use Rattle.tensor_ops.specs.Term.{Unary, each, constant, movement, Binary, pairwise}
+use Rattle.tensor_ops.specs.Term.{Unary, each, constant, movement, reduce}
+use Rattle.tensor_ops.specs.Term.{Binary, pairwise, contract}
 use Rattle.tensor_ops.specs.Term.{Ternary, select, broadcast, slice, shuffle, reshape}
 use Rattle.tensor_ops.specs.Term.{chip, reverse}
 use Rattle.tensor_ops.specs.declared.operations.UnaryScalar.{UnaryScalar}
 use Rattle.tensor_ops.specs.declared.operations.UnaryScalar.TheVariants as unary
 use Rattle.tensor_ops.specs.declared.operations.BinaryScalar.{BinaryScalar}
 use Rattle.tensor_ops.specs.declared.operations.BinaryScalar.TheVariants as binary
-use Rattle.expr_reader.specs.Arguments.{Form, size, sizes, flags, value, Arguments}
+use Rattle.tensor_ops.specs.declared.reducer.Reducer.{Reducer}
+use Rattle.tensor_ops.specs.declared.reducer.Reducer.TheVariants.{Sum, Prod, Max, Min, All, Any}
+use Rattle.expr_reader.specs.Arguments.{Form, size, sizes, pairs, flags, value, Arguments}
 
 -- the number of operands, the forms of the arguments behind them, and what these make
 pub data Operation : Type 0 where
@@ -27,6 +30,10 @@ on_each o = one [] (λ none. each o)
 
 abbrev pub on_pairs : BinaryScalar → Operation
 on_pairs o = two [] (λ none. pairwise o)
+
+-- the reductions over axes
+abbrev pub over_axes : Reducer → Operation
+over_axes r = one (sizes ∷ []) (λ a. reduce r a.0)
 
 -- the operations of the first version, by their names
 abbrev pub operations_1 : List (List ℕ × Operation)
@@ -56,4 +63,11 @@ operations_1 =
     ∷ (codes "reshape", one (sizes ∷ []) (λ a. movement (reshape a.0)))
     ∷ (codes "chip", one (size ∷ size ∷ []) (λ a. movement (chip a.0 a.1.0)))
     ∷ (codes "reverse", one (flags ∷ []) (λ a. movement (reverse a.0)))
+    ∷ (codes "sum", over_axes Sum)
+    ∷ (codes "prod", over_axes Prod)
+    ∷ (codes "maximum", over_axes Max)
+    ∷ (codes "minimum", over_axes Min)
+    ∷ (codes "all", over_axes All)
+    ∷ (codes "any", over_axes Any)
+    ∷ (codes "contract", two (pairs ∷ []) (λ a. contract a.0))
     ∷ []

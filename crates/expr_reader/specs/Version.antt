@@ -1,11 +1,11 @@
 -- The versions and operations of the code, as profiles and operations.
 use Rattle.std.specs.Prelude.{List, [], ◌∷◌}
 use Rattle.tensor_ops.specs.Term as term
-use Rattle.tensor_ops.specs.Term.{each, constant, movement}
-use Rattle.expr_reader.specs.Arguments.{Form, size, sizes, flags, value, Arguments}
+use Rattle.tensor_ops.specs.Term.{each, constant, movement, reduce, pairwise, contract}
+use Rattle.expr_reader.specs.Arguments.{Form, size, sizes, pairs, flags, value, Arguments}
 use Rattle.expr_reader.specs.Profile.{Profile, version_1}
 use Rattle.expr_reader.specs.Table as table
-use Rattle.expr_reader.specs.Table.{one, three, on_pairs}
+use Rattle.expr_reader.specs.Table.{one, two, three}
 use Rattle.expr_reader.specs.declared.version.Version.{Version}
 use Rattle.expr_reader.specs.declared.version.Version.TheVariants as version
 use Rattle.expr_reader.specs.declared.operation.Operation.{Operation}
@@ -13,7 +13,9 @@ use Rattle.expr_reader.specs.declared.operation.Operation.TheVariants.{One, Two,
 use Rattle.expr_reader.specs.declared.operation.Unary.{Unary}
 use Rattle.expr_reader.specs.declared.operation.Unary.TheVariants.{Each, Constant, Broadcast}
 use Rattle.expr_reader.specs.declared.operation.Unary.TheVariants.{Slice, Shuffle, Reshape}
-use Rattle.expr_reader.specs.declared.operation.Unary.TheVariants.{Chip, Reverse}
+use Rattle.expr_reader.specs.declared.operation.Unary.TheVariants.{Chip, Reverse, Reduce}
+use Rattle.expr_reader.specs.declared.operation.Binary.{Binary}
+use Rattle.expr_reader.specs.declared.operation.Binary.TheVariants.{Pairwise, Contract}
 
 abbrev pub profile_under : Version → Profile
 profile_under version.One = version_1
@@ -28,6 +30,7 @@ forms_of Shuffle = sizes ∷ []
 forms_of Reshape = sizes ∷ []
 forms_of Chip = size ∷ size ∷ []
 forms_of Reverse = flags ∷ []
+forms_of (Reduce r) = sizes ∷ []
 
 -- what its arguments make
 abbrev pub unary_of : (u : Unary) → Arguments (forms_of u) → term.Unary
@@ -39,8 +42,18 @@ unary_of Shuffle a = movement (term.shuffle a.0)
 unary_of Reshape a = movement (term.reshape a.0)
 unary_of Chip a = movement (term.chip a.0 a.1.0)
 unary_of Reverse a = movement (term.reverse a.0)
+unary_of (Reduce r) a = reduce r a.0
+
+-- the same of an operation on two operands
+abbrev pub forms_of_two : Binary → List Form
+forms_of_two (Pairwise o) = []
+forms_of_two Contract = pairs ∷ []
+
+abbrev pub binary_of : (b : Binary) → Arguments (forms_of_two b) → term.Binary
+binary_of (Pairwise o) none = pairwise o
+binary_of Contract a = contract a.0
 
 abbrev pub operation_under : Operation → table.Operation
 operation_under (One u) = one (forms_of u) (unary_of u)
-operation_under (Two o) = on_pairs o
+operation_under (Two b) = two (forms_of_two b) (binary_of b)
 operation_under Select = three [] (λ none. term.select)

@@ -2,15 +2,15 @@
 
 ghost use Rattle.std.specs.Prelude.{◌≡◌, length, option_map};
 ghost use Rattle.serde_json.specs.View.{view, items_view};
-ghost use Rattle.tensor_ops.specs.Term.{unary};
+ghost use Rattle.tensor_ops.specs.Term.{unary, binary};
 ghost use Rattle.tensor_ops.specs.Tree.{term_of};
 ghost use Rattle.expr_reader.specs.Arguments.{arguments_in};
 ghost use Rattle.expr_reader.specs.Outcome.{IsReadOr};
-ghost use Rattle.expr_reader.specs.Version.{forms_of, unary_of};
+ghost use Rattle.expr_reader.specs.Version.{forms_of, unary_of, forms_of_two, binary_of};
 
 use crate::fault::Fault;
 use crate::items::{read_item, read_list};
-use crate::operation::Unary;
+use crate::operation::{Binary, Unary};
 use serde_json::Value;
 use std::alloc::Global;
 use tensor_ops::Expr;
@@ -58,6 +58,32 @@ pub(crate) fn with_arguments(
         Unary::Reverse => {
             let flags = read_list(alloc, &arguments[0], Fault::BadArgument)?;
             Ok(Expr::Reverse(operand, flags))
+        }
+        Unary::Reduce(reducer) => {
+            let axes = read_list(alloc, &arguments[0], Fault::BadArgument)?;
+            Ok(Expr::reduction(reducer, operand, axes))
+        }
+    }
+}
+
+/// An operation on two operands, with the arguments behind them.
+pub(crate) fn both_with_arguments(
+    alloc: Global,
+    operation: Binary,
+    left: Box<Expr>,
+    right: Box<Expr>,
+    arguments: &[Value],
+) -> Result<Expr, Fault>
+    requires { length arguments.now ≡ length (forms_of_two operation) }
+    ensures { IsReadOr Fault.BadArgument term_of
+        (option_map (λ a. binary (binary_of operation a) (term_of left.value) (term_of right.value))
+        (arguments_in (forms_of_two operation) (items_view arguments.now))) result }
+{
+    match operation {
+        Binary::Pairwise(scalar) => Ok(Expr::pairwise(scalar, left, right)),
+        Binary::Contract => {
+            let pairs = read_list(alloc, &arguments[0], Fault::BadArgument)?;
+            Ok(Expr::Contract(left, right, pairs))
         }
     }
 }

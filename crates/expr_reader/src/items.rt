@@ -54,6 +54,20 @@ impl Item for bool {
     }
 }
 
+/// Two sizes.
+impl Item for (u64, u64) {
+    ghost use Rattle.expr_reader.specs.Arguments.{pair_in};
+
+    ghost item_in = { pair_in };
+
+    fn of(value: &Value) -> Option<(u64, u64)> {
+        match value.as_array()?.as_slice() {
+            [first, second] => Some((u64::of(first)?, u64::of(second)?)),
+            _ => None,
+        }
+    }
+}
+
 /// The item that a value is, or this fault where it is none.
 pub(crate) fn read_item<T: Item>(value: &Value, fault: Fault) -> Result<T, Fault>
     ensures { IsReadOr fault (λ item. item) (T.item_in (view value.now)) result }

@@ -11,8 +11,6 @@ mod node;
 mod operation;
 mod request;
 mod tensors;
-#[cfg(test)]
-mod tests;
 mod text;
 mod version;
 

@@ -5,23 +5,24 @@ ghost use Rattle.std.specs.Prelude.{option_and_then};
 ghost use Rattle.serde_json.specs.Find.{get_item};
 ghost use Rattle.serde_json.specs.View.{view, items_view};
 ghost use Rattle.tensor_ops.specs.Result.{operand_dims};
-ghost use Rattle.tensor_ops.specs.Term.{has_inputs, unary, binary, ternary, pairwise, select};
+ghost use Rattle.tensor_ops.specs.Term.{has_inputs, unary, binary, ternary, select};
 ghost use Rattle.tensor_ops.specs.Tree.{term_of};
 ghost use Rattle.expr_reader.specs.Node.{operation_at, input_at, made, checked, tree_at};
 ghost use Rattle.expr_reader.specs.Shown.{IsNamed};
 ghost use Rattle.expr_reader.specs.Tensors.{Named};
 ghost use Rattle.expr_reader.specs.Version.{profile_under, operation_under, forms_of, unary_of};
+ghost use Rattle.expr_reader.specs.Version.{forms_of_two, binary_of};
 ghost use Rattle.expr_reader.specs.Walked.{IsShaped, IsFound};
 
 use crate::MAX_NODES;
-use crate::arguments::with_arguments;
+use crate::arguments::{both_with_arguments, with_arguments};
 use crate::fault::Fault;
 use crate::named::NamedInputs;
-use crate::operation::{Operation, Unary};
+use crate::operation::{Binary, Operation, Unary};
 use crate::version::Version;
 use serde_json::Value;
 use std::alloc::Global;
-use tensor_ops::{BinaryScalar, Dims, Expr, Inputs};
+use tensor_ops::{Dims, Expr, Inputs};
 
 /// An expression that was read, its result dims, and the number of nodes of the text up to its end.
 #[derive(Drop)]
@@ -62,9 +63,9 @@ pub(crate) fn read_node(
                 Operation::One(unary) => {
                     read_unary(alloc, &named.inputs, unary, first, &list[2..])
                 }
-                Operation::Two(scalar) => {
+                Operation::Two(binary) => {
                     let second = read_node(alloc, version, named, &list[2], first.end)?;
-                    read_binary(alloc, &named.inputs, scalar, first, second)
+                    read_binary(alloc, &named.inputs, binary, first, second, &list[3..])
                 }
                 Operation::Select => {
                     let second = read_node(alloc, version, named, &list[2], first.end)?;
@@ -122,23 +123,26 @@ fn read_unary(
     checked(inputs, expr, &[operand.dims], operand.end)
 }
 
-/// The operation on two operands that were read, where its checks have no fault.
+/// The operation on two operands that were read, where its arguments and its checks have no fault.
 fn read_binary(
     alloc: Global,
     inputs: &Inputs,
-    operation: BinaryScalar,
+    operation: Binary,
     left: Subtree,
     right: Subtree,
+    arguments: &[Value],
 ) -> Result<Subtree, Fault>
+    requires arguments { length arguments.now ≡ length (forms_of_two operation) }
     requires left { IsShaped inputs.now left }
     requires right { IsShaped inputs.now right }
     ensures { IsFound inputs.now
-        (checked inputs.now (binary (pairwise operation) (term_of left.expr) (term_of right.expr))
-        right.end) result }
+        (made inputs.now (forms_of_two operation) (items_view arguments.now)
+        (λ a. binary (binary_of operation a) (term_of left.expr) (term_of right.expr)) right.end)
+        result }
 {
     let first = boxed(alloc, left.expr)?;
     let second = boxed(alloc, right.expr)?;
-    let expr = Expr::pairwise(operation, first, second);
+    let expr = both_with_arguments(alloc, operation, first, second, arguments)?;
     checked(inputs, expr, &[left.dims, right.dims], right.end)
 }
 

@@ -2,7 +2,7 @@
 
 ghost use Rattle.std.specs.Prelude.{◌≡◌, length};
 
-use tensor_ops::{BinaryScalar, UnaryScalar};
+use tensor_ops::{BinaryScalar, Reducer, UnaryScalar};
 
 /// An operation on one operand, without its arguments.
 #[derive(Clone, Copy, Debug, Eq, PartialEq)]
@@ -15,13 +15,21 @@ pub(crate) enum Unary {
     Reshape,
     Chip,
     Reverse,
+    Reduce(Reducer),
+}
+
+/// An operation on two operands, without its arguments.
+#[derive(Clone, Copy, Debug, Eq, PartialEq)]
+pub(crate) enum Binary {
+    Pairwise(BinaryScalar),
+    Contract,
 }
 
 /// An operation by the number of its operands.
 #[derive(Clone, Copy, Debug, Eq, PartialEq)]
 pub(crate) enum Operation {
     One(Unary),
-    Two(BinaryScalar),
+    Two(Binary),
     Select,
 }
 
@@ -34,9 +42,27 @@ impl Unary {
     {
         match self {
             Unary::Each(_) => 0,
-            Unary::Constant | Unary::Broadcast | Unary::Shuffle | Unary::Reshape | Unary::Reverse =>
-                1,
+            Unary::Constant
+            | Unary::Broadcast
+            | Unary::Shuffle
+            | Unary::Reshape
+            | Unary::Reverse
+            | Unary::Reduce(_) => 1,
             Unary::Slice | Unary::Chip => 2,
+        }
+    }
+}
+
+impl Binary {
+    ghost use Rattle.expr_reader.specs.Version.{forms_of_two};
+
+    /// How many arguments stand behind its operands.
+    pub(crate) fn arguments(self) -> usize
+        ensures { result ≡ length (forms_of_two self) }
+    {
+        match self {
+            Binary::Pairwise(_) => 0,
+            Binary::Contract => 1,
         }
     }
 }
@@ -51,7 +77,7 @@ impl Operation {
     {
         match self {
             Operation::One(unary) => 1 + unary.arguments(),
-            Operation::Two(_) => 2,
+            Operation::Two(binary) => 2 + binary.arguments(),
             Operation::Select => 3,
         }
     }

@@ -2,8 +2,8 @@
 
 ghost use Rattle.std.specs.Prelude.{◌≡◌, option_map};
 
-use crate::operation::{Operation, Unary};
-use tensor_ops::{BinaryScalar, UnaryScalar};
+use crate::operation::{Binary, Operation, Unary};
+use tensor_ops::{BinaryScalar, Reducer, UnaryScalar};
 
 /// A version of the text.
 #[derive(Clone, Copy, Debug, Eq, PartialEq)]
@@ -53,19 +53,19 @@ impl Version {
             "abs" => Some(Operation::One(Unary::Each(UnaryScalar::Abs))),
             "square" => Some(Operation::One(Unary::Each(UnaryScalar::Square))),
             "not" => Some(Operation::One(Unary::Each(UnaryScalar::Not))),
-            "add" => Some(Operation::Two(BinaryScalar::Add)),
-            "sub" => Some(Operation::Two(BinaryScalar::Sub)),
-            "mul" => Some(Operation::Two(BinaryScalar::Mul)),
-            "cwise_max" => Some(Operation::Two(BinaryScalar::CwiseMax)),
-            "cwise_min" => Some(Operation::Two(BinaryScalar::CwiseMin)),
-            "lt" => Some(Operation::Two(BinaryScalar::Lt)),
-            "le" => Some(Operation::Two(BinaryScalar::Le)),
-            "eq" => Some(Operation::Two(BinaryScalar::Eq)),
-            "ne" => Some(Operation::Two(BinaryScalar::Ne)),
-            "gt" => Some(Operation::Two(BinaryScalar::Gt)),
-            "ge" => Some(Operation::Two(BinaryScalar::Ge)),
-            "and" => Some(Operation::Two(BinaryScalar::And)),
-            "or" => Some(Operation::Two(BinaryScalar::Or)),
+            "add" => Some(Operation::Two(Binary::Pairwise(BinaryScalar::Add))),
+            "sub" => Some(Operation::Two(Binary::Pairwise(BinaryScalar::Sub))),
+            "mul" => Some(Operation::Two(Binary::Pairwise(BinaryScalar::Mul))),
+            "cwise_max" => Some(Operation::Two(Binary::Pairwise(BinaryScalar::CwiseMax))),
+            "cwise_min" => Some(Operation::Two(Binary::Pairwise(BinaryScalar::CwiseMin))),
+            "lt" => Some(Operation::Two(Binary::Pairwise(BinaryScalar::Lt))),
+            "le" => Some(Operation::Two(Binary::Pairwise(BinaryScalar::Le))),
+            "eq" => Some(Operation::Two(Binary::Pairwise(BinaryScalar::Eq))),
+            "ne" => Some(Operation::Two(Binary::Pairwise(BinaryScalar::Ne))),
+            "gt" => Some(Operation::Two(Binary::Pairwise(BinaryScalar::Gt))),
+            "ge" => Some(Operation::Two(Binary::Pairwise(BinaryScalar::Ge))),
+            "and" => Some(Operation::Two(Binary::Pairwise(BinaryScalar::And))),
+            "or" => Some(Operation::Two(Binary::Pairwise(BinaryScalar::Or))),
             "select" => Some(Operation::Select),
             "constant" => Some(Operation::One(Unary::Constant)),
             "broadcast" => Some(Operation::One(Unary::Broadcast)),
@@ -74,6 +74,13 @@ impl Version {
             "reshape" => Some(Operation::One(Unary::Reshape)),
             "chip" => Some(Operation::One(Unary::Chip)),
             "reverse" => Some(Operation::One(Unary::Reverse)),
+            "sum" => Some(Operation::One(Unary::Reduce(Reducer::Sum))),
+            "prod" => Some(Operation::One(Unary::Reduce(Reducer::Prod))),
+            "maximum" => Some(Operation::One(Unary::Reduce(Reducer::Max))),
+            "minimum" => Some(Operation::One(Unary::Reduce(Reducer::Min))),
+            "all" => Some(Operation::One(Unary::Reduce(Reducer::All))),
+            "any" => Some(Operation::One(Unary::Reduce(Reducer::Any))),
+            "contract" => Some(Operation::Two(Binary::Contract)),
             _ => None,
         }
     }

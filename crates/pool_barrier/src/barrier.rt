@@ -13,9 +13,6 @@ use std::alloc::{AllocError, Allocator, Global};
 use std::marker::Brand;
 use std::sync::Wait;
 
-#[cfg(test)]
-mod tests;
-
 /// What one notice adds to the word.
 const NOTICE: u64 = 2;
 

@@ -1,1 +1,6 @@
+pub mod Closing
+pub mod Keeps
+pub mod Lists
 pub mod Numbers
+pub mod Starts
+pub mod Totals

@@ -113,6 +113,3 @@ impl<J, A: Allocator> Deque<J, A> {
         }
     }
 }
-
-#[cfg(test)]
-mod tests;

@@ -6,6 +6,7 @@ mod deque;
 mod deque_rows;
 mod locked_rows;
 mod rows;
+mod slot_rows;
 
 pub use deque::{Deque, ROW_JOBS};
 pub use locked_rows::{LockedRows, LockedSeat};

@@ -118,6 +118,3 @@ fn seats<A: Allocator>(alloc: A, count: u32) -> Result<Vec<LockedSeat, A>, Alloc
     }
     Ok(seats)
 }
-
-#[cfg(test)]
-mod tests;

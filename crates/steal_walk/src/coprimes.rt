@@ -58,6 +58,3 @@ fn gcd(a: u32, b: u32) -> u32
     }
     x
 }
-
-#[cfg(test)]
-mod tests;

@@ -1,18 +1,22 @@
 -- What the checks of each movement passed, where it has result dims.
-use Rattle.std.proofs.Common.{◌≡◌, ℕ, ◌<◌, List, length, get_or, remove, Bool, true, false, ◌&&◌, nat_eq, nat_lt, nat_le}
+use Rattle.std.proofs.Common.{◌≡◌, ℕ, ◌*◌, ◌<◌, List, length, get_or, remove, Bool, true, false, ◌&&◌, nat_eq, nat_lt, nat_le}
 use Rattle.std.proofs.Common.{Ok, Err, IsOk, if◌then◌else◌, [], refl, ap, sym, ◌∙◌, inl, inr}
 use Rattle.std.proofs.lemmas.Bool.{cases_Bool, and_parts, eqb-true, ltb-true, leb-true}
+use Rattle.std.specs.Cmp.Lexicographic.{pointwise, same_text}
 use Rattle.std.specs.Result.{result_unwrap_or}
 use Rattle.tensor_shape.specs.Index.{size_of}
 use Rattle.tensor_shape.specs.Legal.{highest_rank, most_elements, bulk_of, IsLegal, are_legal}
 use Rattle.tensor_ops.specs.Movement.{moved_dims, repeated_dims, shuffled_dims, none_is_zero, fit_within, has_all_below}
-use Rattle.tensor_ops.specs.Shaped.{Shaped}
+use Rattle.tensor_ops.specs.Contraction.{firsts, seconds, outer_dims, contracted_dims, few_products, most_products}
+use Rattle.tensor_ops.specs.Reduction.{are_axes, reduced_dims}
+use Rattle.tensor_ops.specs.Shaped.{Shaped, legal_dims, with_one}
 use Rattle.tensor_ops.specs.Term.{Movement, broadcast, slice, shuffle, reshape, chip, reverse}
+use Rattle.tensor_ops.specs.Woven.{dims_at, other_dims}
 use Rattle.tensor_ops.specs.declared.fault.ExprFault.{ExprFault}
 use Rattle.tensor_ops.specs.declared.fault.ExprFault.TheVariants.{ShapeMismatch, OutOfRange, TooLarge}
 
 -- a check passed, and so did those after it
-check-known : (check : Bool) (rest : Shaped) (fault : ExprFault) → IsOk (if check then rest else Err fault) → (check ≡ true) × IsOk rest
+pub check-known : (check : Bool) (rest : Shaped) (fault : ExprFault) → IsOk (if check then rest else Err fault) → (check ≡ true) × IsOk rest
 check-known true rest fault h = (refl, h)
 check-known false rest fault h = (cc)
 
@@ -107,6 +111,44 @@ pub reverse-known : (flags : List Bool) (ds : List ℕ) → IsOk (moved_dims (re
 reverse-known flags ds h =
     let long = check-known (nat_eq (length flags) (length ds)) _ ShapeMismatch h in
     record { long = eqb-true (length flags) (length ds) long.0; dims = rw long.0 refl }
+
+pub record IsReduction (axes ds : List ℕ) : Type 0 where
+  pub legal : are_axes (length ds) axes ≡ true
+  pub dims : reduced_dims axes ds ≡ Ok (other_dims axes ds)
+
+pub reduction-known : (axes ds : List ℕ) → IsOk (reduced_dims axes ds) → IsReduction axes ds
+reduction-known axes ds h =
+    let legal = check-known (are_axes (length ds) axes) _ OutOfRange h in
+    record { legal = legal.0; dims = rw legal.0 refl }
+
+pub record IsContraction (pairs : List (ℕ × ℕ)) (ds es : List ℕ) : Type 0 where
+  pub first : are_axes (length ds) (firsts pairs) ≡ true
+  pub second : are_axes (length es) (seconds pairs) ≡ true
+  pub paired : dims_at (firsts pairs) ds ≡ dims_at (seconds pairs) es
+  pub dims : contracted_dims pairs ds es ≡ Ok (outer_dims pairs ds es)
+
+few_products-known : (count : ℕ) (ds : List ℕ) → IsOk (with_one (few_products count) (legal_dims ds))
+    → with_one (few_products count) (legal_dims ds) ≡ Ok ds
+few_products-known count ds h =
+    elim (cases_Bool (are_legal highest_rank ds)) [
+      | inl legal ↦
+          let checked = rw legal at h in
+          let few = check-known (nat_le (size_of ds * count) most_products) (Ok ds) TooLarge checked in
+          rw (legal, few.0) refl
+      | inr illegal ↦ let bad = rw illegal at h in (cc)
+    ]
+
+pub contraction-known : (pairs : List (ℕ × ℕ)) (ds es : List ℕ) → IsOk (contracted_dims pairs ds es) → IsContraction pairs ds es
+contraction-known pairs ds es h =
+    let legal = check-known (are_axes (length ds) (firsts pairs) && are_axes (length es) (seconds pairs)) _ OutOfRange h in
+    let each = and_parts (are_axes (length ds) (firsts pairs)) (are_axes (length es) (seconds pairs)) legal.0 in
+    let paired = check-known (pointwise nat_eq (dims_at (firsts pairs) ds) (dims_at (seconds pairs) es)) _ ShapeMismatch legal.1 in
+    record {
+      first = each.0;
+      second = each.1;
+      paired = same_text (dims_at (firsts pairs) ds) (dims_at (seconds pairs) es) (sym paired.0);
+      dims = rw (legal.0, paired.0) (few_products-known (size_of (dims_at (firsts pairs) ds)) (outer_dims pairs ds es) paired.1);
+    }
 
 -- a movement has one list of result dims
 pub moved_dims-unique : (m : Movement) (ds es rs : List ℕ) → moved_dims m ds ≡ Ok es → moved_dims m ds ≡ Ok rs → es ≡ rs

@@ -44,7 +44,7 @@ length-scattered (s ∷ ss) [] js = refl
 length-scattered (s ∷ ss) (i ∷ is) js = length-set (scattered ss is js) s i ∙ length-scattered ss is js
 
 -- an axis among those set has an index of its own dimension
-scattered-below : (ds order is js : List ℕ) (a : ℕ) → a < length ds → length js ≡ length ds → IsIndexOf (shuffled_dims ds order) is
+pub scattered-below : (ds order is js : List ℕ) (a : ℕ) → a < length ds → length js ≡ length ds → IsIndexOf (shuffled_dims ds order) is
     → is_among a order ≡ true → get_or (scattered order is js) a 0 < get_or ds a 0
 scattered-below ds [] is js a within long index among = (cc)
 scattered-below ds (s ∷ ss) [] js a within long index among = absurd index

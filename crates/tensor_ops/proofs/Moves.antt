@@ -23,18 +23,18 @@ use Rattle.tensor_ops.proofs.Walks.{reached-start}
 abbrev pub zeros : List ℕ → List ℕ
 zeros ds = map (λ d. 0) ds
 
-by_steps-zeros : (axes : List Axis) (ds : List ℕ) → by_steps axes (zeros ds) ≡ 0
+pub by_steps-zeros : (axes : List Axis) (ds : List ℕ) → by_steps axes (zeros ds) ≡ 0
 by_steps-zeros [] ds = refl
 by_steps-zeros (a ∷ axes) [] = refl
 by_steps-zeros (a ∷ axes) (d ∷ ds) = omega (arith, by_steps-zeros axes ds)
 
-get_or-zeros : (ds : List ℕ) (k : ℕ) → get_or (zeros ds) k 0 ≡ 0
+pub get_or-zeros : (ds : List ℕ) (k : ℕ) → get_or (zeros ds) k 0 ≡ 0
 get_or-zeros [] k = refl
 get_or-zeros (d ∷ ds) zero = refl
 get_or-zeros (d ∷ ds) (suc k) = get_or-zeros ds k
 
 -- one index more adds its steps
-by_steps-set : (axes : List Axis) (js : List ℕ) (k i : ℕ) → k < length axes → length js ≡ length axes → get_or js k 0 ≡ 0
+pub by_steps-set : (axes : List Axis) (js : List ℕ) (k i : ℕ) → k < length axes → length js ≡ length axes → get_or js k 0 ≡ 0
     → by_steps axes (set js k i) ≡ by_steps axes js + i * (get_or axes k no_axis).step
 by_steps-set [] js k i within long none = absurd (omega arith)
 by_steps-set (a ∷ axes) [] k i within long none = absurd (omega arith)
@@ -44,7 +44,7 @@ by_steps-set (a ∷ axes) (j ∷ js) (suc k) i within long none =
     omega (arith, rest)
 
 -- an axis that is not among those set stays
-scattered-other : (a : ℕ) (ss is js : List ℕ) → is_among a ss ≡ false → get_or (scattered ss is js) a 0 ≡ get_or js a 0
+pub scattered-other : (a : ℕ) (ss is js : List ℕ) → is_among a ss ≡ false → get_or (scattered ss is js) a 0 ≡ get_or js a 0
 scattered-other a [] is js h = refl
 scattered-other a (s ∷ ss) [] js h = refl
 scattered-other a (s ∷ ss) (i ∷ is) js h =

@@ -12,9 +12,8 @@ use Rattle.tensor_ops.specs.Meaning.{meaning, count_of, IsSound, IsListOf}
 use Rattle.tensor_ops.specs.Movement.{moved, moved_dims}
 use Rattle.tensor_ops.specs.Places.{value_in}
 use Rattle.tensor_ops.specs.Placing.{Gives, IsView, meaning_at}
-use Rattle.tensor_ops.specs.Result.{shape_of, unary_dims}
-use Rattle.tensor_ops.specs.Term.{Term, unary, Unary, each, constant, movement, Movement, reshape}
-use Rattle.tensor_ops.specs.Value.{value, unary_value, applied}
+use Rattle.tensor_ops.specs.Term.{Movement, reshape}
+use Rattle.tensor_ops.specs.Scalars.{applied}
 use Rattle.tensor_ops.specs.Walk.{walk_size, reached}
 use Rattle.tensor_ops.specs.declared.operations.UnaryScalar.{UnaryScalar}
 use Rattle.tensor_ops.specs.declared.placed.Placed.{Placed}
@@ -156,25 +155,6 @@ gives-other placed rs f g gives same = record {
   count = gives.count;
   means = λ p below. gives.means p below ∙ same (index_of rs p) (IsIndexOf-index_of rs p below);
 }
-
--- an operation on one tensor, of an operand with the values of a function
-pub unary_value-other : (o : Unary) (ds rs : List ℕ) (f g : List ℕ → ℤ) → unary_dims o ds ≡ Ok rs
-    → ((index : List ℕ) → IsIndexOf ds index → f index ≡ g index)
-    → (index : List ℕ) → IsIndexOf rs index → unary_value o ds f index ≡ unary_value o ds g index
-unary_value-other (each o) ds rs f g dims same index is_index =
-    let whole : rs ≡ ds = (cc) in
-    ap (applied o) (same index (rw (← whole) is_index))
-unary_value-other (constant v) ds rs f g dims same index is_index = refl
-unary_value-other (movement m) ds rs f g dims same index is_index = same (moved m ds index) (index-moved (axes_from 1 ds) ds rs (are_along-from 1 ds) m index dims is_index)
-
-pub gives-unary : (inputs : List Contents) (t : Term) (o : Unary) (a whole : Placed) (ds rs : List ℕ) → Gives a ds (value t inputs)
-    → ds ≡ shape_of t inputs → unary_dims o ds ≡ Ok rs → Gives whole rs (unary_value o ds (meaning_at a ds))
-    → Gives whole rs (value (unary o t) inputs)
-gives-unary inputs t o a whole ds rs operand shape dims gives =
-    gives-other whole rs (unary_value o ds (meaning_at a ds)) (value (unary o t) inputs) gives
-    (λ index is_index.
-    unary_value-other o ds rs (meaning_at a ds) (value t inputs) dims (λ js. gives-index a ds (value t inputs) js operand) index is_index
-    ∙ ap (λ d. unary_value o d (value t inputs) index) shape)
 
 -- two facts of the same result
 pub IfOk-both : {X E : Type 0} (r : Result X E) (P Q R : X → Type 0) → ((x : X) → P x → Q x → R x) → IfOk r P → IfOk r Q → IfOk r R

@@ -6,7 +6,7 @@ use Rattle.tensor_shape.proofs.Places.{IsIndexOf-index_of, place-index_of, index
 use Rattle.tensor_ops.specs.Contents.{Contents, input_of}
 use Rattle.tensor_ops.specs.Movement.{moved, moved_dims}
 use Rattle.tensor_ops.specs.Result.{dims_of, shape_of}
-use Rattle.tensor_ops.specs.Shaped.{Shaped, with_one}
+use Rattle.tensor_ops.specs.Shaped.{Shaped, with_one, with_two}
 use Rattle.tensor_ops.specs.Term.{Term, input, unary, Movement, movement}
 use Rattle.tensor_ops.specs.Value.{value, value_of_place}
 use Rattle.tensor_ops.proofs.Moved.{IsIndexOf-moved}
@@ -21,6 +21,13 @@ pub with_one-known : (own : List ℕ → Shaped) (first : Shaped) → IsOk (with
     → (IsOk first) × (with_one own first ≡ own (result_unwrap_or first []))
 with_one-known own (Ok d) h = (refl, refl)
 with_one-known own (Err fault) h = (cc)
+
+-- an operation on two operands has dims only where both have
+pub with_two-known : (own : List ℕ → List ℕ → Shaped) (first second : Shaped) → IsOk (with_two own first second)
+    → (IsOk first) × (IsOk second) × (with_two own first second ≡ own (result_unwrap_or first []) (result_unwrap_or second []))
+with_two-known own (Ok d) (Ok e) h = (refl, refl, refl)
+with_two-known own (Ok d) (Err fault) h = (cc)
+with_two-known own (Err fault) second h = (cc)
 
 -- the place of the operand, of these dims, that is read for a place of the result
 abbrev pub place_read : Movement → List ℕ → ℕ → ℕ

@@ -1,6 +1,6 @@
 -- Operations on values that are worked out in another order than they stand in.
 use Rattle.std.specs.Prelude.{ℤ, Bool, if◌then◌else◌}
-use Rattle.tensor_ops.specs.Value.{combined, is_true}
+use Rattle.tensor_ops.specs.Scalars.{combined, is_true}
 use Rattle.tensor_ops.specs.declared.operations.BinaryScalar.{BinaryScalar}
 use Rattle.tensor_ops.specs.declared.loops.SelectOrder.{SelectOrder}
 use Rattle.tensor_ops.specs.declared.loops.SelectOrder.TheVariants as order

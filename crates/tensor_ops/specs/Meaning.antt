@@ -5,7 +5,7 @@ use native.Mathlib.Nat.{ℕ_set}
 use Rattle.tensor_shape.specs.Legal.{most_elements}
 use Rattle.tensor_ops.specs.Loops.{either_way, selected}
 use Rattle.tensor_ops.specs.Places.{value_in}
-use Rattle.tensor_ops.specs.Value.{applied}
+use Rattle.tensor_ops.specs.Scalars.{applied}
 use Rattle.tensor_ops.specs.Walk.{walk_size, reached}
 use Rattle.tensor_ops.specs.declared.placed.Placed.{Placed}
 use Rattle.tensor_ops.specs.declared.placed.Placed.TheVariants.{Lent, Kept, Same}

@@ -7,6 +7,11 @@ use Rattle.tensor_ops.specs.Meaning.{meaning, count_of, IsSound}
 use Rattle.tensor_ops.specs.declared.placed.Placed.{Placed}
 use Rattle.tensor_ops.specs.declared.walk.Axis.{Axis}
 
+-- so many values, one a place, are those of a function at all index lists of these dims
+pub record HasValues (count : ℕ) (at : ℕ → ℤ) (ds : List ℕ) (f : List ℕ → ℤ) : Type 0 where
+  pub whole : count ≡ size_of ds
+  pub each : (p : ℕ) → p < size_of ds → at p ≡ f (index_of ds p)
+
 -- its values, in order, are those of a function at all index lists of these dims
 pub record Gives (placed : Placed) (ds : List ℕ) (f : List ℕ → ℤ) : Type 0 where
   pub sound : IsSound placed

@@ -2,20 +2,24 @@
 use Rattle.std.specs.Prelude.{ℕ, List, [], ◌∷◌, Ok}
 use Rattle.std.specs.Result.{result_unwrap_or}
 use Rattle.tensor_ops.specs.Contents.{Contents, input_of}
+use Rattle.tensor_ops.specs.Contraction.{contracted_dims}
 use Rattle.tensor_ops.specs.Movement.{moved_dims}
+use Rattle.tensor_ops.specs.Reduction.{reduced_dims}
 use Rattle.tensor_ops.specs.Shaped.{Shaped, with_one, with_two, with_three, equal_dims}
 use Rattle.tensor_ops.specs.Term.{Term, input, unary, binary, ternary}
-use Rattle.tensor_ops.specs.Term.{Unary, each, constant, movement}
-use Rattle.tensor_ops.specs.Term.{Binary, pairwise, Ternary, select}
+use Rattle.tensor_ops.specs.Term.{Unary, each, constant, movement, reduce}
+use Rattle.tensor_ops.specs.Term.{Binary, pairwise, contract, Ternary, select}
 
 -- what an operation says of the dims of its operands: its own dims, or the first of its own faults
 abbrev pub unary_dims : Unary → List ℕ → Shaped
 unary_dims (each o) d = Ok d
 unary_dims (constant v) d = Ok d
 unary_dims (movement m) d = moved_dims m d
+unary_dims (reduce r axes) d = reduced_dims axes d
 
 abbrev pub binary_dims : Binary → List ℕ → List ℕ → Shaped
 binary_dims (pairwise o) d e = equal_dims d e
+binary_dims (contract pairs) d e = contracted_dims pairs d e
 
 abbrev pub ternary_dims : Ternary → List ℕ → List ℕ → List ℕ → Shaped
 ternary_dims select c d e = with_one (λ both. equal_dims both e) (equal_dims c d)

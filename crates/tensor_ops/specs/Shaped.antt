@@ -20,7 +20,8 @@ with_two own (Ok d) second = with_one (own d) second
 with_two own (Err fault) second = Err fault
 
 -- the same of three
-abbrev pub with_three : (List ℕ → List ℕ → List ℕ → Shaped) → Shaped → Shaped → Shaped → Shaped
+abbrev pub with_three : (List ℕ → List ℕ → List ℕ → Shaped)
+    → Shaped → Shaped → Shaped → Shaped
 with_three own (Ok d) second third = with_two (own d) second third
 with_three own (Err fault) second third = Err fault
 

@@ -2,6 +2,7 @@
 use Rattle.std.specs.Prelude.{ℕ, ◌+◌, ℤ, List, Bool, nat_lt, ◌&&◌}
 use Rattle.tensor_ops.specs.declared.operations.UnaryScalar.{UnaryScalar}
 use Rattle.tensor_ops.specs.declared.operations.BinaryScalar.{BinaryScalar}
+use Rattle.tensor_ops.specs.declared.reducer.Reducer.{Reducer}
 
 -- the operations whose value at an index list is the operand's at another one, with their arguments
 pub data Movement : Type 0 where
@@ -12,15 +13,19 @@ pub data Movement : Type 0 where
   chip : ℕ → ℕ → Movement
   reverse : List Bool → Movement
 
--- the operations on one tensor: on each value, one value everywhere, or a movement
+-- the operations on one tensor: on each value, one value everywhere, a movement, or a reduction
+-- over
+-- axes
 pub data Unary : Type 0 where
   each : UnaryScalar → Unary
   constant : ℤ → Unary
   movement : Movement → Unary
+  reduce : Reducer → List ℕ → Unary
 
--- the operations on two tensors: on each pair of values
+-- the operations on two tensors: on each pair of values, or a contraction over pairs of axes
 pub data Binary : Type 0 where
   pairwise : BinaryScalar → Binary
+  contract : List (ℕ × ℕ) → Binary
 
 -- the operations on three tensors
 pub data Ternary : Type 0 where

@@ -1,8 +1,8 @@
 -- The term of an expression, and of the view of its operation.
 use Rattle.tensor_ops.specs.Term.{Term, input, unary, binary, ternary, Movement}
 use Rattle.tensor_ops.specs.Term.{broadcast, slice, shuffle, reshape, chip, reverse}
-use Rattle.tensor_ops.specs.Term.{Unary, each, constant, movement}
-use Rattle.tensor_ops.specs.Term.{Binary, pairwise, Ternary, select}
+use Rattle.tensor_ops.specs.Term.{Unary, each, constant, movement, reduce}
+use Rattle.tensor_ops.specs.Term.{Binary, pairwise, contract, Ternary, select}
 use Rattle.tensor_ops.specs.declared.expr.Expr.{Expr}
 use Rattle.tensor_ops.specs.declared.expr.Expr.TheVariants as expr
 use Rattle.tensor_ops.specs.declared.node.Movement.{Movement as MovementView}
@@ -17,6 +17,7 @@ use Rattle.tensor_ops.specs.declared.node.Node.{Node}
 use Rattle.tensor_ops.specs.declared.node.Node.TheVariants as node
 use Rattle.tensor_ops.specs.declared.operations.UnaryScalar.TheVariants as unary_scalar
 use Rattle.tensor_ops.specs.declared.operations.BinaryScalar.TheVariants as binary_scalar
+use Rattle.tensor_ops.specs.declared.reducer.Reducer.TheVariants as reducer
 
 abbrev pub term_of : Expr → Term
 term_of (expr.Input n) = input n
@@ -46,6 +47,13 @@ term_of (expr.Shuffle' p a order) = unary (movement (shuffle order.items)) (term
 term_of (expr.Reshape' p a sizes) = unary (movement (reshape sizes.items)) (term_of a)
 term_of (expr.Chip' p a offset axis) = unary (movement (chip offset axis)) (term_of a)
 term_of (expr.Reverse' p a flags) = unary (movement (reverse flags.items)) (term_of a)
+term_of (expr.Sum' p a axes) = unary (reduce reducer.Sum axes.items) (term_of a)
+term_of (expr.Prod' p a axes) = unary (reduce reducer.Prod axes.items) (term_of a)
+term_of (expr.Maximum' p a axes) = unary (reduce reducer.Max axes.items) (term_of a)
+term_of (expr.Minimum' p a axes) = unary (reduce reducer.Min axes.items) (term_of a)
+term_of (expr.All' p a axes) = unary (reduce reducer.All axes.items) (term_of a)
+term_of (expr.Any' p a axes) = unary (reduce reducer.Any axes.items) (term_of a)
+term_of (expr.Contract' p a q b pairs) = binary (contract pairs.items) (term_of a) (term_of b)
 
 -- the operations of a view, without their borrows
 abbrev pub movement_at : MovementView → Movement
@@ -60,9 +68,11 @@ abbrev pub unary_at : UnaryView → Unary
 unary_at (one.Each o) = each o
 unary_at (one.Constant v) = constant v
 unary_at (one.Move m) = movement (movement_at m)
+unary_at (one.Reduce r axes) = reduce r axes.now
 
 abbrev pub binary_at : BinaryView → Binary
 binary_at (two.Pairwise o) = pairwise o
+binary_at (two.Contract pairs) = contract pairs.now
 
 abbrev pub ternary_at : TernaryView → Ternary
 ternary_at three.Select = select

@@ -2,16 +2,20 @@
 
 ghost use Rattle.std.specs.Prelude.{◌≡◌, ◌<◌, List, ℕ, length, IsTrue, IsOk};
 ghost use Rattle.tensor_shape.specs.Index.{size_of, IsIndexOf, place};
-ghost use Rattle.tensor_ops.specs.Term.{has_inputs};
+ghost use Rattle.tensor_ops.specs.Term.{has_inputs, unary, reduce, binary, contract};
 ghost use Rattle.tensor_ops.specs.Tree.{term_of};
 ghost use Rattle.tensor_ops.specs.Result.{dims_of, shape_of};
 ghost use Rattle.tensor_ops.specs.Value.{value, value_of_place};
 
+use crate::contraction_dims::paired_axes;
 use crate::expr::Expr;
+use crate::index_parts::{all_among, dims_at, other_dims, woven_place};
 use crate::inputs::Inputs;
 use crate::moved_index::moved_place;
 use crate::node::{Binary, Node, Ternary, Unary};
-use crate::operations::{applied, combined, is_true};
+use crate::operations::{BinaryScalar, applied, combined, is_true};
+use crate::reducer::Reducer;
+use tensor_shape::Dims;
 
 /// An expression that has result dims, over its inputs. It gives one value at a time and takes no
 /// memory.
@@ -49,6 +53,7 @@ impl<'a> Cursor<'a> {
 }
 
 /// The value at a place, down the tree.
+#[cycle(value)]
 fn value_at(expr: &Expr, inputs: &Inputs, place: u64) -> i64
     requires inputs { IsTrue (has_inputs (term_of expr.now) (length inputs.now)) }
     requires dims { IsOk (dims_of (term_of expr.now) inputs.now) }
@@ -60,17 +65,18 @@ fn value_at(expr: &Expr, inputs: &Inputs, place: u64) -> i64
         Node::Unary(Unary::Each(operation), a) => applied(operation, value_at(a, inputs, place)),
         Node::Unary(Unary::Constant(value), _) => value,
         Node::Unary(Unary::Move(movement), a) => {
-            let Ok(dims) = a.dims(inputs) else {
-                unreachable!()
-            };
-            let read = moved_place(movement, &dims, place);
+            let read = moved_place(movement, &known_dims(a, inputs), place);
             value_at(a, inputs, read)
+        }
+        Node::Unary(Unary::Reduce(reducer, axes), a) => {
+            reduced_at(reducer, axes, a, inputs, place)
         }
         Node::Binary(Binary::Pairwise(operation), a, b) => {
             let first = value_at(a, inputs, place);
             let second = value_at(b, inputs, place);
             combined(operation, first, second)
         }
+        Node::Binary(Binary::Contract(pairs), a, b) => contracted_at(pairs, a, b, inputs, place),
         Node::Ternary(Ternary::Select, c, a, b) => {
             if is_true(value_at(c, inputs, place)) {
                 value_at(a, inputs, place)
@@ -78,5 +84,68 @@ fn value_at(expr: &Expr, inputs: &Inputs, place: u64) -> i64
                 value_at(b, inputs, place)
             }
         }
+    }
+}
+
+/// The value of a reduction at a place: those of its operand along the dropped axes, combined.
+#[cycle(value)]
+fn reduced_at(reducer: Reducer, axes: &[u64], a: &Expr, inputs: &Inputs, place: u64) -> i64
+    requires inputs { IsTrue (has_inputs (term_of a.now) (length inputs.now)) }
+    requires dims { IsOk (dims_of (unary (reduce reducer axes.now) (term_of a.now)) inputs.now) }
+    requires below { place
+        < size_of (shape_of (unary (reduce reducer axes.now) (term_of a.now)) inputs.now) }
+    ensures { result
+        ≡ value_of_place (unary (reduce reducer axes.now) (term_of a.now)) inputs.now place }
+{
+    let dims = known_dims(a, inputs);
+    let dropped = all_among(axes, dims.rank());
+    let count = dims_at(dropped.as_slice(), &dims).size();
+    let mut value = reducer.unit();
+    for inner in 0..count {
+        let read = woven_place(dropped.as_slice(), &dims, inner, place);
+        value = reducer.combine(value, value_at(a, inputs, read));
+    }
+    value
+}
+
+/// The value of a contraction at a place: the products along the paired axes, added up.
+#[cycle(value)]
+fn contracted_at(pairs: &[(u64, u64)], a: &Expr, b: &Expr, inputs: &Inputs, place: u64) -> i64
+    requires inputs_a { IsTrue (has_inputs (term_of a.now) (length inputs.now)) }
+    requires inputs_b { IsTrue (has_inputs (term_of b.now) (length inputs.now)) }
+    requires dims { IsOk (dims_of (binary (contract pairs.now) (term_of a.now) (term_of b.now))
+        inputs.now) }
+    requires below { place < size_of (shape_of
+        (binary (contract pairs.now) (term_of a.now) (term_of b.now)) inputs.now) }
+    ensures { result ≡ value_of_place
+        (binary (contract pairs.now) (term_of a.now) (term_of b.now)) inputs.now place }
+{
+    let first = known_dims(a, inputs);
+    let second = known_dims(b, inputs);
+    let Some((firsts, seconds)) = paired_axes(pairs, &first) else {
+        unreachable!()
+    };
+    let count = dims_at(firsts.as_slice(), &first).size();
+    let outer = other_dims(firsts.as_slice(), &first).size();
+    let mut value = 0;
+    for inner in 0..count {
+        let left = woven_place(firsts.as_slice(), &first, inner, place % outer);
+        let right = woven_place(seconds.as_slice(), &second, inner, place / outer);
+        let x = value_at(a, inputs, left);
+        let y = value_at(b, inputs, right);
+        value = combined(BinaryScalar::Add, value, combined(BinaryScalar::Mul, x, y));
+    }
+    value
+}
+
+/// The dims of an expression that has some.
+fn known_dims(expr: &Expr, inputs: &Inputs) -> Dims
+    requires inputs { IsTrue (has_inputs (term_of expr.now) (length inputs.now)) }
+    requires dims { IsOk (dims_of (term_of expr.now) inputs.now) }
+    ensures { result ≡ shape_of (term_of expr.now) inputs.now }
+{
+    match expr.dims(inputs) {
+        Ok(dims) => dims,
+        Err(_) => unreachable!(),
     }
 }

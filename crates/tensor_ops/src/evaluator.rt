@@ -2,19 +2,15 @@
 
 ghost use Rattle.std.specs.Prelude.{◌≡◌, ◌<◌, ◌≤◌, ◌-◌, ℕ, length, IsTrue, IsOk, IfOk};
 ghost use Rattle.tensor_shape.specs.Index.{size_of};
-ghost use Rattle.tensor_ops.specs.Meaning.{meaning, count_of, IsSound, IsSound-prop};
 ghost use Rattle.tensor_ops.specs.Result.{dims_of, shape_of};
+ghost use Rattle.tensor_ops.specs.Root.{root_value, root_count, IsSoundRoot, IsSoundRoot-prop};
 ghost use Rattle.tensor_ops.specs.Term.{has_inputs};
 ghost use Rattle.tensor_ops.specs.Tree.{term_of};
 ghost use Rattle.tensor_ops.specs.Value.{value_of_place, values_from};
 
-#[cfg(test)]
-mod tests;
-
 use crate::expr::Expr;
 use crate::inputs::Inputs;
-use crate::placed::Placed;
-use crate::placing::place_expr;
+use crate::root::Root;
 use std::alloc::{AllocError, Global};
 use tensor_shape::Dims;
 
@@ -26,19 +22,20 @@ pub struct TensorEvaluator<'a> {
     expr: &'a Expr,
     inputs: &'a Inputs,
     dims: Dims,
-    placed: Placed<'a>,
+    root: Root<'a>,
     ghost has_shape: { dims ≡ shape_of (term_of expr.now) inputs.now },
-    ghost sound: { IsSound placed } by { IsSound-prop placed },
-    ghost count: { count_of placed ≡ size_of (shape_of (term_of expr.now) inputs.now) },
+    ghost sound: { IsSoundRoot root } by { IsSoundRoot-prop root },
+    ghost count: { root_count root ≡ size_of (shape_of (term_of expr.now) inputs.now) },
     ghost means: { (p : ℕ) → p < size_of (shape_of (term_of expr.now) inputs.now)
-        → meaning placed p ≡ value_of_place (term_of expr.now) inputs.now p },
+        → root_value root p ≡ value_of_place (term_of expr.now) inputs.now p },
 }
 
 impl<'a> TensorEvaluator<'a> {
     ghost use Rattle.tensor_ops.specs.Evaluator.{term_evaluated, inputs_evaluated};
 
-    /// An evaluator of an expression. Values of operands of broadcasts are worked out here, at most
-    /// 32,768 of them.
+    /// An evaluator of an expression. Reductions and contractions below its last operation are
+    /// worked out here, and so is what a reduction or a contraction takes; operands of broadcasts
+    /// are, too, at most 32,768 values of them.
     pub fn of(
         alloc: Global,
         expr: &'a Expr,
@@ -49,12 +46,12 @@ impl<'a> TensorEvaluator<'a> {
         ensures term { IfOk result (λ e. term_evaluated e ≡ term_of expr.now) }
         ensures inputs { IfOk result (λ e. inputs_evaluated e ≡ inputs.now) }
     {
-        let (placed, dims) = place_expr(alloc, expr, inputs)?;
+        let (root, dims) = Root::of(alloc, expr, inputs)?;
         Ok(TensorEvaluator {
             expr,
             inputs,
             dims,
-            placed,
+            root,
         })
     }
 
@@ -74,6 +71,6 @@ impl<'a> TensorEvaluator<'a> {
         ensures { IfOk result (λ v. v.items ≡ values_from
             (term_evaluated self.now) (inputs_evaluated self.now) first (last - first)) }
     {
-        self.placed.values(alloc, first as usize, last as usize)
+        self.root.values(alloc, first as usize, last as usize)
     }
 }

@@ -1,11 +1,12 @@
 //! Expressions. Only this module lists the operations.
 
 ghost use Rattle.std.specs.Prelude.{◌≡◌};
-ghost use Rattle.tensor_ops.specs.Term.{unary, binary, each, movement, pairwise};
+ghost use Rattle.tensor_ops.specs.Term.{unary, binary, each, movement, reduce, pairwise};
 ghost use Rattle.tensor_ops.specs.Tree.{term_of, movement_at, term_at};
 
 use crate::node::{Binary, Movement, Node, Ternary, Unary};
 use crate::operations::{BinaryScalar, UnaryScalar};
+use crate::reducer::Reducer;
 use std::alloc::Global;
 
 /// A tree of operations over inputs, a variant an operation. Values are of the `i64` range, and
@@ -64,6 +65,21 @@ pub enum Expr {
     Chip(Box<Expr>, u64, u64),
     /// The operand, turned round along the axes that are flagged.
     Reverse(Box<Expr>, Vec<bool>),
+    /// The sum of the values along these axes, which are gone then.
+    Sum(Box<Expr>, Vec<u64>),
+    /// Their product.
+    Prod(Box<Expr>, Vec<u64>),
+    /// The greatest of them.
+    Maximum(Box<Expr>, Vec<u64>),
+    /// The least of them.
+    Minimum(Box<Expr>, Vec<u64>),
+    /// Whether all of them are true.
+    All(Box<Expr>, Vec<u64>),
+    /// Whether one of them is true.
+    Any(Box<Expr>, Vec<u64>),
+    /// The sums of products along paired axes, an axis of the first and one of the second, which
+    /// are gone then. The first's other axes come before the second's.
+    Contract(Box<Expr>, Box<Expr>, Vec<(u64, u64)>),
 }
 
 impl Expr {
@@ -101,8 +117,22 @@ impl Expr {
         }
     }
 
+    /// A reduction over axes.
+    pub fn reduction(reducer: Reducer, operand: Box<Expr>, axes: Vec<u64>) -> Expr
+        ensures { term_of result ≡ unary (reduce reducer axes.items) (term_of operand.value) }
+    {
+        match reducer {
+            Reducer::Sum => Expr::Sum(operand, axes),
+            Reducer::Prod => Expr::Prod(operand, axes),
+            Reducer::Max => Expr::Maximum(operand, axes),
+            Reducer::Min => Expr::Minimum(operand, axes),
+            Reducer::All => Expr::All(operand, axes),
+            Reducer::Any => Expr::Any(operand, axes),
+        }
+    }
+
     /// The operation and its operands.
-    pub(crate) fn node(&self) -> Node<'_>
+    pub fn node(&self) -> Node<'_>
         ensures { term_at result ≡ term_of self.now }
     {
         match self {
@@ -132,6 +162,13 @@ impl Expr {
             Expr::Reshape(a, sizes) => moved(Movement::Reshape(sizes), a),
             Expr::Chip(a, offset, axis) => moved(Movement::Chip(*offset, *axis), a),
             Expr::Reverse(a, flags) => moved(Movement::Reverse(flags), a),
+            Expr::Sum(a, axes) => reduced(Reducer::Sum, axes, a),
+            Expr::Prod(a, axes) => reduced(Reducer::Prod, axes, a),
+            Expr::Maximum(a, axes) => reduced(Reducer::Max, axes, a),
+            Expr::Minimum(a, axes) => reduced(Reducer::Min, axes, a),
+            Expr::All(a, axes) => reduced(Reducer::All, axes, a),
+            Expr::Any(a, axes) => reduced(Reducer::Any, axes, a),
+            Expr::Contract(a, b, pairs) => Node::Binary(Binary::Contract(pairs), a, b),
         }
     }
 }
@@ -156,4 +193,11 @@ fn moved<'a>(moving: Movement<'a>, operand: &'a Expr) -> Node<'a>
     ensures { term_at result ≡ unary (movement (movement_at moving.entry)) (term_of operand.now) }
 {
     Node::Unary(Unary::Move(moving), operand)
+}
+
+/// The node of a reduction.
+fn reduced<'a>(reducer: Reducer, axes: &'a [u64], operand: &'a Expr) -> Node<'a>
+    ensures { term_at result ≡ unary (reduce reducer axes.now) (term_of operand.now) }
+{
+    Node::Unary(Unary::Reduce(reducer, axes), operand)
 }

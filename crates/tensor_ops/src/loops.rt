@@ -4,7 +4,7 @@
 ghost use Rattle.std.specs.Prelude.{◌≡◌, ◌<◌, ℕ, pos, length, slice_index_or, vec_len};
 ghost use Rattle.std.specs.Prelude.{if◌then◌else◌};
 ghost use Rattle.tensor_ops.specs.Loops.{either_way, selected};
-ghost use Rattle.tensor_ops.specs.Value.{applied, is_true};
+ghost use Rattle.tensor_ops.specs.Scalars.{applied, is_true};
 
 use crate::operations::{BinaryScalar, UnaryScalar, applied, combined, is_true};
 

@@ -98,7 +98,7 @@ fn reverse_dims(flags: &[bool], dims: &Dims) -> Result<Dims, ExprFault>
 }
 
 /// Dims of these sizes, which have to be legal.
-fn legal_dims(sizes: &[u64]) -> Result<Dims, ExprFault>
+pub(crate) fn legal_dims(sizes: &[u64]) -> Result<Dims, ExprFault>
     ensures { result ≡ legal_dims sizes.now }
 {
     match Dims::new(sizes) {
@@ -124,7 +124,7 @@ fn repeated_dims(counts: &[u64], sizes: &[u64]) -> Result<Dims, ExprFault>
 }
 
 /// The sizes in another order.
-fn shuffled_dims(order: &[u64], sizes: &[u64]) -> Result<Dims, ExprFault>
+pub(crate) fn shuffled_dims(order: &[u64], sizes: &[u64]) -> Result<Dims, ExprFault>
     requires few { length order.now ≤ highest_rank }
     requires axes { (k : ℕ) → k < length order.now
         → slice_index order.now k < length sizes.now }
@@ -187,7 +187,7 @@ fn fit_within(sizes: &[u64], offsets: &[u64], extents: &[u64]) -> bool
 }
 
 /// Whether a number is in a list.
-fn is_among(number: u64, list: &[u64]) -> bool
+pub(crate) fn is_among(number: u64, list: &[u64]) -> bool
     ensures { result ≡ is_among number list.now }
 {
     match list {

@@ -2,6 +2,7 @@
 
 use crate::expr::Expr;
 use crate::operations::{BinaryScalar, UnaryScalar};
+use crate::reducer::Reducer;
 
 /// A movement and its arguments.
 #[derive(Clone, Copy, Drop)]
@@ -20,12 +21,16 @@ pub enum Unary<'a> {
     Each(UnaryScalar),
     Constant(i64),
     Move(Movement<'a>),
+    /// Over these axes.
+    Reduce(Reducer, &'a [u64]),
 }
 
 /// An operation on two tensors.
 #[derive(Clone, Copy, Drop)]
-pub enum Binary {
+pub enum Binary<'a> {
     Pairwise(BinaryScalar),
+    /// Over these axes of the first and of the second.
+    Contract(&'a [(u64, u64)]),
 }
 
 /// An operation on three tensors.
@@ -39,6 +44,6 @@ pub enum Ternary {
 pub enum Node<'a> {
     Input(u32),
     Unary(Unary<'a>, &'a Expr),
-    Binary(Binary, &'a Expr, &'a Expr),
+    Binary(Binary<'a>, &'a Expr, &'a Expr),
     Ternary(Ternary, &'a Expr, &'a Expr, &'a Expr),
 }

@@ -1,7 +1,7 @@
 //! The operations on single values.
 
 ghost use Rattle.std.specs.Prelude.{◌≡◌};
-ghost use Rattle.tensor_ops.specs.Value.{is_true, truth, applied, combined};
+ghost use Rattle.tensor_ops.specs.Scalars.{is_true, truth, applied, combined};
 
 /// The operations on one value.
 #[derive(Clone, Copy, Debug, Drop, Eq, PartialEq)]

@@ -9,32 +9,22 @@ ghost use Rattle.tensor_ops.specs.Placing.{Gives, IsJoined, IsView, meaning_at};
 ghost use Rattle.tensor_ops.specs.Result.{dims_of, shape_of, unary_dims};
 ghost use Rattle.tensor_ops.specs.Term.{has_inputs};
 ghost use Rattle.tensor_ops.specs.Tree.{term_of, movement_at, unary_at};
-ghost use Rattle.tensor_ops.specs.Value.{value, unary_value, combined, is_true};
+ghost use Rattle.tensor_ops.specs.Scalars.{combined, is_true};
+ghost use Rattle.tensor_ops.specs.Value.{value, unary_value};
 
 use crate::axes::{are_along, moved_axes, moved_start, whole_axes};
 use crate::expr::Expr;
 use crate::inputs::Inputs;
+use crate::kernels::{place_contraction, place_reduction};
 use crate::loops::SelectOrder;
 use crate::movement_dims::moved_dims;
 use crate::node::{Binary, Movement, Node, Ternary, Unary};
 use crate::operations::BinaryScalar;
+use crate::part::Part;
 use crate::placed::Placed;
 use crate::walk::Axis;
 use std::alloc::{AllocError, Global};
 use tensor_shape::Dims;
-
-/// How many places of operands are worked out, all together, when an expression is placed: 256 KiB
-/// of values.
-const KEPT: usize = 32_768;
-
-/// A part of an expression, placed, with its dims.
-#[derive(Drop)]
-struct Part<'a> {
-    placed: Placed<'a>,
-    dims: Dims,
-    /// How many pieces are held at once while its values are worked out.
-    pieces: u32,
-}
 
 /// A placed expression that is read along axes from a start.
 #[derive(Drop)]
@@ -44,24 +34,8 @@ struct View<'a> {
     placed: Box<Placed<'a>>,
 }
 
-/// An expression placed, and its result dims.
-pub(crate) fn place_expr<'a>(
-    alloc: Global,
-    expr: &Expr,
-    inputs: &'a Inputs,
-) -> Result<(Placed<'a>, Dims), AllocError>
-    requires inputs { IsTrue (has_inputs (term_of expr.now) (length inputs.now)) }
-    requires dims { IsOk (dims_of (term_of expr.now) inputs.now) }
-    ensures placed { IfOk result (λ r. Gives r.0 r.1 (value (term_of expr.now) inputs.now)) }
-    ensures dims { IfOk result (λ r. r.1 ≡ shape_of (term_of expr.now) inputs.now) }
-{
-    let mut room = KEPT;
-    let part = place(alloc, expr, inputs, &mut room)?;
-    Ok((part.placed, part.dims))
-}
-
 /// An expression placed, where so many places of operands may still be worked out.
-fn place<'a>(
+pub(crate) fn place<'a>(
     alloc: Global,
     expr: &Expr,
     inputs: &'a Inputs,
@@ -90,6 +64,11 @@ fn place<'a>(
             let left = place(alloc, left, inputs, room)?;
             let right = place(alloc, right, inputs, room)?;
             place_pairwise(alloc, operation, left, right)
+        }
+        Node::Binary(Binary::Contract(pairs), first, second) => {
+            let first = place(alloc, first, inputs, room)?;
+            let second = place(alloc, second, inputs, room)?;
+            place_contraction(alloc, pairs, first, second)
         }
         Node::Ternary(Ternary::Select, condition, yes, no) => {
             let condition = place(alloc, condition, inputs, room)?;
@@ -134,6 +113,7 @@ fn place_unary<'a>(
             })
         }
         Unary::Move(movement) => place_movement(alloc, movement, operand, room),
+        Unary::Reduce(reducer, axes) => place_reduction(alloc, reducer, axes, operand),
     }
 }
 

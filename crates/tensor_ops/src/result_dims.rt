@@ -7,11 +7,13 @@ ghost use Rattle.tensor_ops.specs.Shaped.{equal_dims};
 ghost use Rattle.tensor_ops.specs.Term.{has_inputs};
 ghost use Rattle.tensor_ops.specs.Tree.{term_of, unary_at, binary_at, ternary_at};
 
+use crate::contraction_dims::contracted_dims;
 use crate::expr::Expr;
 use crate::fault::ExprFault;
 use crate::inputs::Inputs;
 use crate::movement_dims::moved_dims;
 use crate::node::{Binary, Node, Ternary, Unary};
+use crate::reduction_dims::reduced_dims;
 use tensor_shape::Dims;
 
 impl Expr {
@@ -68,15 +70,17 @@ fn unary_dims(operation: Unary<'_>, operand: &Dims) -> Result<Dims, ExprFault>
     match operation {
         Unary::Each(_) | Unary::Constant(_) => Ok(operand.copied()),
         Unary::Move(movement) => moved_dims(movement, operand),
+        Unary::Reduce(_, axes) => reduced_dims(axes, operand),
     }
 }
 
 /// The dims of an operation on two tensors, or the first of its own faults.
-fn binary_dims(operation: Binary, first: &Dims, second: &Dims) -> Result<Dims, ExprFault>
-    ensures { result ≡ binary_dims (binary_at operation) first.now second.now }
+fn binary_dims(operation: Binary<'_>, first: &Dims, second: &Dims) -> Result<Dims, ExprFault>
+    ensures { result ≡ binary_dims (binary_at operation.entry) first.now second.now }
 {
     match operation {
         Binary::Pairwise(_) => equal_dims(first, second),
+        Binary::Contract(pairs) => contracted_dims(pairs, first, second),
     }
 }
 

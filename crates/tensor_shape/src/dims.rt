@@ -5,9 +5,6 @@ ghost use Rattle.std.specs.Prelude.{Ok, Err, IsTrue, OnOk, IfOk};
 ghost use Rattle.tensor_shape.specs.Index.{size_of, IsIndexOf, strides_from, place, index_of};
 ghost use Rattle.tensor_shape.specs.Legal.{highest_rank, most_elements, bulk_of, IsLegal};
 
-#[cfg(test)]
-mod tests;
-
 use crate::{MAX_ELEMENTS, MAX_RANK};
 use arrayvec::ArrayVec;
 use std::marker::Model;

@@ -3,7 +3,7 @@
 use crate::fixtures::{SCALAR, request};
 use expr_reader::read_request;
 use std::test::Fail;
-use tensor_ops::{Dims, Inputs, Tensor, eval_plain};
+use tensor_ops::eval_plain;
 use tensor_runner::eval;
 
 #[test]
@@ -27,16 +27,5 @@ fn sum_of_a_request(rt: HostRuntime) -> Result<(), Fail> {
     assert_eq!(rt; tensor.dims().as_slice(), [2].as_slice());
     let plain = eval_plain(rt.alloc(), &request.expr, &request.inputs)?;
     assert_eq!(rt; plain.values(), [32, 44].as_slice());
-    Ok(())
-}
-
-#[test]
-fn inputs_by_number(rt: HostRuntime) -> Result<(), Fail> {
-    let mut inputs = Inputs::new(Vec::new(rt.alloc()));
-    assert!(rt; inputs.is_empty());
-    let dims = Dims::new(&[2])?;
-    inputs.push(Tensor::new(dims, [7, 8].to_vec(rt.alloc())?))?;
-    assert_eq!(rt; inputs.len(), 1);
-    assert_eq!(rt; inputs.get(0).values(), [7, 8].as_slice());
     Ok(())
 }

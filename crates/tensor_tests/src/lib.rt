@@ -6,6 +6,8 @@ mod arguments;
 #[cfg(test)]
 mod check_order;
 #[cfg(test)]
+mod contractions;
+#[cfg(test)]
 mod each_fault;
 #[cfg(test)]
 mod evaluation;
@@ -22,11 +24,17 @@ mod nested;
 #[cfg(test)]
 mod pieces;
 #[cfg(test)]
+mod plans;
+#[cfg(test)]
 mod ranks;
 #[cfg(test)]
 mod readers;
 #[cfg(test)]
+mod reductions;
+#[cfg(test)]
 mod tensors;
+#[cfg(test)]
+mod tiles;
 #[cfg(test)]
 mod trees;
 #[cfg(test)]

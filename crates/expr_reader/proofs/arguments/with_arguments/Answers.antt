@@ -7,7 +7,7 @@ use Rattle.tensor_ops.specs.Term.{unary, constant}
 use Rattle.tensor_ops.specs.Tree.{term_of}
 use Rattle.expr_reader.specs.Arguments.{size, sizes, flags, value}
 use Rattle.expr_reader.specs.Version.{unary_of}
-use Rattle.expr_reader.specs.declared.operation.Unary.TheVariants.{Each, Constant, Broadcast, Slice, Shuffle, Reshape, Chip, Reverse}
+use Rattle.expr_reader.specs.declared.operation.Unary.TheVariants.{Each, Constant, Broadcast, Slice, Shuffle, Reshape, Chip, Reverse, Reduce}
 use Rattle.expr_reader.proofs.Forms.{none-made, one-made, one-unread, two-made, two-unread-first, two-unread-second}
 use Rattle.expr_reader.proofs.arguments.with_arguments.Goals as goal
 
@@ -139,3 +139,18 @@ returns-in_ok-axis-in-Chip c =
     rw c.in-Chip.is
     (two-made size c.index-arguments-0-in-Chip.result size c.index-arguments-1-in-Chip.result c.args.arguments.now long c.index-arguments-0-in-Chip.is c.index-arguments-1-in-Chip.is
     (λ a. unary (unary_of Chip a) (term_of c.args.operand.value)) _ _ c.in_ok-offset-in-Chip.ensures c.in_ok-axis-in-Chip.ensures)
+
+pub returns-in_err-axes-in-Reduce : goal.returns-in_err-axes-in-Reduce
+returns-in_err-axes-in-Reduce c =
+    let p = err_from_is_err_and c.from_residual-in_err-axes-in-Reduce.result c.from_residual-in_err-axes-in-Reduce.ensures.1 in
+    let long = rw c.in-Reduce.is at c.requires in
+    rw (c.in-Reduce.is, p.1, p.2)
+    (one-unread sizes c.index-arguments-0-in-Reduce.result c.args.arguments.now long c.index-arguments-0-in-Reduce.is (λ a. unary (unary_of (Reduce c.in-Reduce.reducer) a) (term_of c.args.operand.value))
+    _ c.in_err-axes-in-Reduce.ensures)
+
+pub returns-in_ok-axes-in-Reduce : goal.returns-in_ok-axes-in-Reduce
+returns-in_ok-axes-in-Reduce c =
+    let long = rw c.in-Reduce.is at c.requires in
+    rw (c.in-Reduce.is, c.reduction.ensures)
+    (one-made sizes c.index-arguments-0-in-Reduce.result c.args.arguments.now long c.index-arguments-0-in-Reduce.is (λ a. unary (unary_of (Reduce c.in-Reduce.reducer) a) (term_of c.args.operand.value))
+    _ c.in_ok-axes-in-Reduce.ensures)

@@ -3,6 +3,7 @@ use Rattle.std.proofs.lemmas.List.{take_all, length-drop}
 use Rattle.std.proofs.lemmas.Result.{err_from_is_err_and}
 use Rattle.tensor_ops.specs.Term as term
 use Rattle.expr_reader.specs.Version.{profile_under, operation_under, forms_of, unary_of}
+use Rattle.expr_reader.specs.Version.{forms_of_two, binary_of}
 use Rattle.expr_reader.proofs.Walk.{tree_at-arity, tree_at-first, tree_at-one, tree_at-two, tree_at-three, get_or-at}
 use Rattle.expr_reader.proofs.node.+read_node.Goals as goal
 
@@ -41,14 +42,14 @@ returns-in_err-second-in-Two t c = λ n named.
     let p = err_from_is_err_and c.from_residual-in_err-second-in-Two.result c.from_residual-in_err-second-in-Two.ensures.1 in
     let names = rw c.in-Two.is at c.in-Some.ensures in
     let arity = rw c.in-Two.is at c.arity.ensures in
-    let long : length c.in-Array.list.items ≡ 3 = omega (arith, c.in-Array.list.ok.0, arity, c.if-len-arity.false) in
+    let long : length c.in-Array.list.items ≡ 3 + length (forms_of_two c.in-Two.binary) = omega (arith, c.in-Array.list.ok.0, arity, c.if-len-arity.false) in
     let first = c.in_ok-first-in-Array.ensures n named in
     rw (p.1, p.2)
     (elim (c.in_err-second-in-Two.ensures n named) [
       | inl memory ↦ inl memory
       | inr found ↦ inr (rw (
         tree_at-two (profile_under c.args.version) n c.args.before c.if-before-ge-MAX_NODES.false c.args.value.now c.in-Array.list c.in-Array.is
-            (λ none. term.pairwise c.in-Two.scalar) c.index.result.now c.index-in-Two.result.now names long c.index.ensures c.index-in-Two.ensures,
+            (forms_of_two c.in-Two.binary) (binary_of c.in-Two.binary) c.index.result.now c.index-in-Two.result.now names long c.index.ensures c.index-in-Two.ensures,
         first.0,
         found,
       ) refl)
@@ -58,16 +59,16 @@ pub returns-in_ok-second-in-Two : goal.returns-in_ok-second-in-Two
 returns-in_ok-second-in-Two t c = λ n named.
     let names = rw c.in-Two.is at c.in-Some.ensures in
     let arity = rw c.in-Two.is at c.arity.ensures in
-    let long : length c.in-Array.list.items ≡ 3 = omega (arith, c.in-Array.list.ok.0, arity, c.if-len-arity.false) in
+    let long : length c.in-Array.list.items ≡ 3 + length (forms_of_two c.in-Two.binary) = omega (arith, c.in-Array.list.ok.0, arity, c.if-len-arity.false) in
     let first = c.in_ok-first-in-Array.ensures n named in
     let second = c.in_ok-second-in-Two.ensures n named in
     rw (
       tree_at-two (profile_under c.args.version) n c.args.before c.if-before-ge-MAX_NODES.false c.args.value.now c.in-Array.list c.in-Array.is
-          (λ none. term.pairwise c.in-Two.scalar) c.index.result.now c.index-in-Two.result.now names long c.index.ensures c.index-in-Two.ensures,
+          (forms_of_two c.in-Two.binary) (binary_of c.in-Two.binary) c.index.result.now c.index-in-Two.result.now names long c.index.ensures c.index-in-Two.ensures,
       first.0,
       second.0,
     )
-    (rw named.tensors at c.read_binary.ensures)
+    (rw (named.tensors, take_all (length c.deref-in-Two.result.now - 3) (drop 3 c.deref-in-Two.result.now) (omega (arith, length-drop 3 c.deref-in-Two.result.now)), c.deref-in-Two.ensures.value) at c.read_binary.ensures)
 
 pub returns-in_err-second-in-Select : goal.returns-in_err-second-in-Select
 returns-in_err-second-in-Select t c = λ n named.

@@ -1,9 +1,20 @@
+use Rattle.std.proofs.Common.{refl}
 use Rattle.serde_json.specs.View.{items_view}
 use Rattle.tensor_ops.specs.Term.{unary}
 use Rattle.tensor_ops.specs.Tree.{term_of}
+use Rattle.expr_reader.specs.Arguments.{arguments_in}
 use Rattle.expr_reader.specs.Version.{forms_of, unary_of}
-use Rattle.expr_reader.proofs.Walk.{made-found}
+use Rattle.expr_reader.proofs.Walk.{made-found, made-unary}
 use Rattle.expr_reader.proofs.node.read_unary.Goals as goal
+
+pub checked-requires-clause-operands : goal.checked-requires-clause-operands
+checked-requires-clause-operands c =
+    let read = rw c.in_ok-first.ensures at c.in_ok-expr.ensures in
+    rw (
+      made-unary (unary_of c.args.operation) (term_of c.args.operand.expr) (term_of c.in_ok-expr.expr)
+          (arguments_in (forms_of c.args.operation) (items_view c.args.arguments.now)) read c.args.inputs.now,
+      c.requires.operand.dims_known,
+    ) refl
 
 pub returns : goal.returns
 returns c =

@@ -4,7 +4,7 @@ use Rattle.std.specs.Prelude.{replicate}
 use Rattle.tensor_ops.specs.Loops.{either_way, selected}
 use Rattle.tensor_ops.specs.Meaning.{meaning, count_of, depth_of}
 use Rattle.tensor_ops.specs.Places.{places_of}
-use Rattle.tensor_ops.specs.Value.{applied}
+use Rattle.tensor_ops.specs.Scalars.{applied}
 use Rattle.tensor_ops.specs.Walk.{reached, walk_size}
 use Rattle.tensor_ops.proofs.Runs.{places-applied, places-combined, places-selected, places-moved, map-constant}
 use Rattle.tensor_ops.proofs.Soundness.{reached-within}

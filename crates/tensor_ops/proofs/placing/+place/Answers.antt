@@ -1,16 +1,23 @@
-use Rattle.std.proofs.Common.{ap, subst, ◌∙◌}
+use Rattle.std.proofs.Common.{◌≡◌, ap, subst, sym, ◌∙◌}
 use Rattle.tensor_ops.specs.Contents.{value_at}
 use Rattle.tensor_ops.specs.Placing.{Gives}
-use Rattle.tensor_ops.specs.Tree.{term_of, unary_at}
+use Rattle.tensor_ops.specs.Term.{binary, contract}
+use Rattle.tensor_ops.specs.Tree.{term_of, unary_at, binary_at}
 use Rattle.tensor_ops.specs.declared.placed.Placed.TheVariants.{Lent}
-use Rattle.tensor_ops.proofs.Placings.{gives-input, gives-unary, IfOk-both}
+use Rattle.tensor_ops.proofs.Placings.{gives-input, IfOk-both}
+use Rattle.tensor_ops.proofs.Worked.{gives-unary, gives-contraction}
 use Rattle.tensor_ops.proofs.placing.+place.Goals as goal
 
 pub returns-in-Input-clause-placed : goal.returns-in-Input-clause-placed
 returns-in-Input-clause-placed t c =
-    rw (← c.in-Input.ensures, c.copied.ensures ∙ c.dims.ensures ∙ ap (λ x. x.dims) c.get-input.ensures)
+    rw (
+      ← c.in-Input.ensures,
+      c.copied.ensures ∙ c.dims.ensures
+          ∙ ap (λ x. x.dims) c.get-input.ensures,
+    )
     (subst (λ x. Gives (Lent c.values.result) x.dims (value_at x)) c.get-input.ensures
-    (gives-input c.values.result c.get-input.result.now c.values.ensures.value c.values.ensures.full))
+    (gives-input c.values.result c.get-input.result.now c.values.ensures.value
+    c.values.ensures.full))
 
 pub returns-in_ok-operand-in-Unary-clause-placed : goal.returns-in_ok-operand-in-Unary-clause-placed
 returns-in_ok-operand-in-Unary-clause-placed t c =
@@ -18,6 +25,26 @@ returns-in_ok-operand-in-Unary-clause-placed t c =
     rw (← c.in-Unary.ensures)
     (IfOk-both c.place_unary.result _ _ _
     (λ r gives dims.
-    gives-unary c.args.inputs.now (term_of c.in-Unary.operand.now) (unary_at c.in-Unary.operation) operand.operand.placed r.placed
+    gives-unary c.args.inputs.now (term_of c.in-Unary.operand.now)
+    (unary_at c.in-Unary.operation) operand.operand.placed r.placed
     operand.operand.dims r.dims operand.ensures.placed operand.ensures.dims dims gives)
     c.place_unary.ensures.placed c.place_unary.ensures.dims)
+
+pub returns-in_ok-second-in-Binary-Contract-default-default-clause-placed :
+    goal.returns-in_ok-second-in-Binary-Contract-default-default-clause-placed
+returns-in_ok-second-in-Binary-Contract-default-default-clause-placed t c =
+    let arm = c.in-Binary-Contract-default-default in
+    let left = c.in_ok-first-in-Binary-Contract-default-default in
+    let right = c.in_ok-second-in-Binary-Contract-default-default in
+    let node : binary (contract arm.pairs.now) (term_of arm.first.now) (term_of arm.second.now)
+    ≡ term_of c.args.expr.now =
+    ap (λ o. binary (binary_at o) (term_of arm.first.now) (term_of arm.second.now))
+    (sym arm.field-0-is) ∙ arm.ensures in
+    rw (← node)
+    (IfOk-both c.place_contraction.result _ _ _
+    (λ r gives dims.
+    gives-contraction c.args.inputs.now (term_of arm.first.now)
+    (term_of arm.second.now) arm.pairs.now left.first.placed right.second.placed r.placed
+    left.first.dims right.second.dims r.dims left.ensures.placed right.ensures.placed
+    left.ensures.dims right.ensures.dims dims gives)
+    c.place_contraction.ensures.placed c.place_contraction.ensures.dims)

@@ -1,0 +1,15 @@
+//! Tests of an event count by its public calls.
+#![tactic(auto)]
+
+#[cfg(test)]
+mod made;
+#[cfg(test)]
+mod points;
+#[cfg(test)]
+mod seats;
+#[cfg(test)]
+mod sequences;
+#[cfg(test)]
+mod threads;
+#[cfg(test)]
+mod waits;

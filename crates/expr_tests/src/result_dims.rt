@@ -1,0 +1,68 @@
+//! Result dims, and the faults in their place.
+ghost use Rattle.std.specs.Prelude.{◌≡◌, IfOk, length};
+ghost use Rattle.tensor_ops.specs.Term.{input};
+ghost use Rattle.tensor_ops.specs.Tree.{term_of};
+
+use crate::fixtures::request;
+use expr_reader::read_request;
+use std::alloc::{AllocError, Global};
+use std::test::Fail;
+use tensor_ops::{Dims, Expr, ExprFault, Inputs, Tensor};
+
+// An input of 2 by 3.
+fn two_by_three(alloc: Global) -> Result<Inputs, Fail>
+    ensures { IfOk result (λ i. length i ≡ 1) }
+{
+    let tensor = Tensor::new(Dims::new(&[2, 3])?, vec![in alloc; 1, 2, 3, 4, 5, 6]?);
+    Ok(Inputs::new(vec![in alloc; tensor]?))
+}
+
+// The input.
+fn input(alloc: Global) -> Result<Box<Expr>, AllocError>
+    ensures { IfOk result (λ b. term_of b.value ≡ input 0) }
+{
+    Ok(Box::new(alloc, Expr::Input(0))?)
+}
+
+#[test]
+fn lengths_that_differ(rt: HostRuntime) -> Result<(), Fail> {
+    let inputs = two_by_three(rt.alloc())?;
+    let long = Expr::Shuffle(input(rt.alloc())?, vec![in rt.alloc(); 0, 1, 2]?);
+    assert_eq!(rt; long.dims(&inputs).err(), Some(ExprFault::ShapeMismatch));
+    assert_eq!(rt; ExprFault::ShapeMismatch as u8, 1);
+    Ok(())
+}
+
+#[test]
+fn an_offset_past_the_end(rt: HostRuntime) -> Result<(), Fail> {
+    let inputs = two_by_three(rt.alloc())?;
+    let past = Expr::Chip(input(rt.alloc())?, 2, 0);
+    assert_eq!(rt; past.dims(&inputs).err(), Some(ExprFault::OutOfRange));
+    assert_eq!(rt; ExprFault::OutOfRange as u8, 2);
+    Ok(())
+}
+
+#[test]
+fn too_many_elements(rt: HostRuntime) -> Result<(), Fail> {
+    let inputs = two_by_three(rt.alloc())?;
+    let large = Expr::Reshape(input(rt.alloc())?, vec![in rt.alloc(); 1048577]?);
+    assert_eq!(rt; large.dims(&inputs).err(), Some(ExprFault::TooLarge));
+    assert_eq!(rt; ExprFault::TooLarge as u8, 3);
+    Ok(())
+}
+
+#[test]
+fn dims_over_those_of_the_operands(rt: HostRuntime) -> Result<(), Fail> {
+    let inputs = r#"{"a":{"dims":[2,3],"data":[1,2,3,4,5,6]}}"#;
+    let text = request(rt.alloc(), inputs, r#"["chip",["add","a","a"],2,1]"#)?;
+    let request = read_request(rt.alloc(), text.as_bytes())?;
+    match &request.expr {
+        Expr::Chip(operand, _, _) => {
+            let known = [operand.dims(&request.inputs)?];
+            let dims = request.expr.dims_over(&request.inputs, &known)?;
+            assert_eq!(rt; dims.as_slice(), [2].as_slice());
+        }
+        _ => assert!(rt; false, "the expression is no chip"),
+    }
+    Ok(())
+}

@@ -1,0 +1,363 @@
+-- Each step keeps the account.
+use Rattle.std.proofs.Common.{◌≡◌, ◌≢◌, ℕ, eqb, ◌+◌, ◌-◌, ◌<◌, ◌≤◌, List, [], ◌∷◌, ◌++◌, Option}
+use Rattle.std.proofs.Common.{Some, None, ⊎_elim, length, get_or, set, sym, refl, ap, ◌∙◌, subst}
+use Rattle.std.proofs.Common.{arith, length-set, get_or-set_same, get_or-set_other}
+use mathlib.Core.Path.{Path}
+use mathlib.Core.Option.{some, none}
+use native.Mathlib.Decide.{ℕ_discrete}
+use prog.Atomic.{either}
+use lib.ListN.{get_elem?}
+use lib.Seq.{set-get_or}
+use Rattle.atomic_table.specs.Table.{State, Act, Valid, Allows, Splits, Joins, step, stepped}
+use Rattle.atomic_table.specs.Table.{keeps, takes, gives, carried_after}
+use Rattle.atomic_table.proofs.Lists.{at_set, at_snoc, set_here, set_else, exchanged}
+use Rattle.run_queue.specs.declared.slot_rows.view.View.{View}
+use Rattle.run_queue.specs.declared.slot_rows.view.Notes.{Notes}
+use Rattle.run_queue.specs.Bag.{total}
+use Rattle.run_queue.specs.Elements.{Phase, empty, busy, ready, word_of, home_of, namers_of}
+use Rattle.run_queue.specs.Elements.{weight_at_home}
+use Rattle.run_queue.specs.Views.{names, claimed, moved, view_of, noted, fresh, nothing}
+use Rattle.run_queue.specs.Views.{after_deal, together}
+use Rattle.run_queue.specs.RowTable.{Shows, KeepsAccount}
+use Rattle.run_queue.specs.Plays.{Sat, claims_in, makes_ready, claims_out, makes_empty}
+use Rattle.run_queue.proofs.Totals.{total_set, total_last, total_append, at_most_total}
+use Rattle.run_queue.proofs.Totals.{names_same, names_other}
+
+abbrev St : Type 0 → Type 0
+St J = State (Option J) (View J)
+
+module _ {J : Type 0} where
+  -- the step is taken, and the word i becomes n
+  abbrev Goes : ℕ → St J → ℕ → ℕ → Sat J → (Sat J → Type 0) → ℕ → Type 0
+  Goes c s i id me then n =
+      (w : View J) × (a : Act (Option J)) × Valid s.homes me.1 a
+      × KeepsAccount c (stepped s i n id me.1 w a) × then (w, carried_after me.1 a)
+
+  abbrev changed : St J → ℕ → ℕ → Phase J → View J → St J
+  changed s i id p w = record {
+    words = set s.words i (word_of p);
+    homes = set s.homes i (home_of p);
+    views = set s.views id w;
+  }
+
+  abbrev Spent : List (View J) → Type 0
+  Spent vs = (j : ℕ) (v : View J) → get_elem? vs j ≡ some v → v.parts ≡ 0 → v ≡ nothing
+
+  -- a view that has a part
+  spent_set : (vs : List (View J)) (id : ℕ) (w : View J) → 0 < w.parts → Spent vs
+      → Spent (set vs id w)
+  spent_set vs id w live spent j u at partless =
+      ⊎_elim
+      (λ t. let is : w.parts ≡ u.parts = ap (λ x. x.parts) t.1 in absurd (omega arith))
+      (λ t. spent j u t.1 partless) (at_set vs id j w u at)
+
+  -- one element and one view change
+  turns : {c : ℕ} (s : St J) → KeepsAccount c s → (i id : ℕ) (v w : View J) (p q : Phase J)
+      → i < length s.homes → get_elem? s.views id ≡ some v → w.parts ≡ v.parts → 0 < v.parts
+      → Shows s i p → names i w.busy + namers_of p ≡ names i v.busy + namers_of q
+      → ((j : ℕ) → j ≢ i → names j w.busy ≡ names j v.busy)
+      → ((h : J → ℕ) → total h w.puts + (total h v.takes + weight_at_home h (home_of p))
+      ≡ total h v.puts + (total h w.takes + weight_at_home h (home_of q)))
+      → KeepsAccount c (changed s i id q w)
+  turns {c} s a i id v w p q near at same_parts live shows here other weights = record {
+    long = subst (λ n. n < length s'.words) (sym same_homes)
+        (subst (λ n. length s.homes < n) (sym (length-set s.words i (word_of q))) a.long);
+    each = λ j h. pick j h (ℕ_discrete j i);
+    balance = balance;
+    whole =
+        (let t = total_set (λ u. u.parts) s.views id v w at in let n = a.whole in omega arith);
+    spent = spent_set s.views id w (omega arith) a.spent;
+  }
+    where
+      s' : St J
+      s' = changed s i id q w
+
+      same_homes : length s'.homes ≡ length s.homes
+      same_homes = length-set s.homes i (home_of q)
+
+      long : i < length s.words
+      long = let l = a.long in omega arith
+
+      own : Shows s' i q
+      own =
+          let t = total_set (λ u. names i u.busy) s.views id v w at in
+          let n = shows.2 in (
+            get_or-set_same s.words i (word_of q) 0 long,
+            set_here s.homes i (home_of q) near,
+            omega arith,
+          )
+
+      far : (j : ℕ) → j ≢ i → (o : Phase J) → Shows s j o → Shows s' j o
+      far j ne o sh =
+          let t = total_set (λ u. names j u.busy) s.views id v w at in
+          let n = sh.2 in
+          let same = other j ne in (
+            get_or-set_other s.words i j (word_of q) 0 ne ∙ sh.0,
+            set_else s.homes i j (home_of q) ne ∙ sh.1,
+            omega arith,
+          )
+
+      pick : (j : ℕ) → j < length s'.homes → Dec (j ≡ i) → (o : Phase J) × Shows s' j o
+      pick j h (yes e) = subst (λ k. (o : Phase J) × Shows s' k o) (sym e) (q, own)
+      pick j h (no ne) =
+          let old = a.each j (subst (λ n. j < n) same_homes h) in
+          (old.0, far j ne old.0 old.1)
+
+      balance : (h : J → ℕ) → total (λ u. total h u.puts) s'.views
+          ≡ total (λ u. total h u.takes) s'.views + total (weight_at_home h) s'.homes
+      balance h =
+          let x = total_set (λ u. total h u.puts) s.views id v w at in
+          let y = total_set (λ u. total h u.takes) s.views id v w at in
+          let z = total_set (weight_at_home h) s.homes i (home_of p) (home_of q) shows.1 in
+          let d = weights h in
+          let e = a.balance h in
+          omega arith
+
+  -- the views change, and what they name and add up to stays
+  reseated : {c : ℕ} (s : St J) → KeepsAccount c s → (vs : List (View J))
+      → total (λ u. u.parts) vs ≡ total (λ u. u.parts) s.views → Spent vs
+      → ((i : ℕ) → total (λ u. names i u.busy) vs ≡ total (λ u. names i u.busy) s.views)
+      → ((h : J → ℕ) → total (λ u. total h u.puts) vs ≡ total (λ u. total h u.puts) s.views)
+      → ((h : J → ℕ) → total (λ u. total h u.takes) vs ≡ total (λ u. total h u.takes) s.views)
+      → KeepsAccount c record { words = s.words; homes = s.homes; views = vs }
+  reseated {c} s r vs parts spent named put taken = record {
+    long = r.long;
+    each = λ i near. let el = r.each i near in (el.0, (el.1.0, el.1.1, named i ∙ el.1.2));
+    balance =
+        λ h. let a = put h in let b = taken h in let c = r.balance h in omega arith;
+    whole = parts ∙ r.whole;
+    spent = spent;
+  }
+
+  -- only the notes of one view change
+  stays : {c : ℕ} (s : St J) → KeepsAccount c s → (i id : ℕ) (v : View J) (t : Notes)
+      → 0 < v.parts → get_elem? s.views id ≡ some v
+      → KeepsAccount c record {
+        words = set s.words i (get_or s.words i 0);
+        homes = s.homes;
+        views = set s.views id (noted v t);
+      }
+  stays {c} s r i id v t live at =
+      let vs = set s.views id (noted v t) in
+      let same : (f : View J → ℕ) → f (noted v t) ≡ f v → total f vs ≡ total f s.views =
+      λ f e. let a = total_set f s.views id v (noted v t) at in omega arith in
+      subst (λ ws. KeepsAccount c record { words = ws; homes = s.homes; views = vs })
+      (sym (set-get_or s.words i 0))
+      (reseated s r vs (same (λ u. u.parts) refl) (spent_set s.views id (noted v t) live r.spent)
+      (λ i. same (λ u. names i u.busy) refl) (λ h. same (λ u. total h u.puts) refl)
+      (λ h. same (λ u. total h u.takes) refl))
+
+  is_empty : (p : Phase J) → word_of p ≡ 0 → Path (Phase J) p empty
+  is_empty empty e = refl
+  is_empty busy e = absurd (omega arith)
+  is_empty (ready x) e = absurd (omega arith)
+
+  is_busy : (p : Phase J) → 1 ≤ namers_of p → Path (Phase J) p busy
+  is_busy empty e = absurd (omega arith)
+  is_busy busy e = refl
+  is_busy (ready x) e = absurd (omega arith)
+
+  is_ready : (p : Phase J) → word_of p ≡ 2 → (x : J) × Path (Phase J) p (ready x)
+  is_ready empty e = absurd (omega arith)
+  is_ready busy e = absurd (omega arith)
+  is_ready (ready x) e = (x, refl)
+
+  -- a seat that works on nothing takes an element
+  taken : {c : ℕ} (s : St J) → KeepsAccount c s → (i id : ℕ) (v w : View J) (p : Phase J)
+      → i < length s.homes → get_elem? s.views id ≡ some v → w.parts ≡ v.parts → 0 < v.parts
+      → v.busy ≡ None → w.busy ≡ Some i → namers_of p ≡ 0 → Shows s i p
+      → ((h : J → ℕ) → total h w.puts + (total h v.takes + weight_at_home h (home_of p))
+      ≡ total h v.puts + total h w.takes)
+      → KeepsAccount c (changed s i id busy w)
+  taken {c} s r i id v w p near at same_parts live rests works none_names shows weights =
+      turns s r i id v w p busy near at same_parts live shows
+      (let a : names i w.busy ≡ 1 = ap (names i) works ∙ names_same i in
+      let b : names i v.busy ≡ 0 = ap (names i) rests in
+      omega arith)
+      (λ j ne. ap (names j) works ∙ names_other i j ne ∙ sym (ap (names j) rests))
+      (λ h. let a = weights h in omega arith)
+
+  -- the seat that works on an element gives it back
+  returned : {c : ℕ} (s : St J) → KeepsAccount c s → (i id : ℕ) (v w : View J) (q : Phase J)
+      → i < length s.homes → get_elem? s.views id ≡ some v → w.parts ≡ v.parts → 0 < v.parts
+      → v.busy ≡ Some i → w.busy ≡ None → namers_of q ≡ 0
+      → ((h : J → ℕ) → total h w.puts + total h v.takes
+      ≡ total h v.puts + (total h w.takes + weight_at_home h (home_of q)))
+      → KeepsAccount c (changed s i id q w)
+  returned {c} s r i id v w q near at same_parts live works rests none_names weights =
+      let el = r.each i near in
+      let one : names i v.busy ≡ 1 = ap (names i) works ∙ names_same i in
+      let few = at_most_total (λ u. names i u.busy) s.views id v at in
+      let named = el.1.2 in
+      let shows : Shows s i busy = subst (Shows s i) (is_busy el.0 (omega arith)) el.1 in
+      turns s r i id v w busy q near at same_parts live shows
+      (let b : names i w.busy ≡ 0 = ap (names i) rests in omega arith)
+      (λ j ne. ap (names j) rests ∙ sym (ap (names j) works ∙ names_other i j ne))
+      (λ h. let a = weights h in omega arith)
+
+  pub claim_in_keeps : {c : ℕ} (shift : ℕ → ℕ) (n id : ℕ) (me : Sat J) (i : ℕ) → i < n
+      → 0 < me.0.parts → me.0.busy ≡ None
+      → Allows (KeepsAccount c) n id me i (λ y. either (eqb y 0) 1 y)
+      (claims_in shift (step n i 0 1 none) me)
+  claim_in_keeps {c} shift n id me i near live idle s r wide at _ =
+      let y : ℕ = get_or s.words i 0 in
+      let told = claims_in shift (step n i 0 1 none) me y in
+      let near' : i < length s.homes = subst (λ m. i < m) (sym wide) near in
+      let el = r.each i near' in
+      exchanged y 0 1 (Goes c s i id me told)
+      (λ hit.
+      let is = is_empty el.0 (sym el.1.0 ∙ hit) in
+      let t : Notes = moved shift (claimed i 0 0 me.0.notes) in
+      let w : View J = view_of me.0.parts me.0.puts me.0.takes (Some i) t in
+      let sh : Shows s i empty = subst (Shows s i) is el.1 in (
+        w,
+        takes i None,
+        sh.1,
+        taken s r i id me.0 w empty near' at refl live idle refl refl sh (λ h. omega arith),
+        ((λ _. (refl, refl)), λ miss. absurd (miss hit)),
+      ))
+      (λ miss.
+      let t : Notes = claimed i 0 y me.0.notes in (
+        noted me.0 t,
+        keeps,
+        tt,
+        stays s r i id me.0 t live at,
+        ((λ hit. absurd (miss hit)), λ _. (refl, refl)),
+      ))
+
+  pub make_ready_keeps : {c : ℕ} (n id : ℕ) (me : Sat J) (i : ℕ) (x : J)
+      (more : List (ℕ × Option J)) → i < n → 0 < me.0.parts → me.0.busy ≡ Some i
+      → me.1 ≡ (i, Some x) ∷ more
+      → Allows (KeepsAccount c) n id me i (λ _. 2) (λ _. makes_ready (step n i 2 0 none) me 2)
+  make_ready_keeps {c} n id me i x more near live works has s r wide at _ =
+      let w : View J = view_of me.0.parts (me.0.puts ++ x ∷ []) me.0.takes None me.0.notes in
+      let near' : i < length s.homes = subst (λ m. i < m) (sym wide) near in
+      subst
+      (λ (out : List (ℕ × Option J)).
+      Goes c s i id (me.0, out) (makes_ready (step n i 2 0 none) (me.0, out) 2) 2) (sym has) (
+        w,
+        gives,
+        tt,
+        returned s r i id me.0 w (ready x) near' at refl live works refl refl
+            (λ h. let a = total_last h me.0.puts x in omega arith),
+        (x, refl, refl, refl),
+      )
+
+  pub claim_out_keeps : {c : ℕ} (shift : ℕ → ℕ) (n id : ℕ) (me : Sat J) (i : ℕ) → i < n
+      → 0 < me.0.parts → me.0.busy ≡ None
+      → Allows (KeepsAccount c) n id me i (λ y. either (eqb y 2) 1 y)
+      (claims_out shift (step n i 2 1 none) me)
+  claim_out_keeps {c} shift n id me i near live idle s r wide at _ =
+      let y : ℕ = get_or s.words i 0 in
+      let told = claims_out shift (step n i 2 1 none) me y in
+      let near' : i < length s.homes = subst (λ m. i < m) (sym wide) near in
+      let el = r.each i near' in
+      exchanged y 2 1 (Goes c s i id me told)
+      (λ hit.
+      let is = is_ready el.0 (sym el.1.0 ∙ hit) in
+      let x : J = is.0 in
+      let t : Notes = moved shift (claimed i 2 2 me.0.notes) in
+      let w : View J = view_of me.0.parts me.0.puts (me.0.takes ++ x ∷ []) (Some i) t in
+      let sh : Shows s i (ready x) = subst (Shows s i) is.1 el.1 in (
+        w,
+        takes i (Some x),
+        sh.1,
+        taken s r i id me.0 w (ready x) near' at refl live idle refl refl sh
+            (λ h. let a = total_last h me.0.takes x in omega arith),
+        ((λ _. (x, refl, refl)), λ miss. absurd (miss hit)),
+      ))
+      (λ miss.
+      let t : Notes = claimed i 2 y me.0.notes in (
+        noted me.0 t,
+        keeps,
+        tt,
+        stays s r i id me.0 t live at,
+        ((λ hit. absurd (miss hit)), λ _. (refl, refl)),
+      ))
+
+  pub make_empty_keeps : {c : ℕ} (n id : ℕ) (me : Sat J) (i : ℕ) (more : List (ℕ × Option J))
+      → i < n → 0 < me.0.parts → me.0.busy ≡ Some i → me.1 ≡ (i, None) ∷ more
+      → Allows (KeepsAccount c) n id me i (λ _. 0) (λ _. makes_empty (step n i 0 0 none) me 0)
+  make_empty_keeps {c} n id me i more near live works has s r wide at _ =
+      let w : View J = view_of me.0.parts me.0.puts me.0.takes None me.0.notes in
+      let near' : i < length s.homes = subst (λ m. i < m) (sym wide) near in
+      subst
+      (λ (out : List (ℕ × Option J)).
+      Goes c s i id (me.0, out) (makes_empty (step n i 0 0 none) (me.0, out) 0) 0) (sym has) (
+        w,
+        gives,
+        tt,
+        returned s r i id me.0 w empty near' at refl live works refl refl (λ h. omega arith),
+        (refl, refl, refl),
+      )
+
+  -- a fresh view gives one of its parts away
+  pub deal_keeps : {c : ℕ} (id : ℕ) (v : View J) → 0 < v.parts → v ≡ fresh v.parts
+      → Splits (KeepsAccount c) id v (after_deal v) (fresh 1)
+  deal_keeps {c} id v more new s r at =
+      let l = after_deal v in
+      let vs = set s.views id l in
+      let both : (f : View J → ℕ)
+      → total f (vs ++ fresh 1 ∷ []) + f v ≡ total f s.views + (f l + f (fresh 1)) =
+      λ f.
+      let a = total_set f s.views id v l at in
+      let b = total_last f vs (fresh 1) in
+      omega arith in
+      reseated s r (vs ++ fresh 1 ∷ [])
+      (let a = both (λ u. u.parts) in omega arith)
+      (λ j u e partless. ⊎_elim
+      (λ t. ⊎_elim
+      (λ x. sym x.1 ∙ dealt v new (ap (λ y. y.parts) x.1 ∙ partless))
+      (λ x. r.spent j u x.1 partless) (at_set s.views id j l u t))
+      (λ t. let is : 1 ≡ u.parts = ap (λ x. x.parts) t in absurd (omega arith))
+      (at_snoc vs (fresh 1) u j e))
+      (λ i. let a = both (λ u. names i u.busy) in omega arith)
+      (λ h. let a = both (λ u. total h u.puts) in omega arith)
+      (λ h. let a = both (λ u. total h u.takes) in omega arith)
+    where
+      dealt : (v : View J) → v ≡ fresh v.parts → v.parts - 1 ≡ 0 → after_deal v ≡ nothing
+      dealt v new e = ap after_deal new ∙ ap fresh e
+
+  -- a view takes in another's account
+  pub take_in_keeps : {c : ℕ} (id other : ℕ) (v w : View J) → 0 < w.parts → v.busy ≡ None
+      → w.busy ≡ None → Joins (KeepsAccount c) id v other w (together v w) nothing
+  take_in_keeps {c} id other v w live rests rests' s r at apart at' =
+      let b = together v w in
+      let vs = set s.views id b in
+      let both : (f : View J → ℕ)
+      → total f (set vs other nothing) + (f v + f w) ≡ total f s.views + (f b + f nothing) =
+      λ f.
+      let x = total_set f s.views id v b at in
+      let y = total_set f vs other w nothing at' in
+      omega arith in
+      reseated s r (set vs other nothing)
+      (let a = both (λ u. u.parts) in omega arith)
+      (λ j u e partless. ⊎_elim (λ t. sym t.1)
+      (λ t. spent_set s.views id b (omega arith) r.spent j u t.1 partless)
+      (at_set vs other j nothing u e))
+      (λ i.
+      let a = both (λ u. names i u.busy) in
+      let x : names i v.busy ≡ 0 = ap (names i) rests in
+      let y : names i w.busy ≡ 0 = ap (names i) rests' in
+      omega arith)
+      (λ h.
+      let a = both (λ u. total h u.puts) in
+      let x = total_append h v.puts w.puts in
+      omega arith)
+      (λ h.
+      let a = both (λ u. total h u.takes) in
+      let x = total_append h v.takes w.takes in
+      omega arith)
+
+  -- a seat comes that has no account
+  pub enter_keeps : {c : ℕ} (s : St J) → KeepsAccount c s
+      → KeepsAccount c record { words = s.words; homes = s.homes; views = s.views ++ nothing ∷ [] }
+  enter_keeps s r =
+      let vs = s.views ++ nothing ∷ [] in
+      let same : (f : View J → ℕ) → f nothing ≡ 0 → total f vs ≡ total f s.views =
+      λ f e. let a = total_last f s.views nothing in omega arith in
+      reseated s r vs (same (λ u. u.parts) refl)
+      (λ j u e partless. ⊎_elim (λ t. r.spent j u t partless) (λ t. sym t)
+      (at_snoc s.views nothing u j e))
+      (λ i. same (λ u. names i u.busy) refl) (λ h. same (λ u. total h u.puts) refl)
+      (λ h. same (λ u. total h u.takes) refl)

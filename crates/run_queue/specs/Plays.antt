@@ -1,0 +1,57 @@
+-- What each step tells the seat that makes it, and on which element it is.
+use Rattle.std.specs.Prelude.{◌≡◌, ◌≢◌, ℕ, [], ◌∷◌, ◌++◌, Option, Some, None}
+use Rattle.atomic_table.specs.Table.{Me, Step, rest}
+use Rattle.run_queue.specs.declared.slot_rows.view.View.{View}
+use Rattle.run_queue.specs.Views.{claimed, moved, view_of, noted, nothing}
+
+-- a seat's view, and the slots that it holds
+abbrev pub Sat : Type 0 → Type 0
+Sat J = Me (Option J) (View J)
+
+abbrev pub Told : Type 0 → Type 1
+Told J = Step (Option J) → Sat J → ℕ → Sat J → Type 0
+
+module _ {J : Type 0} where
+  -- a claim that found another word than it wanted is counted, and that is all
+  abbrev pub misses : Told J
+  misses step before found after =
+      (after.0 ≡ noted before.0 (claimed step.word step.first found before.0.notes))
+      × (after.1 ≡ before.1)
+
+  -- a claim that found the element empty has it, and its slot with no job
+  abbrev pub claims_in : (ℕ → ℕ) → Told J
+  claims_in shift step before found after =
+      (found ≡ step.first
+      → (after.0 ≡ view_of before.0.parts before.0.puts before.0.takes (Some step.word)
+      (moved shift (claimed step.word step.first step.first before.0.notes)))
+      × (after.1 ≡ (step.word, None) ∷ before.1))
+      × (found ≢ step.first → misses step before found after)
+
+  -- the element that the seat has is given back with a job, which is put
+  abbrev pub makes_ready : Told J
+  makes_ready step before found after =
+      (job : J) × (before.1 ≡ (step.word, Some job) ∷ rest before.1)
+      × (after.0
+      ≡ view_of before.0.parts (before.0.puts ++ job ∷ []) before.0.takes None before.0.notes)
+      × (after.1 ≡ rest before.1)
+
+  -- a claim that found the element ready has it, and its slot with the job, which is taken
+  abbrev pub claims_out : (ℕ → ℕ) → Told J
+  claims_out shift step before found after =
+      (found ≡ step.first
+      → (job : J) × (after.0
+      ≡ view_of before.0.parts before.0.puts (before.0.takes ++ job ∷ []) (Some step.word)
+      (moved shift (claimed step.word step.first step.first before.0.notes)))
+      × (after.1 ≡ (step.word, Some job) ∷ before.1))
+      × (found ≢ step.first → misses step before found after)
+
+  -- the element that the seat has is given back with no job
+  abbrev pub makes_empty : Told J
+  makes_empty step before found after =
+      (before.1 ≡ (step.word, None) ∷ rest before.1)
+      × (after.0 ≡ view_of before.0.parts before.0.puts before.0.takes None before.0.notes)
+      × (after.1 ≡ rest before.1)
+
+  -- the new seat has no account
+  abbrev pub enters : Told J
+  enters step before found after = after ≡ (nothing, [])

@@ -1,0 +1,19 @@
+-- Where the elements of rows lie.
+use Rattle.std.specs.Prelude.{ℕ, ◌+◌, ◌-◌, ◌*◌, ◌/◌, ◌%◌}
+use Rattle.run_queue.specs.Limits.{most_jobs}
+
+-- the position after one, in a row that goes round
+abbrev pub position_after : ℕ → ℕ
+position_after position = (position + 1) % most_jobs
+
+-- the position before one
+abbrev pub position_before : ℕ → ℕ
+position_before position = (position + (most_jobs - 1)) % most_jobs
+
+-- the element at a position of a row
+abbrev pub element_at : ℕ → ℕ → ℕ
+element_at row position = row * most_jobs + position
+
+-- the row that an element is of
+abbrev pub row_with : ℕ → ℕ
+row_with element = element / most_jobs

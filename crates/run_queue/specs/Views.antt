@@ -1,0 +1,71 @@
+-- What the seats at a table of rows know, and how that changes.
+use Rattle.std.specs.Prelude.{◌≡◌, ◌≢◌, ℕ, ◌+◌, ◌-◌, ◌==◌, if◌then◌else◌, List, [], ◌++◌}
+use Rattle.std.specs.Prelude.{Option, Some, None}
+use Rattle.run_queue.specs.declared.slot_rows.view.Notes.{Notes}
+use Rattle.run_queue.specs.declared.slot_rows.view.View.{View}
+
+-- 1 where the view works on the element, and else 0
+abbrev pub names : ℕ → Option ℕ → ℕ
+names element None = 0
+names element (Some other) = if other == element then 1 else 0
+
+-- no claim yet, and the front at the first position
+abbrev pub no_notes : Notes
+no_notes = record {
+  claims = 0;
+  claim = record { element = 0; wanted = 0; found = 0 };
+  front = 0;
+}
+
+-- one claim more, of an element where it wanted one word and found another
+abbrev pub claimed : ℕ → ℕ → ℕ → Notes → Notes
+claimed element wanted found notes = record {
+  claims = notes.claims + 1;
+  claim = record { element = element; wanted = wanted; found = found };
+  front = notes.front;
+}
+
+-- the front is moved
+abbrev pub moved : (ℕ → ℕ) → Notes → Notes
+moved shift notes = record {
+  claims = notes.claims;
+  claim = notes.claim;
+  front = shift notes.front;
+}
+
+-- a claim found what it wanted, and moved the front
+abbrev pub Hit : (ℕ → ℕ) → ℕ → ℕ → Notes → Notes → Type 0
+Hit shift element wanted old new = new ≡ moved shift (claimed element wanted wanted old)
+
+-- a claim found another word than it wanted, and is counted
+abbrev pub Missed : ℕ → ℕ → Notes → Notes → Type 0
+Missed element wanted old new =
+    (new ≡ claimed element wanted new.claim.found old) × (new.claim.found ≢ wanted)
+
+module _ {J : Type 0} where
+  -- a view by its parts
+  abbrev pub view_of : ℕ → List J → List J → Option ℕ → Notes → View J
+  view_of parts puts takes busy notes =
+      record { parts = parts; puts = puts; takes = takes; busy = busy; notes = notes }
+
+  -- the same view with other notes
+  abbrev pub noted : View J → Notes → View J
+  noted view notes = view_of view.parts view.puts view.takes view.busy notes
+
+  -- so many seats' accounts, with nothing in them
+  abbrev pub fresh : ℕ → View J
+  fresh parts = view_of parts [] [] None no_notes
+
+  -- no seat's account
+  abbrev pub nothing : View J
+  nothing = fresh 0
+
+  -- one account fewer
+  abbrev pub after_deal : View J → View J
+  after_deal view = view_of (view.parts - 1) view.puts view.takes view.busy view.notes
+
+  -- the accounts of two views in one
+  abbrev pub together : View J → View J → View J
+  together view other =
+      view_of (view.parts + other.parts) (view.puts ++ other.puts) (view.takes ++ other.takes)
+      None no_notes

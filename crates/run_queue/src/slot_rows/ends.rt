@@ -1,0 +1,121 @@
+//! The four ends of rows of slots. Each call makes one claim.
+ghost use Rattle.std.specs.Prelude.{◌≡◌, ◌≢◌, ◌↔◌, ◌<◌, ◌++◌, option_to_list};
+ghost use Rattle.std.specs.Prelude.{IfErr, IsErr, IsNone, OnOk, OnErr, OnSome, IfNone};
+ghost use Rattle.run_queue.specs.Account.{AddsIfOk};
+ghost use Rattle.run_queue.specs.Elements.{empty_word, ready_word};
+ghost use Rattle.run_queue.specs.Positions.{position_after, position_before, element_at};
+ghost use Rattle.run_queue.specs.Positions.{row_with};
+ghost use Rattle.run_queue.specs.SlotSeats.{rows_id, row_count_of, table_of, number_in, puts_of};
+ghost use Rattle.run_queue.specs.SlotSeats.{takes_of, front_of, claim_of, ClaimedOnce};
+
+use crate::deque::ROW_JOBS;
+use crate::slot_rows::SlotRows;
+use crate::slot_rows::plays::{MovesDown, MovesUp, Stays};
+use crate::slot_rows::seat::SlotSeat;
+use std::alloc::Allocator;
+use std::sync::Wait;
+
+impl<J, A: Allocator> SlotRows<J, A> {
+    /// Puts a job in at the front of the seat's own row, or gives it back where the element there
+    /// is not empty.
+    pub(crate) fn push_front(&self, seat: &mut SlotSeat<J>, job: J) -> Result<(), J>
+        requires ours { table_of seat.old ≡ rows_id self.now }
+        requires owner { number_in seat.old < row_count_of self.now }
+        ensures ours { table_of seat.new ≡ table_of seat.old }
+        ensures number { number_in seat.new ≡ number_in seat.old }
+        ensures returned { IfErr result (λ back. back ≡ job) }
+        ensures puts { AddsIfOk result job (puts_of seat.old) (puts_of seat.new) }
+        ensures takes { takes_of seat.new ≡ takes_of seat.old }
+        ensures claim { ClaimedOnce seat.old seat.new empty_word }
+        ensures at_front { (claim_of seat.new).element
+            ≡ element_at (number_in seat.old) (front_of seat.old) }
+        ensures full { IsErr result ↔ ((claim_of seat.new).found ≢ empty_word) }
+        ensures moves { OnOk result (front_of seat.new ≡ position_after (front_of seat.old)) }
+        ensures stays { OnErr result (front_of seat.new ≡ front_of seat.old) }
+    {
+        let element = seat.number as usize * ROW_JOBS + seat.front;
+        let pushed = self.push_at::<MovesUp>(&mut seat.held, element, job);
+        if pushed.is_ok() {
+            seat.front = (seat.front + 1) % ROW_JOBS;
+        }
+        pushed
+    }
+
+    /// Takes the job before the front of the seat's own row, where the element there is ready.
+    pub(crate) fn pop_front(&self, seat: &mut SlotSeat<J>) -> Option<J>
+        requires ours { table_of seat.old ≡ rows_id self.now }
+        requires owner { number_in seat.old < row_count_of self.now }
+        ensures ours { table_of seat.new ≡ table_of seat.old }
+        ensures number { number_in seat.new ≡ number_in seat.old }
+        ensures puts { puts_of seat.new ≡ puts_of seat.old }
+        ensures takes { takes_of seat.new ≡ takes_of seat.old ++ option_to_list result }
+        ensures claim { ClaimedOnce seat.old seat.new ready_word }
+        ensures before_front { (claim_of seat.new).element
+            ≡ element_at (number_in seat.old) (position_before (front_of seat.old)) }
+        ensures none { IsNone result ↔ ((claim_of seat.new).found ≢ ready_word) }
+        ensures moves { OnSome result (front_of seat.new ≡ position_before (front_of seat.old)) }
+        ensures stays { IfNone result (front_of seat.new ≡ front_of seat.old) }
+    {
+        let before = (seat.front + ROW_JOBS - 1) % ROW_JOBS;
+        let element = seat.number as usize * ROW_JOBS + before;
+        let popped = self.pop_at::<MovesDown>(&mut seat.held, element);
+        if popped.is_some() {
+            seat.front = before;
+        }
+        popped
+    }
+
+    /// Puts a job in before the back of a row, or gives it back where the element there is not
+    /// empty.
+    pub(crate) fn push_back<R: Wait>(
+        &self,
+        rt: &R,
+        seat: &mut SlotSeat<J>,
+        row: u16,
+        job: J,
+    ) -> Result<(), J>
+        requires ours { table_of seat.old ≡ rows_id self.now }
+        requires row { row < row_count_of self.now }
+        ensures ours { table_of seat.new ≡ table_of seat.old }
+        ensures number { number_in seat.new ≡ number_in seat.old }
+        ensures returned { IfErr result (λ back. back ≡ job) }
+        ensures puts { AddsIfOk result job (puts_of seat.old) (puts_of seat.new) }
+        ensures takes { takes_of seat.new ≡ takes_of seat.old }
+        ensures claim { ClaimedOnce seat.old seat.new empty_word }
+        ensures in_row { row_with (claim_of seat.new).element ≡ row }
+        ensures full { IsErr result ↔ ((claim_of seat.new).found ≢ empty_word) }
+        ensures front { front_of seat.new ≡ front_of seat.old }
+    {
+        let mut back = self.backs[usize::from(row)].lock(rt);
+        let before = (back.at + ROW_JOBS - 1) % ROW_JOBS;
+        let element = usize::from(row) * ROW_JOBS + before;
+        let pushed = self.push_at::<Stays>(&mut seat.held, element, job);
+        if pushed.is_ok() {
+            back.at = before;
+        }
+        pushed
+    }
+
+    /// Takes the job at the back of a row, where the element there is ready.
+    pub(crate) fn pop_back<R: Wait>(&self, rt: &R, seat: &mut SlotSeat<J>, row: u16) -> Option<J>
+        requires ours { table_of seat.old ≡ rows_id self.now }
+        requires row { row < row_count_of self.now }
+        ensures ours { table_of seat.new ≡ table_of seat.old }
+        ensures number { number_in seat.new ≡ number_in seat.old }
+        ensures puts { puts_of seat.new ≡ puts_of seat.old }
+        ensures takes { takes_of seat.new ≡ takes_of seat.old ++ option_to_list result }
+        ensures claim { ClaimedOnce seat.old seat.new ready_word }
+        ensures in_row { row_with (claim_of seat.new).element ≡ row }
+        ensures none { IsNone result ↔ ((claim_of seat.new).found ≢ ready_word) }
+        ensures front { front_of seat.new ≡ front_of seat.old }
+    {
+        let mut back = self.backs[usize::from(row)].lock(rt);
+        let at = back.at;
+        let element = usize::from(row) * ROW_JOBS + at;
+        let popped = self.pop_at::<Stays>(&mut seat.held, element);
+        if popped.is_some() {
+            back.at = (at + 1) % ROW_JOBS;
+        }
+        popped
+    }
+}

@@ -1,0 +1,108 @@
+//! What rows of slots begin with: nothing in them, and their seats.
+ghost use Rattle.std.specs.Prelude.{◌≡◌, ◌+◌, ◌<◌, ◌≤◌, ◌↔◌, [], map, All, IfOk, IsErrOf};
+ghost use Rattle.std.specs.Prelude.{◌*◌, replicate, vec_len, vec_capacity};
+ghost use Rattle.std.specs.List.{range_with_len};
+ghost use Rattle.run_queue.specs.Limits.{most_rows, most_jobs};
+ghost use Rattle.run_queue.specs.Elements.{empty_word};
+ghost use Rattle.run_queue.specs.Views.{fresh};
+ghost use Rattle.run_queue.specs.SlotSeats.{rows_id, row_count_of, seat_count_of, table_of};
+ghost use Rattle.run_queue.specs.SlotSeats.{number_in, puts_of, takes_of, front_of};
+
+use crate::deque::ROW_JOBS;
+use crate::rows::{MOST_ROWS, RowsFault};
+use crate::slot_rows::rule::{Deals, EMPTY, Law};
+use crate::slot_rows::seat::{Held, SlotSeat};
+use crate::slot_rows::view::View;
+use crate::slot_rows::{Back, SlotRows};
+use atomic_table::{Seat, Shared, Table};
+use std::alloc::{AllocError, Allocator};
+use std::sync::Mutex;
+
+impl<J: Drop, A: Allocator + Clone> SlotRows<J, A> {
+    /// Empty rows and their seats, by number. This takes the memory of `close` too.
+    pub(crate) fn open(
+        alloc: A,
+        rows: u16,
+        outsiders: u16,
+    ) -> Result<(Self, Vec<SlotSeat<J>, A>), RowsFault>
+        ensures too_many { IsErrOf result RowsFault.TooManyRows ↔ (most_rows < rows) }
+        ensures rows { IfOk result (λ r. row_count_of r.0 ≡ rows) }
+        ensures seats { IfOk result (λ r. seat_count_of r.0 ≡ rows + outsiders) }
+        ensures numbers { IfOk result (λ r.
+            map number_in r.1.items ≡ range_with_len 0 (rows + outsiders)) }
+        ensures ours { IfOk result (λ r. All (λ s. table_of s ≡ rows_id r.0) r.1.items) }
+        ensures accounts { IfOk result (λ r.
+            All (λ s. (puts_of s ≡ []) × (takes_of s ≡ [])) r.1.items) }
+        ensures fronts { IfOk result (λ r. All (λ s. front_of s ≡ 0) r.1.items) }
+    {
+        if rows > MOST_ROWS {
+            return Err(RowsFault::TooManyRows);
+        }
+        let count = usize::from(rows) * ROW_JOBS;
+        let seats = u32::from(rows) + u32::from(outsiders);
+        let backs = backs(alloc.clone()?, rows)?;
+        let left = Vec::with_capacity(alloc.clone()?, count)?;
+        let words = empty_words(alloc.clone()?, count)?;
+        let list = Vec::with_capacity(alloc.clone()?, seats as usize)?;
+        let (table, keeper) = Table::vacant(alloc, words.as_slice(), count, &seats)?;
+        let list = deal(&table.shared, keeper, seats, list);
+        Ok((
+            SlotRows {
+                rows,
+                table,
+                backs,
+                left,
+            },
+            list,
+        ))
+    }
+}
+
+// The words of so many empty elements, and one more, so that a table of no rows has a word too.
+fn empty_words<A: Allocator>(alloc: A, count: usize) -> Result<Vec<u64, A>, AllocError>
+    requires { count ≤ most_rows * most_jobs }
+    ensures { IfOk result (λ words. words.items ≡ replicate (count + 1) empty_word) }
+{
+    let mut words = Vec::with_capacity(alloc, count + 1)?;
+    words.resize(count + 1, EMPTY)?;
+    Ok(words)
+}
+
+// The backs of so many rows, each at its first position.
+fn backs<A: Allocator>(alloc: A, count: u16) -> Result<Vec<Mutex<Back>, A>, AllocError>
+    ensures { IfOk result (λ backs. vec_len backs ≡ count) }
+{
+    let mut backs = Vec::with_capacity(alloc, usize::from(count))?;
+    for _ in 0..count {
+        backs.push_reserved(Mutex::new(Back { at: 0 }));
+    }
+    Ok(backs)
+}
+
+// One seat after another, by number.
+fn deal<J, A: Allocator>(
+    shared: &Shared<Option<J>, View<J>, u32, Law<J>>,
+    mut keeper: Seat<Option<J>, View<J>>,
+    count: u32,
+    mut seats: Vec<SlotSeat<J>, A>,
+) -> Vec<SlotSeat<J>, A>
+    requires of { keeper.table_id ≡ shared.now.table_id }
+    requires words { 0 < shared.now.table_id.words }
+    requires every_part { keeper.me ≡ (fresh count, []) }
+    requires none_yet { seats.items ≡ [] }
+    requires room { count ≤ vec_capacity seats }
+    ensures numbers { map number_in result.items ≡ range_with_len 0 count }
+    ensures ours { All (λ s. table_of s ≡ shared.now.table_id) result.items }
+    ensures accounts { All (λ s. (puts_of s ≡ []) × (takes_of s ≡ [])) result.items }
+    ensures fronts { All (λ s. front_of s ≡ 0) result.items }
+{
+    for number in 0..count {
+        let seat = shared.split_seat::<Deals<J>>(&mut keeper);
+        seats.push_reserved(SlotSeat {
+            held: Held { seat },
+            number,
+            front: 0,
+        });
+    }
+    seats
+}

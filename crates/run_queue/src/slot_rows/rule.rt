@@ -1,0 +1,55 @@
+//! The rule of a table of rows, and how its views are cut and put together.
+ghost use Rattle.std.specs.Prelude.{Option};
+
+use crate::slot_rows::view::View;
+use atomic_table::{Join, Split, TableRule};
+use std::marker::PhantomData;
+
+/// No job is here.
+pub const EMPTY: u64 = 0;
+
+/// One seat works here, and has the slot.
+pub const BUSY: u64 = 1;
+
+/// A job is here.
+pub const READY: u64 = 2;
+
+/// In every state the table keeps the account of its rows.
+pub struct Law<J> {
+    of: PhantomData<J>,
+}
+
+impl<J> TableRule<Option<J>, View<J>, u32> for Law<J> {
+    ghost use Rattle.run_queue.specs.RowTable.{KeepsAccount};
+    ghost use Rattle.run_queue.specs.Views.{fresh};
+
+    ghost holds = { λ seats s. KeepsAccount seats s };
+
+    ghost first = { λ seats. fresh seats };
+}
+
+/// One seat's account is cut off.
+pub struct Deals<J> {
+    of: PhantomData<J>,
+}
+
+impl<J> Split<View<J>> for Deals<J> {
+    ghost use Rattle.run_queue.specs.Views.{after_deal, fresh};
+
+    ghost left = { after_deal };
+
+    ghost right = { λ _. fresh 1 };
+}
+
+/// The accounts of both.
+pub struct TakesIn<J> {
+    of: PhantomData<J>,
+}
+
+impl<J> Join<View<J>> for TakesIn<J> {
+    ghost use Rattle.run_queue.specs.Views.{together, nothing};
+
+    ghost both = { together };
+
+    ghost spent = { nothing };
+}

@@ -1,0 +1,28 @@
+//! The right to use rows of slots.
+ghost use Rattle.std.specs.Prelude.{None, ◌≡◌, ◌<◌, []};
+ghost use Rattle.run_queue.specs.Limits.{most_jobs};
+
+use crate::slot_rows::view::View;
+use atomic_table::Seat;
+
+/// A seat at the table, which works on no element.
+#[derive(Drop)]
+pub struct Held<J> {
+    pub(crate) seat: Seat<Option<J>, View<J>>,
+    ghost none_held: { seat.me.1 ≡ [] },
+    ghost none_busy: { seat.me.0.busy ≡ None },
+    ghost one_part: { seat.me.0.parts ≡ 1 },
+}
+
+/// A seat at `SlotRows`, for one thread at a time. It may cross threads.
+///
+/// Once a seat was dropped its rows can't be closed any more.
+#[derive(Drop)]
+pub struct SlotSeat<J> {
+    pub(crate) held: Held<J>,
+    pub(crate) number: u32,
+    // The position of the next push at the front.
+    pub(crate) front: usize,
+    ghost same_front: { front ≡ held.seat.me.0.notes.front },
+    ghost within: { front < most_jobs },
+}

@@ -1,0 +1,56 @@
+-- Values of a list of which a part was written.
+use Rattle.std.proofs.Common.{◌≡◌, ℕ, ℤ, pos, ◌+◌, ◌-◌, ◌<◌, ◌≤◌, List, ◌++◌, length, take, drop}
+use Rattle.std.proofs.Common.{get_or, ap, ◌∙◌, arith}
+use Rattle.std.proofs.lemmas.List.{get_or-drop, get_or_append_left, get_or-append_right}
+use Rattle.std.proofs.lemmas.List.{get_or-take, length-take-le, length-append}
+use Rattle.std.proofs.Common.{length-drop}
+use borrow.Rule.Slice.PartMut.{put_mid, post_of}
+
+-- how long a part is
+pub length-part : (a n : ℕ) (xs : List ℤ) → a + n ≤ length xs
+    → length (take (a + n - a) (drop a xs)) ≡ n
+length-part a n xs within =
+    let same : a + n - a ≡ n = omega arith in
+    rw same (length-take-le n (drop a xs) (omega (arith, length-drop a xs)))
+
+module _ (a n : ℕ) (xs ys : List ℤ) (room : a ≤ length xs) where
+  long : length (take a xs) ≡ a
+  long = length-take-le a xs room
+
+  -- before the part
+  pub get_or-before : (k : ℕ) → k < a → get_or (put_mid a n xs ys) k (pos 0) ≡ get_or xs k (pos 0)
+  get_or-before k before =
+      get_or_append_left (take a xs) (ys ++ post_of a n xs) (pos 0) k (omega (arith, long))
+      ∙ get_or-take a xs k (pos 0) before
+
+  -- in the part
+  pub get_or-within : (k : ℕ) → k < length ys
+      → get_or (put_mid a n xs ys) (a + k) (pos 0) ≡ get_or ys k (pos 0)
+  get_or-within k within =
+      let back : a + k - a ≡ k = omega arith in
+      get_or-append_right (take a xs) (ys ++ post_of a n xs) a (a + k) (pos 0) long (omega arith)
+      ∙ ap (λ i. get_or (ys ++ post_of a n xs) i (pos 0)) back
+      ∙ get_or_append_left ys (post_of a n xs) (pos 0) k within
+
+  -- after it
+  pub get_or-after : (k : ℕ) → length ys ≡ n → a + n ≤ k
+      → get_or (put_mid a n xs ys) k (pos 0) ≡ get_or xs k (pos 0)
+  get_or-after k same after =
+      get_or-append_right (take a xs) (ys ++ post_of a n xs) a k (pos 0) long (omega arith)
+      ∙ get_or-append_right ys (post_of a n xs) n (k - a) (pos 0) same (omega arith)
+      ∙ get_or-drop n (drop a xs) (k - a - n) (pos 0)
+      ∙ get_or-drop a xs (n + (k - a - n)) (pos 0)
+      ∙ ap (λ i. get_or xs i (pos 0)) (omega arith)
+
+  -- and the list keeps its length
+  pub length-put_mid : length ys ≡ n → a + n ≤ length xs → length (put_mid a n xs ys) ≡ length xs
+  length-put_mid same within =
+      length-append (take a xs) (ys ++ post_of a n xs)
+      ∙ (omega (
+        arith,
+        long,
+        length-append ys (post_of a n xs),
+        length-drop n
+            (drop a xs),
+        length-drop a xs,
+      ))

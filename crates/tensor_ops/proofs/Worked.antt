@@ -1,0 +1,162 @@
+-- Operations on operands that were placed, and values that were worked out.
+use Rattle.std.proofs.Common.{◌≡◌, ℕ, ℤ, pos, ◌<◌, List, length, map, [], Ok, refl, ap, sym, ◌∙◌}
+use Rattle.std.proofs.Common.{subst, arith}
+use Rattle.std.specs.List.{range_with_len}
+use Rattle.std.specs.Result.{result_unwrap_or}
+use Rattle.std.proofs.lemmas.List.FromFn.{length-map-range_with_len, get_or-map-range_with_len}
+use Rattle.tensor_shape.specs.Index.{size_of, IsIndexOf, place, index_of}
+use Rattle.tensor_shape.proofs.Places.{place-below-size_of, index_of-place, place-index_of}
+use Rattle.tensor_shape.proofs.Places.{IsIndexOf-index_of}
+use Rattle.tensor_ops.specs.Contents.{Contents}
+use Rattle.tensor_ops.specs.Contraction.{outer_dims, contracted, contracted_dims}
+use Rattle.tensor_ops.specs.Meaning.{meaning, count_of, IsSound, IsListOf}
+use Rattle.tensor_ops.specs.Places.{value_in}
+use Rattle.tensor_ops.specs.Placing.{Gives, HasValues, meaning_at}
+use Rattle.tensor_ops.specs.Reduction.{reduced, reduced_dims}
+use Rattle.tensor_ops.specs.Result.{shape_of, unary_dims}
+use Rattle.tensor_ops.specs.Term.{Term, unary, binary, Unary}
+use Rattle.tensor_ops.specs.Term.{contract}
+use Rattle.tensor_ops.specs.Value.{value, unary_value}
+use Rattle.tensor_ops.specs.Woven.{other_dims}
+use Rattle.tensor_ops.specs.declared.placed.Placed.{Placed}
+use Rattle.tensor_ops.specs.declared.reducer.Reducer.{Reducer}
+use Rattle.tensor_ops.proofs.Known.{reduction-known, contraction-known}
+use Rattle.tensor_ops.proofs.Placings.{gives-index, gives-other}
+use Rattle.tensor_ops.proofs.SameTensors.{agree-unary}
+use Rattle.tensor_ops.proofs.SameValues.{Agree, reduced-other, contracted-other}
+
+-- the result dims of a reduction, and of a contraction
+reduced-shape : (axes ds rs : List ℕ) → reduced_dims axes ds ≡ Ok rs → other_dims axes ds ≡ rs
+reduced-shape axes ds rs dims =
+    ap (λ r. result_unwrap_or r []) (sym (reduction-known axes ds (rw dims refl)).dims ∙ dims)
+
+contracted-shape : (pairs : List (ℕ × ℕ)) (ds es rs : List ℕ)
+    → contracted_dims pairs ds es ≡ Ok rs → outer_dims pairs ds es ≡ rs
+contracted-shape pairs ds es rs dims =
+    ap (λ r. result_unwrap_or r []) (sym (contraction-known pairs ds es (rw dims refl)).dims ∙ dims)
+
+module _ (inputs : List Contents) where
+  -- an operation on one tensor, of an operand that was placed
+  pub agree-term : (t : Term) (o : Unary) (a : Placed) (ds rs : List ℕ)
+      → Gives a ds (value t inputs)
+      → ds ≡ shape_of t inputs → unary_dims o ds ≡ Ok rs
+      → Agree rs (unary_value o ds (meaning_at a ds)) (value (unary o t) inputs)
+  agree-term t o a ds rs operand shape dims index is_index =
+      agree-unary o ds rs (meaning_at a ds) (value t inputs) dims
+      (λ js. gives-index a ds (value t inputs) js operand) index is_index
+      ∙ ap (λ d. unary_value o d (value t inputs) index) shape
+
+  pub gives-unary : (t : Term) (o : Unary) (a whole : Placed) (ds rs : List ℕ)
+      → Gives a ds (value t inputs)
+      → ds ≡ shape_of t inputs → unary_dims o ds ≡ Ok rs
+      → Gives whole rs (unary_value o ds (meaning_at a ds))
+      → Gives whole rs (value (unary o t) inputs)
+  gives-unary t o a whole ds rs operand shape dims gives =
+      gives-other whole rs (unary_value o ds (meaning_at a ds)) (value (unary o t) inputs) gives
+      (agree-term t o a ds rs operand shape dims)
+
+  -- a contraction of two of them
+  pub agree-contraction : (t u : Term) (pairs : List (ℕ × ℕ)) (a b : Placed) (ds es rs : List ℕ)
+      → Gives a ds (value t inputs) → Gives b es (value u inputs)
+      → ds ≡ shape_of t inputs → es ≡ shape_of u inputs → contracted_dims pairs ds es ≡ Ok rs
+      → Agree rs (contracted pairs ds es (meaning_at a ds) (meaning_at b es)) (value (binary
+      (contract pairs) t u) inputs)
+  agree-contraction t u pairs a b ds es rs first second shape_first shape_second dims index
+      is_index =
+      contracted-other pairs ds es (meaning_at a ds) (value t inputs) (meaning_at b es)
+      (value u inputs) (contraction-known pairs ds es (rw dims refl))
+      (λ js. gives-index a ds (value t inputs) js first)
+      (λ js. gives-index b es (value u inputs) js second) index
+      (subst (λ cs. IsIndexOf cs index) (sym (contracted-shape pairs ds es rs dims)) is_index)
+      ∙ ap (λ d. contracted pairs d es (value t inputs) (value u inputs) index) shape_first
+      ∙ ap (λ e. contracted pairs (shape_of t inputs) e (value t inputs)
+      (value u inputs) index) shape_second
+
+  pub gives-contraction : (t u : Term) (pairs : List (ℕ × ℕ)) (a b whole : Placed)
+      (ds es rs : List ℕ) → Gives a ds (value t inputs)
+      → Gives b es (value u inputs) → ds ≡ shape_of t inputs → es ≡ shape_of u inputs
+      → contracted_dims pairs ds es ≡ Ok rs
+      → Gives whole rs (contracted pairs ds es (meaning_at a ds) (meaning_at b es))
+      → Gives whole rs (value (binary (contract pairs) t u) inputs)
+  gives-contraction t u pairs a b whole ds es rs first second shape_first shape_second dims gives =
+      gives-other whole rs (contracted pairs ds es (meaning_at a ds) (meaning_at b es)) (value
+      (binary (contract pairs) t u) inputs) gives
+      (agree-contraction t u pairs a b ds es rs first second shape_first shape_second dims)
+
+-- values of the same function
+pub values-other : (count : ℕ) (at : ℕ → ℤ) (ds : List ℕ) (f g : List ℕ → ℤ)
+    → HasValues count at ds f → Agree ds f g → HasValues count at ds g
+values-other count at ds f g values same = record {
+  whole = values.whole;
+  each = λ p below. values.each p below ∙ same (index_of ds p) (IsIndexOf-index_of ds p below);
+}
+
+-- the value at an index list
+pub values-agree : (count : ℕ) (at : ℕ → ℤ) (ds : List ℕ) (f : List ℕ → ℤ)
+    → HasValues count at ds f → Agree ds (λ js. at (place ds js)) f
+values-agree count at ds f values js is_index =
+    values.each (place ds js) (place-below-size_of ds js is_index)
+    ∙ ap f (index_of-place ds js is_index)
+
+-- what is placed has its own values, and those that are worked out
+pub values-placed : (placed : Placed) (ds : List ℕ) (f : List ℕ → ℤ) → Gives placed ds f
+    → HasValues (count_of placed) (meaning placed) ds f
+values-placed placed ds f gives = record { whole = gives.count; each = gives.means }
+
+pub values-list : (placed : Placed) (items : List ℤ) (ds : List ℕ) → IsListOf placed items
+    → count_of placed ≡ size_of ds
+    → HasValues (length items) (value_in items) ds (meaning_at placed ds)
+values-list placed items ds is count = record {
+  whole = sym is.count ∙ count;
+  each = λ p below. sym (is.each p) ∙ ap (meaning placed) (sym (place-index_of ds p below));
+}
+
+pub values-worked : (at : ℕ → ℤ) (items : List ℤ) (count n : ℕ) (ds : List ℕ) (f : List ℕ → ℤ)
+    → HasValues count at ds f
+    → items ≡ map at (range_with_len 0 n) → n ≡ size_of ds
+    → HasValues (length items) (value_in items) ds f
+values-worked at items count n ds f values same full = record {
+  whole = ap length same ∙ length-map-range_with_len at 0 n ∙ full;
+  each = λ p below. ap (λ l. value_in l p) same
+      ∙ get_or-map-range_with_len at 0 n p p (pos 0) (omega arith) (omega arith) ∙ values.each p below;
+}
+
+-- worked out values, placed
+pub gives-worked : (whole : Placed) (items : List ℤ) (ds : List ℕ) (f : List ℕ → ℤ)
+    → IsListOf whole items → IsSound whole
+    → HasValues (length items) (value_in items) ds f → Gives whole ds f
+gives-worked whole items ds f is sound values = record {
+  sound = sound;
+  count = is.count ∙ values.whole;
+  means = λ p below. is.each p ∙ values.each p below;
+}
+
+-- a reduction of them, and a contraction
+pub values-reduced : (r : Reducer) (axes ds rs : List ℕ) (n count : ℕ) (of at : ℕ
+    → ℤ) (f : List ℕ → ℤ) → reduced_dims axes ds ≡ Ok rs
+    → HasValues n of ds f → count ≡ size_of (other_dims axes ds)
+    → ((p : ℕ) → p < size_of (other_dims axes ds)
+    → at p ≡ reduced r axes ds (λ js. of (place ds js)) (index_of (other_dims axes ds) p))
+    → HasValues count at rs (reduced r axes ds f)
+values-reduced r axes ds rs n count of at f dims values whole at_each =
+    subst (λ cs. HasValues count at cs (reduced r axes ds f)) (reduced-shape axes ds rs dims)
+    (values-other count at (other_dims axes ds) (reduced r axes ds
+    (λ js. of (place ds js))) (reduced r axes ds f)
+    (record { whole = whole; each = at_each })
+    (reduced-other r axes ds (λ js. of (place ds js)) f (values-agree n of ds f values)))
+
+pub values-contracted : (pairs : List (ℕ × ℕ)) (ds es rs : List ℕ) (n m count : ℕ) (of on at : ℕ
+    → ℤ) (f g : List ℕ → ℤ) → contracted_dims pairs ds es ≡ Ok rs
+    → HasValues n of ds f → HasValues m on es g → count ≡ size_of (outer_dims pairs ds es)
+    → ((p : ℕ) → p < count → at p ≡ contracted pairs ds es (λ js. of (place ds js))
+    (λ js. on (place es js)) (index_of (outer_dims pairs ds es) p))
+    → HasValues count at rs (contracted pairs ds es f g)
+values-contracted pairs ds es rs n m count of on at f g dims first second whole at_each =
+    subst (λ cs. HasValues count at cs (contracted pairs ds es f g))
+    (contracted-shape pairs ds es rs dims)
+    (values-other count at (outer_dims pairs ds es) (contracted pairs ds es
+    (λ js. of (place ds js)) (λ js. on (place es js))) (contracted pairs ds es f g)
+    (record { whole = whole; each = λ p below. at_each p (omega arith) })
+    (contracted-other pairs ds es (λ js. of (place ds js)) f
+    (λ js. on (place es js)) g (contraction-known pairs ds es (rw dims refl))
+    (values-agree n of ds f first) (values-agree m on es g second)))

@@ -1,0 +1,20 @@
+use Rattle.std.proofs.Common.{length, sym}
+use Rattle.std.specs.Cow.{cow_slice_items}
+use Rattle.tensor_ops.specs.Places.{value_in}
+use Rattle.tensor_ops.specs.Placing.{meaning_at}
+use Rattle.tensor_ops.specs.Reduced.{places_of_result, reduction_at}
+use Rattle.tensor_ops.proofs.Worked.{values-reduced}
+use Rattle.tensor_ops.proofs.kernels.reduction_of.Goals as goal
+
+pub returns : goal.returns
+returns c =
+    let made = c.in_ok-reduction.reduction in
+    let items = cow_slice_items c.in_ok-values.values in
+    record {
+      dims = sym c.in-Ok.ensures;
+      values = values-reduced c.args.reducer c.args.axes.now c.args.operand.dims c.in-Ok.dims
+          (length items) (places_of_result made)
+          (value_in items) (reduction_at made)
+          (meaning_at c.args.operand.placed c.args.operand.dims) (sym c.in-Ok.ensures)
+          c.in_ok-values.ensures c.in_ok-reduction.ensures.size c.in_ok-reduction.ensures.each;
+    }

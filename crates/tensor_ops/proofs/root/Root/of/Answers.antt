@@ -1,0 +1,54 @@
+use Rattle.std.proofs.Common.{◌≡◌, ap, sym, ◌∙◌}
+use Rattle.tensor_ops.specs.Contracting.{contraction_count, contraction_value}
+use Rattle.tensor_ops.specs.Contraction.{contracted}
+use Rattle.tensor_ops.specs.Placing.{meaning_at}
+use Rattle.tensor_ops.specs.Reduced.{places_of_result, reduction_at}
+use Rattle.tensor_ops.specs.Reduction.{reduced}
+use Rattle.tensor_ops.specs.Term.{unary, reduce, binary, contract}
+use Rattle.tensor_ops.specs.Tree.{term_of, unary_at, binary_at}
+use Rattle.tensor_ops.specs.Value.{value}
+use Rattle.tensor_ops.proofs.Worked.{values-other, agree-term, agree-contraction}
+use Rattle.tensor_ops.proofs.root.Root.of.Goals as goal
+
+pub returns-in_ok-reduction-in-Unary-Reduce-default-clause-values :
+    goal.returns-in_ok-reduction-in-Unary-Reduce-default-clause-values
+returns-in_ok-reduction-in-Unary-Reduce-default-clause-values c =
+    let arm = c.in-Unary-Reduce-default in
+    let inner = c.in_ok-operand-in-Unary-Reduce-default in
+    let made = c.in_ok-reduction-in-Unary-Reduce-default in
+    let node : unary (reduce arm.reducer arm.axes.now) (term_of arm.operand.now)
+    ≡ term_of c.args.expr.now =
+    ap (λ o. unary (unary_at o) (term_of arm.operand.now)) (sym arm.field-0-is) ∙ arm.ensures in
+    rw (← node)
+    (values-other (places_of_result made.reduction) (reduction_at made.reduction) made.dims
+    (reduced arm.reducer arm.axes.now inner.operand.dims
+    (meaning_at inner.operand.placed inner.operand.dims))
+    (value (unary (reduce arm.reducer arm.axes.now)
+    (term_of arm.operand.now)) c.args.inputs.now) made.ensures.values
+    (agree-term c.args.inputs.now (term_of arm.operand.now)
+    (reduce arm.reducer arm.axes.now) inner.operand.placed inner.operand.dims made.dims
+    inner.ensures.placed inner.ensures.dims made.ensures.dims))
+
+pub returns-in_ok-contraction-in-Binary-Contract-default-default-clause-values :
+    goal.returns-in_ok-contraction-in-Binary-Contract-default-default-clause-values
+returns-in_ok-contraction-in-Binary-Contract-default-default-clause-values c =
+    let arm = c.in-Binary-Contract-default-default in
+    let left = c.in_ok-first-in-Binary-Contract-default-default in
+    let right = c.in_ok-second-in-Binary-Contract-default-default in
+    let made = c.in_ok-contraction-in-Binary-Contract-default-default in
+    let node : binary (contract arm.pairs.now) (term_of arm.first.now) (term_of arm.second.now)
+    ≡ term_of c.args.expr.now =
+    ap (λ o. binary (binary_at o) (term_of arm.first.now) (term_of arm.second.now))
+    (sym arm.field-0-is) ∙ arm.ensures in
+    rw (← node)
+    (values-other (contraction_count made.contraction)
+    (contraction_value made.contraction) made.dims
+    (contracted arm.pairs.now left.first.dims right.second.dims
+    (meaning_at left.first.placed left.first.dims)
+    (meaning_at right.second.placed right.second.dims))
+    (value (binary (contract arm.pairs.now) (term_of arm.first.now)
+    (term_of arm.second.now)) c.args.inputs.now) made.ensures.values
+    (agree-contraction c.args.inputs.now (term_of arm.first.now)
+    (term_of arm.second.now) arm.pairs.now left.first.placed right.second.placed
+    left.first.dims right.second.dims made.dims left.ensures.placed right.ensures.placed
+    left.ensures.dims right.ensures.dims made.ensures.dims))

@@ -1,0 +1,37 @@
+-- Sums of products, which no width bounds.
+use Rattle.std.specs.Prelude.{◌≡◌, ℕ, zero, suc, ℤ, pos, ◌+ℤ◌, ◌*ℤ◌, ◌+◌, ◌/◌, ◌%◌, ◌<◌, List}
+use Rattle.std.specs.Prelude.{slice_index}
+use Rattle.tensor_shape.specs.Index.{size_of, place, index_of}
+use Rattle.tensor_shape.specs.Wrap.{wrap}
+use Rattle.tensor_ops.specs.Places.{value_in}
+use Rattle.tensor_ops.specs.Woven.{dims_at, other_dims, woven}
+
+-- f 0 + f 1 + .. of the first n
+abbrev pub sum_to : (ℕ → ℤ) → ℕ → ℤ
+sum_to f zero = pos 0
+sum_to f (suc n) = sum_to f n +ℤ f n
+
+-- the value of an operand at paired index list q and kept index list x, both by their places
+abbrev pub operand_value : List ℤ → List ℕ → List ℕ → ℕ → ℕ → ℤ
+operand_value values ds axes x q =
+    value_in values
+    (place ds (woven axes ds (index_of (dims_at axes ds) q) (index_of (other_dims axes ds) x)))
+
+-- so many rows of so many values are those of an operand: a row for each kept index list, in it a
+-- value for each paired one
+pub record IsOperand (rows width : ℕ) (value : ℕ → ℕ → ℤ) (values : List ℤ) (ds axes : List ℕ)
+    : Type 0 where
+  pub count : rows ≡ size_of (other_dims axes ds)
+  pub len : width ≡ size_of (dims_at axes ds)
+  pub each : (x q : ℕ) → x < rows → q < width → value x q ≡ operand_value values ds axes x q
+
+-- the value at a place of a result whose places pass so many rows of the first operand the fastest:
+-- the sum of so many products of a row of the first and one of the second
+abbrev pub rows_dot : ℕ → ℕ → (ℕ → ℕ → ℤ) → (ℕ → ℕ → ℤ) → ℕ → ℤ
+rows_dot rows len first second p =
+    wrap (sum_to (λ q. first (p % rows) q *ℤ second (p / rows) q) len)
+
+-- the sum of the first n products of the values at offsets from x and those at others from y
+abbrev pub list_product : List ℤ → ℕ → List ℕ → List ℤ → ℕ → List ℕ → ℕ → ℤ
+list_product a x offsets b y others n =
+    sum_to (λ q. value_in a (x + slice_index offsets q) *ℤ value_in b (y + slice_index others q)) n

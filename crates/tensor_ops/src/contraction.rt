@@ -1,0 +1,134 @@
+//! Contractions by ranges of the places of their result.
+
+ghost use Rattle.std.specs.Prelude.{◌≡◌, ◌<◌, ◌≤◌, ◌+◌, ◌-◌, ℕ, length, map, IfOk, IsOk};
+ghost use Rattle.std.specs.Cow.{cow_slice_items};
+ghost use Rattle.std.specs.List.{range_with_len};
+ghost use Rattle.tensor_shape.specs.Index.{size_of, place, index_of};
+ghost use Rattle.tensor_ops.specs.Contraction.{firsts, seconds, contracted, contracted_dims};
+ghost use Rattle.tensor_ops.specs.Contraction.{outer_dims};
+ghost use Rattle.tensor_ops.specs.Places.{value_in};
+
+use crate::dots::Dots;
+use crate::rows::Rows;
+use crate::strip_dots::StripDots;
+use crate::strips::{Strips, strip_width};
+use crate::tiling::Tiled;
+use std::alloc::{AllocError, Global};
+use std::borrow::CowSlice;
+use tensor_shape::Dims;
+
+/// From so many rows of the second operand on tiles are used, of which fewer would leave columns
+/// empty.
+const TILE: usize = 4;
+
+/// The shortest rows that are taken as slices. Shorter ones cost more to find than to pass.
+const LONG_ROW: usize = 64;
+
+/// A contraction made ready to be evaluated by ranges of places. It is made once; all who work on
+/// ranges of it share it.
+#[derive(Drop)]
+pub(crate) enum Contraction<'a> {
+    /// By tiles of four rows by four columns.
+    InTiles(Tiled),
+    /// Row by row, where an operand has few rows.
+    InDots(Dots<'a>),
+    /// Value by value, where an operand has few rows and those of both lie side by side.
+    InStrips(StripDots<'a>),
+}
+
+impl<'a> Contraction<'a> {
+    ghost use Rattle.tensor_ops.specs.Contracting.{contraction_count, contraction_value};
+
+    /// The contraction of two operands of these dims over pairs of their axes. Takes a number for
+    /// each kept index list of each operand, and one for each paired one, but of these none where
+    /// the rows are taken as slices. Both operands are packed, but where the first has one kept
+    /// index list or the second fewer than four: a cell for each value, of 4 bytes where all values
+    /// fit them, else of 8, up to a multiple of four kept index lists. Of packed operands the
+    /// values are not held.
+    pub(crate) fn of(
+        alloc: Global,
+        first_dims: &Dims,
+        first: CowSlice<'a, i64, Global>,
+        second_dims: &Dims,
+        second: CowSlice<'a, i64, Global>,
+        pairs: &[(u64, u64)],
+    ) -> Result<Contraction<'a>, AllocError>
+        requires dims { IsOk (contracted_dims pairs.now first_dims.now second_dims.now) }
+        requires first { length (cow_slice_items first) ≡ size_of first_dims.now }
+        requires second { length (cow_slice_items second) ≡ size_of second_dims.now }
+        ensures count { IfOk result (λ c. contraction_count c
+            ≡ size_of (outer_dims pairs.now first_dims.now second_dims.now)) }
+        ensures each { IfOk result (λ c. (p : ℕ) → p < contraction_count c
+            → contraction_value c p ≡ contracted pairs.now first_dims.now second_dims.now
+            (λ js. value_in (cow_slice_items first.entry) (place first_dims.now js))
+            (λ js. value_in (cow_slice_items second.entry) (place second_dims.now js))
+            (index_of (outer_dims pairs.now first_dims.now second_dims.now) p)) }
+    {
+        let (first_axes, second_axes) = axes_of(alloc, pairs)?;
+        let width = strip_width(first_dims, &first_axes);
+        let second_width = strip_width(second_dims, &second_axes);
+        let (one, few) = (
+            first.as_slice().len() == width,
+            second.as_slice().len() < TILE * width,
+        );
+        if LONG_ROW <= width && LONG_ROW <= second_width && (one || few) {
+            let left = Strips::of(alloc, first_dims, first, &first_axes)?;
+            let right = Strips::of(alloc, second_dims, second, &second_axes)?;
+            return Ok(Contraction::InStrips(StripDots::of(left, right)));
+        }
+        let first = Rows::of(alloc, first_dims, first, &first_axes)?;
+        let second = Rows::of(alloc, second_dims, second, &second_axes)?;
+        if second.starts.len() < TILE {
+            return Ok(Contraction::InDots(Dots::of(first, second)));
+        }
+        if first.starts.len() == 1 {
+            return Ok(Contraction::InDots(Dots::of(second, first)));
+        }
+        Ok(Contraction::InTiles(Tiled::of(alloc, &first, &second)?))
+    }
+
+    /// The values at the places from the first to before the last of the result, in order.
+    pub(crate) fn values(
+        &self,
+        alloc: Global,
+        first: usize,
+        last: usize,
+    ) -> Result<Vec<i64>, AllocError>
+        requires order { first ≤ last }
+        requires within { last ≤ contraction_count self.now }
+        ensures { IfOk result (λ v. v.items
+            ≡ map (contraction_value self.now) (range_with_len first (last - first))) }
+    {
+        let mut values = vec![in alloc; 0i64; last - first]?;
+        self.fill(first, &mut values);
+        Ok(values)
+    }
+
+    /// Writes the values from a place of the result on.
+    fn fill(&self, first: usize, out: &mut [i64])
+        requires { first + length out.old ≤ contraction_count self.now }
+        ensures len { length out.new ≡ length out.old }
+        ensures each { (k : ℕ) → k < length out.old
+            → value_in out.new k ≡ contraction_value self.now (first + k) }
+    {
+        match self {
+            Contraction::InTiles(tiled) => tiled.fill(first, out),
+            Contraction::InDots(dots) => dots.fill(first, out),
+            Contraction::InStrips(dots) => dots.fill(first, out),
+        }
+    }
+}
+
+/// The paired axes of the first operand, and those of the second.
+fn axes_of(alloc: Global, pairs: &[(u64, u64)]) -> Result<(Vec<u64>, Vec<u64>), AllocError>
+    ensures first { IfOk result (λ axes. axes.0.items ≡ firsts pairs.now) }
+    ensures second { IfOk result (λ axes. axes.1.items ≡ seconds pairs.now) }
+{
+    let mut first = Vec::with_capacity(alloc, pairs.len())?;
+    let mut second = Vec::with_capacity(alloc, pairs.len())?;
+    for pair in pairs {
+        first.push_reserved(pair.0);
+        second.push_reserved(pair.1);
+    }
+    Ok((first, second))
+}

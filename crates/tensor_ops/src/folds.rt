@@ -1,0 +1,142 @@
+//! Values combined one after the other into the values of a row.
+
+ghost use Rattle.std.specs.Prelude.{◌≡◌, ◌<◌, ◌+◌, ◌*◌, ◌^◌, ℕ, length, slice_index};
+ghost use Rattle.tensor_ops.specs.Folds.{folded, IsCombined, offset_at};
+ghost use Rattle.tensor_ops.specs.Places.{value_in};
+ghost use Rattle.tensor_ops.specs.Reduction.{combine};
+
+use crate::reducer::Reducer;
+
+/// The shortest row that is combined as a row. Shorter ones are combined value by value.
+const LONG_ROW: usize = 8;
+
+/// Combines with each value of a row those at its place in runs of rows. A run has so many rows, a
+/// step apart, and begins at an offset from where the row starts.
+#[inline(always)]
+pub(crate) fn combine_runs(
+    reducer: Reducer,
+    row: &mut [i64],
+    values: &[i64],
+    start: usize,
+    step: usize,
+    run: usize,
+    offsets: &[usize],
+)
+    requires few { length values.now < 2 ^ 32 }
+    requires start { start < 2 ^ 32 }
+    requires offsets { (k : ℕ) → k < length offsets.now → slice_index offsets.now k < 2 ^ 32 }
+    requires inside { (i q : ℕ) → i < length row.old → q < length offsets.now * run
+        → start + i + offset_at offsets.now step run q < length values.now }
+    ensures { IsCombined reducer row.old row.new
+        (λ i q. value_in values.now (start + i + offset_at offsets.now step run q))
+        (length offsets.now * run) }
+{
+    for offset in offsets {
+        combine_run(reducer, row, values, start + *offset, step, run);
+    }
+}
+
+/// Combines with each value of a row those at its place in a run of rows, a step apart.
+#[inline(always)]
+fn combine_run(
+    reducer: Reducer,
+    row: &mut [i64],
+    values: &[i64],
+    start: usize,
+    step: usize,
+    run: usize,
+)
+    requires few { length values.now < 2 ^ 32 }
+    requires start { start < 2 ^ 33 }
+    requires inside { (i t : ℕ) → i < length row.old → t < run
+        → start + i + t * step < length values.now }
+    ensures { IsCombined reducer row.old row.new
+        (λ i t. value_in values.now (start + i + t * step)) run }
+{
+    if row.len() < LONG_ROW {
+        combine_by_value(reducer, row, values, start, step, run);
+    } else {
+        combine_by_row(reducer, row, values, start, step, run);
+    }
+}
+
+/// Combines a run of rows value by value.
+#[inline(always)]
+fn combine_by_value(
+    reducer: Reducer,
+    row: &mut [i64],
+    values: &[i64],
+    start: usize,
+    step: usize,
+    run: usize,
+)
+    requires few { length values.now < 2 ^ 32 }
+    requires start { start < 2 ^ 33 }
+    requires row { length row.old < 2 ^ 32 }
+    requires inside { (i t : ℕ) → i < length row.old → t < run
+        → start + i + t * step < length values.now }
+    ensures { IsCombined reducer row.old row.new
+        (λ i t. value_in values.now (start + i + t * step)) run }
+{
+    for i in 0..row.len() {
+        row[i] = folded(reducer, row[i], values, start + i, step, run);
+    }
+}
+
+/// Combines a run of rows row by row.
+#[inline(always)]
+fn combine_by_row(
+    reducer: Reducer,
+    row: &mut [i64],
+    values: &[i64],
+    start: usize,
+    step: usize,
+    run: usize,
+)
+    requires few { length values.now < 2 ^ 32 }
+    requires some { 0 < length row.old }
+    requires inside { (i t : ℕ) → i < length row.old → t < run
+        → start + i + t * step < length values.now }
+    ensures { IsCombined reducer row.old row.new
+        (λ i t. value_in values.now (start + i + t * step)) run }
+{
+    let width = row.len();
+    for t in 0..run {
+        let from = start + t * step;
+        combine_row(reducer, row, &values[from..from + width]);
+    }
+}
+
+/// Combines each value with that at its place in another row.
+#[inline(always)]
+fn combine_row(reducer: Reducer, row: &mut [i64], others: &[i64])
+    requires { length row.old ≡ length others.now }
+    ensures len { length row.new ≡ length row.old }
+    ensures each { (i : ℕ) → i < length row.old
+        → value_in row.new i ≡ combine reducer (value_in row.old i) (value_in others.now i) }
+{
+    for i in 0..others.len() {
+        row[i] = reducer.combine(row[i], others[i]);
+    }
+}
+
+/// A value, and so many that lie a step apart combined with it.
+#[inline(always)]
+fn folded(
+    reducer: Reducer,
+    value: i64,
+    values: &[i64],
+    first: usize,
+    step: usize,
+    run: usize,
+) -> i64
+    requires few { length values.now < 2 ^ 32 }
+    requires inside { (t : ℕ) → t < run → first + t * step < length values.now }
+    ensures { result ≡ folded reducer value (λ t. value_in values.now (first + t * step)) run }
+{
+    let mut all = value;
+    for t in 0..run {
+        all = reducer.combine(all, values[first + t * step]);
+    }
+    all
+}

@@ -1,0 +1,57 @@
+//! An operand of a contraction as rows: a row for each index list of the axes that are kept, and
+//! in it a value for each index list of the paired ones.
+
+ghost use Rattle.std.specs.Prelude.{◌≡◌, ◌<◌, ◌≤◌, ℕ, length};
+ghost use Rattle.std.specs.Prelude.{IsTrue, IfOk};
+ghost use Rattle.std.specs.Cow.{cow_slice_items};
+ghost use Rattle.tensor_shape.specs.Index.{size_of};
+ghost use Rattle.tensor_shape.specs.Legal.{most_elements};
+ghost use Rattle.tensor_ops.specs.Panels.{AreInside};
+ghost use Rattle.tensor_ops.specs.Reduction.{are_axes};
+
+use crate::offsets::offsets;
+use crate::woven::others;
+use std::alloc::{AllocError, Global};
+use std::borrow::CowSlice;
+use tensor_shape::Dims;
+
+/// An operand as rows. Value q of a row lies at the row's start, moved by offset q.
+#[derive(Drop)]
+pub(crate) struct Rows<'a> {
+    pub(crate) values: CowSlice<'a, i64, Global>,
+    pub(crate) starts: Vec<usize>,
+    pub(crate) offsets: Vec<usize>,
+    ghost inside: { AreInside (cow_slice_items values) starts.items offsets.items },
+    ghost few: { length starts.items ≤ most_elements },
+    ghost short: { length offsets.items ≤ most_elements },
+}
+
+impl<'a> Rows<'a> {
+    ghost use Rattle.tensor_ops.specs.Products.{IsOperand};
+    ghost use Rattle.tensor_ops.specs.Rows.{row_count, row_length, row_value};
+
+    /// An operand of these dims, whose paired axes are these, in their order. Takes a number for
+    /// each of its rows, and one for each value of a row.
+    pub(crate) fn of(
+        alloc: Global,
+        dims: &Dims,
+        values: CowSlice<'a, i64, Global>,
+        axes: &[u64],
+    ) -> Result<Rows<'a>, AllocError>
+        requires axes { IsTrue (are_axes (length dims.now) axes.now) }
+        requires values { length (cow_slice_items values) ≡ size_of dims.now }
+        ensures { IfOk result (λ rows.
+            IsOperand (row_count rows) (row_length rows) (row_value rows)
+            (cow_slice_items values.entry) dims.now axes.now) }
+    {
+        let rank = dims.as_slice().len();
+        let kept = others(axes, 0, rank as u64);
+        let starts = offsets(alloc, dims, kept.as_slice())?;
+        let moves = offsets(alloc, dims, axes)?;
+        Ok(Rows {
+            values,
+            starts,
+            offsets: moves,
+        })
+    }
+}

@@ -1,0 +1,89 @@
+//! An operand of a contraction whose paired axes are its first ones, in order: the values of each
+//! of its rows lie side by side.
+
+ghost use Rattle.std.specs.Prelude.{◌≡◌, ◌<◌, ◌≤◌, ◌+◌, ℕ, length, slice_index};
+ghost use Rattle.std.specs.Prelude.{IsTrue, IfOk};
+ghost use Rattle.std.specs.Cow.{cow_slice_items};
+ghost use Rattle.std.specs.List.{range_with_len};
+ghost use Rattle.tensor_shape.specs.Index.{size_of};
+ghost use Rattle.tensor_shape.specs.Legal.{most_elements};
+ghost use Rattle.tensor_ops.specs.Places.{value_in};
+ghost use Rattle.tensor_ops.specs.Reduction.{are_axes};
+ghost use Rattle.tensor_ops.specs.Woven.{dims_at};
+
+use crate::offsets::offsets;
+use crate::woven::{others, span};
+use std::alloc::{AllocError, Global};
+use std::borrow::CowSlice;
+use tensor_shape::Dims;
+
+/// An operand as rows of one width, which begin at their starts. No row is empty.
+#[derive(Drop)]
+pub(crate) struct Strips<'a> {
+    values: CowSlice<'a, i64, Global>,
+    pub(crate) starts: Vec<usize>,
+    pub(crate) width: usize,
+    ghost inside: { (x q : ℕ) → x < length starts.items → q < width
+        → slice_index starts.items x + q < length (cow_slice_items values) },
+    ghost few: { length starts.items ≤ most_elements },
+    ghost some: { 0 < width },
+}
+
+impl<'a> Strips<'a> {
+    ghost use Rattle.tensor_ops.specs.Products.{IsOperand};
+    ghost use Rattle.tensor_ops.specs.Strips.{strip_count, strip_value};
+
+    /// An operand of these dims, whose paired axes are so many first ones. Takes a number for each
+    /// of its rows.
+    pub(crate) fn of(
+        alloc: Global,
+        dims: &Dims,
+        values: CowSlice<'a, i64, Global>,
+        axes: &[u64],
+    ) -> Result<Strips<'a>, AllocError>
+        requires axes { IsTrue (are_axes (length dims.now) axes.now) }
+        requires first { axes.now ≡ range_with_len 0 (length axes.now) }
+        requires some { 0 < size_of (dims_at axes.now dims.now) }
+        requires values { length (cow_slice_items values) ≡ size_of dims.now }
+        ensures { IfOk result (λ strips.
+            IsOperand (strip_count strips) strips.width (strip_value strips)
+            (cow_slice_items values.entry) dims.now axes.now) }
+    {
+        let rank = dims.as_slice().len();
+        let kept = others(axes, 0, rank as u64);
+        let starts = offsets(alloc, dims, kept.as_slice())?;
+        Ok(Strips {
+            values,
+            starts,
+            width: strip_width(dims, axes),
+        })
+    }
+
+    /// Row x.
+    #[inline(always)]
+    pub(crate) fn row(&self, x: usize) -> &[i64]
+        requires { x < strip_count self.now }
+        ensures len { length result.now ≡ self.now.width }
+        ensures each { (q : ℕ) → q < self.now.width
+            → value_in result.now q ≡ strip_value self.now x q }
+    {
+        let start = self.starts[x];
+        &self.values.as_slice()[start..start + self.width]
+    }
+}
+
+/// How many values a row has where the paired axes are the first ones, in order, and else 0.
+pub(crate) fn strip_width(dims: &Dims, axes: &[u64]) -> usize
+    requires { IsTrue (are_axes (length dims.now) axes.now) }
+    ensures first { 0 < result → axes.now ≡ range_with_len 0 (length axes.now) }
+    ensures value { axes.now ≡ range_with_len 0 (length axes.now)
+        → result ≡ size_of (dims_at axes.now dims.now) }
+    ensures small { result ≤ most_elements }
+{
+    for k in 0..axes.len() {
+        if axes[k] != k as u64 {
+            return 0;
+        }
+    }
+    span(dims.as_slice(), 0, axes.len())
+}

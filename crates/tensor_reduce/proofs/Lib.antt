@@ -1,0 +1,4 @@
+pub mod Cuts
+pub mod Fits
+pub mod Named
+pub mod Planned

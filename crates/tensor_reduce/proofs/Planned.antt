@@ -1,0 +1,119 @@
+-- The steps of a whole expression.
+use Rattle.std.proofs.Common.{◌≡◌, ◌+◌, ◌^◌, ◌<◌, ◌≤◌, List, [], ◌∷◌, ◌++◌, length, map}
+use Rattle.std.proofs.Common.{Bool, true, false, ◌||◌, Ok, IsOk, ap, sym, ◌∙◌, arith}
+use Rattle.std.proofs.lemmas.List.{length-append, length-map, map-append}
+use Rattle.tensor_ops.specs.Contents.{Contents}
+use Rattle.tensor_ops.specs.Result.{dims_of}
+use Rattle.tensor_ops.specs.Shaped.{Shaped}
+use Rattle.tensor_ops.specs.Term.{Term, input, unary, binary, ternary, has_inputs, nodes_of}
+use Rattle.tensor_ops.specs.Value.{tensor_of}
+use Rattle.tensor_reduce.specs.Cutting.{IsCut, AreStepsOf}
+use Rattle.tensor_reduce.specs.Plan.{term_of_step, dims_of_step, terms_in, worked_out}
+use Rattle.tensor_reduce.specs.Plan.{AreReady}
+use Rattle.tensor_reduce.specs.Steps.{combines, combines_two, own, operand_nodes, step_nodes}
+use Rattle.tensor_reduce.specs.Steps.{is_input, cut, steps_of}
+use Rattle.tensor_reduce.specs.declared.step.Step.{Step}
+use Rattle.tensor_reduce.proofs.Fits.{AreFit, fit-steps_of, worked_out-fit, AreReady-fit}
+
+-- each step is another node
+length-own : (is_step : Bool) (t : Term) → length (own is_step t) ≤ 1
+length-own true t = omega arith
+length-own false t = omega arith
+
+length-operand_nodes : (t : Term) (whole : Bool) → length (operand_nodes whole t) ≤ nodes_of t
+length-operand_nodes (input n) whole = omega arith
+length-operand_nodes (unary o a) whole =
+    let c : Bool = combines o in
+    let last : List Term = own (whole || c) (unary o a) in
+    omega (
+      arith,
+      length-append (operand_nodes c a) last,
+      length-own (whole || c) (unary o a),
+      length-operand_nodes a c,
+    )
+length-operand_nodes (binary o a b) whole =
+    let c : Bool = combines_two o in
+    let xs : List Term = operand_nodes c a in
+    let ys : List Term = operand_nodes c b in
+    omega (
+      arith,
+      length-append (xs ++ ys) (own (whole || c) (binary o a b)),
+      length-append xs ys,
+      length-own (whole || c) (binary o a b),
+      length-operand_nodes a c,
+      length-operand_nodes b c,
+    )
+length-operand_nodes (ternary o a b c) whole =
+    let xs : List Term = operand_nodes false a in
+    let ys : List Term = operand_nodes false b in
+    let zs : List Term = operand_nodes false c in
+    omega (
+      arith,
+      length-append (xs ++ ys ++ zs) (own whole (ternary o a b c)),
+      length-append (xs ++ ys) zs,
+      length-append xs ys,
+      length-own whole (ternary o a b c),
+      length-operand_nodes a false,
+      length-operand_nodes b false,
+      length-operand_nodes c false,
+    )
+
+length-step_nodes : (t : Term) → length (step_nodes t) ≤ nodes_of t
+length-step_nodes (input n) = omega arith
+length-step_nodes (unary o a) = length-operand_nodes (unary o a) true
+length-step_nodes (binary o a b) = length-operand_nodes (binary o a b) true
+length-step_nodes (ternary o a b c) = length-operand_nodes (ternary o a b c) true
+
+module _ (inputs : List Contents) (t : Term) (steps : List Step) where
+  -- an expression that isn't an input
+  pub steps-cut : (rest : Step) → is_input t ≡ false → IsCut inputs true t [] steps rest
+      → AreStepsOf inputs t steps
+  steps-cut rest inner done =
+      let start : length inputs + 0 ≡ length inputs = omega arith in
+      record {
+        terms = rw inner (done.terms ∙ ap (λ n. (cut n true t).steps) start);
+        nodes = rw inner done.nodes;
+      }
+
+  -- as many as there are nodes that are steps
+  length-steps : AreStepsOf inputs t steps → length steps ≡ length (step_nodes t)
+  length-steps are =
+      omega (
+        arith,
+        ap length are.nodes,
+        length-map {B = Shaped} steps (λ s. Ok (dims_of_step s)),
+        length-map (step_nodes t) (λ a. dims_of a inputs),
+      )
+
+  pub length-steps_of : AreStepsOf inputs t steps → length steps ≤ nodes_of t
+  length-steps_of are = omega (arith, length-steps are, length-step_nodes t)
+
+  module _ (names : has_inputs t (length inputs) ≡ true) (has : IsOk (dims_of t inputs))
+      (are : AreStepsOf inputs t steps)
+      (few : length inputs + length steps < 2 ^ 32) where
+    fit : AreFit inputs inputs (steps_of (length inputs) t) (step_nodes t)
+    fit = fit-steps_of inputs t names has (omega (arith, length-steps are))
+
+    pub AreReady-steps_of : AreReady steps inputs
+    AreReady-steps_of = AreReady-fit inputs inputs steps (steps_of (length inputs) t)
+        (step_nodes t) fit are.terms are.nodes
+
+    pub worked_out-steps_of : worked_out (terms_in steps) inputs
+        ≡ inputs ++ map (λ a. tensor_of a inputs) (step_nodes t)
+    worked_out-steps_of =
+        ap (λ us. worked_out us inputs) are.terms
+        ∙ worked_out-fit inputs inputs (steps_of (length inputs) t) (step_nodes t) fit
+
+-- an input is a step as it is
+pub steps-input : (inputs : List Contents) (t : Term) (steps : List Step) (rest : Step)
+    → is_input t ≡ true
+    → IsCut inputs true t [] steps rest → AreStepsOf inputs t (steps ++ rest ∷ [])
+steps-input inputs (input n) steps rest here done = record {
+  terms = map-append term_of_step steps (rest ∷ [])
+      ∙ ap (λ l. l ++ term_of_step rest ∷ []) done.terms ∙ ap (λ v. v ∷ []) done.term;
+  nodes = map-append (λ s. Ok (dims_of_step s)) steps (rest ∷ [])
+      ∙ ap (λ l. l ++ Ok (dims_of_step rest) ∷ []) done.nodes ∙ ap (λ d. d ∷ []) (sym done.dims);
+}
+steps-input inputs (unary o a) steps rest here done = (cc)
+steps-input inputs (binary o a b) steps rest here done = (cc)
+steps-input inputs (ternary o a b c) steps rest here done = (cc)

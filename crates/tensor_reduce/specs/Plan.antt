@@ -1,0 +1,46 @@
+-- Plans: steps with their dims, and what they give one after the other.
+use Rattle.std.specs.Prelude.{◌≡◌, ℕ, List, [], ◌∷◌, ◌++◌, length, map, Ok, IsTrue}
+use Rattle.tensor_ops.specs.Contents.{Contents}
+use Rattle.tensor_ops.specs.Result.{dims_of}
+use Rattle.tensor_ops.specs.Shaped.{Shaped}
+use Rattle.tensor_ops.specs.Term.{Term, has_inputs}
+use Rattle.tensor_ops.specs.Tree.{term_of}
+use Rattle.tensor_ops.specs.Value.{tensor_of}
+use Rattle.tensor_reduce.specs.Steps.{is_single}
+use Rattle.tensor_reduce.specs.declared.plan.Plan.{Plan}
+use Rattle.tensor_reduce.specs.declared.step.Step.{Step}
+
+-- the term of a step, over the inputs and the tensors of the steps before, and its dims
+abbrev pub term_of_step : Step → Term
+term_of_step s = term_of s.expr
+
+abbrev pub dims_of_step : Step → List ℕ
+dims_of_step s = s.dims
+
+-- the same of several
+abbrev pub terms_in : List Step → List Term
+terms_in steps = map term_of_step steps
+
+abbrev pub dims_in : List Step → List Shaped
+dims_in steps = map (λ s. Ok (dims_of_step s)) steps
+
+-- the steps of a plan
+abbrev pub steps_in : Plan → List Step
+steps_in plan = plan.steps.items
+
+-- tensors, and behind them those of terms, each over all before it
+abbrev pub worked_out : List Term → List Contents → List Contents
+worked_out [] tensors = tensors
+worked_out (t ∷ terms) tensors = worked_out terms (tensors ++ tensor_of t tensors ∷ [])
+
+-- a step can be worked out in one go over tensors
+pub record IsReady (s : Step) (tensors : List Contents) : Type 0 where
+  pub single : IsTrue (is_single (term_of_step s))
+  pub inputs : IsTrue (has_inputs (term_of_step s) (length tensors))
+  pub dims : dims_of (term_of_step s) tensors ≡ Ok (dims_of_step s)
+
+-- so can each of these, one after the other, over tensors and those of the steps before it
+abbrev pub AreReady : List Step → List Contents → Type 0
+AreReady [] tensors = Unit {0}
+AreReady (s ∷ steps) tensors =
+    IsReady s tensors × AreReady steps (tensors ++ tensor_of (term_of_step s) tensors ∷ [])

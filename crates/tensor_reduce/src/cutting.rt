@@ -1,0 +1,142 @@
+//! Cutting an expression into steps, in one walk.
+
+ghost use Rattle.std.specs.Prelude.{◌≡◌, ◌+◌, length, map, Ok, IsTrue, IsOk, IfOk, vec_len};
+ghost use Rattle.tensor_ops.specs.Result.{dims_of, operand_dims};
+ghost use Rattle.tensor_ops.specs.Term.{has_inputs};
+ghost use Rattle.tensor_ops.specs.Tree.{term_of, unary_at, binary_at};
+ghost use Rattle.tensor_reduce.specs.Cutting.{IsCut, IsSettled, AreStepsOf};
+ghost use Rattle.tensor_reduce.specs.Steps.{combines, combines_two, is_input, number_of};
+
+use crate::step::Step;
+use std::alloc::{AllocError, Global};
+use tensor_ops::{Binary, Dims, Expr, Inputs, Node, Unary};
+
+/// How many numbers a tensor among the inputs of an expression may have.
+const NUMBERS: u64 = 1 << 32;
+
+/// The steps of an expression, of which the root is the last.
+pub(crate) fn steps_of(alloc: Global, inputs: &Inputs, expr: &Expr) -> Result<Vec<Step>, AllocError>
+    requires inputs { IsTrue (has_inputs (term_of expr.now) (length inputs.now)) }
+    requires dims { IsOk (dims_of (term_of expr.now) inputs.now) }
+    ensures { IfOk result (λ steps. AreStepsOf inputs.now (term_of expr.now) steps.items) }
+{
+    let mut steps = Vec::new(alloc);
+    let left = cut(alloc, inputs, expr, true, &mut steps)?;
+    if !is_input(expr) {
+        return Ok(steps);
+    }
+    steps.push(left)?;
+    Ok(steps)
+}
+
+/// The steps of an operand go behind those that are there. What is left of it is an expression over
+/// the inputs and the tensors of all these, the number of one where it is needed whole.
+fn cut(
+    alloc: Global,
+    inputs: &Inputs,
+    expr: &Expr,
+    whole: bool,
+    steps: &mut Vec<Step>,
+) -> Result<Step, AllocError>
+    requires inputs { IsTrue (has_inputs (term_of expr.now) (length inputs.now)) }
+    requires dims { IsOk (dims_of (term_of expr.now) inputs.now) }
+    ensures { IfOk result (λ left.
+        IsCut inputs.now whole (term_of expr.now) steps.old.items steps.new.items left) }
+{
+    match expr.node() {
+        Node::Input(number) => {
+            let dims = inputs.get(number).dims().copied();
+            Ok(Step::new(Expr::Input(number), dims))
+        }
+        Node::Unary(operation, a) => {
+            let combining = combines(operation);
+            let (a, known) = cut(alloc, inputs, a, combining, steps)?.into_parts();
+            let dims = dims_over(inputs, expr, &[known]);
+            let node = Step::new(operation.over(alloc, a)?, dims);
+            settle(inputs, node, whole | combining, steps)
+        }
+        Node::Binary(operation, a, b) => {
+            let combining = combines_two(operation);
+            let (a, first) = cut(alloc, inputs, a, combining, steps)?.into_parts();
+            let (b, second) = cut(alloc, inputs, b, combining, steps)?.into_parts();
+            let dims = dims_over(inputs, expr, &[first, second]);
+            let node = Step::new(operation.over(alloc, a, b)?, dims);
+            settle(inputs, node, whole | combining, steps)
+        }
+        Node::Ternary(operation, a, b, c) => {
+            let (a, first) = cut(alloc, inputs, a, false, steps)?.into_parts();
+            let (b, second) = cut(alloc, inputs, b, false, steps)?.into_parts();
+            let (c, third) = cut(alloc, inputs, c, false, steps)?.into_parts();
+            let dims = dims_over(inputs, expr, &[first, second, third]);
+            let node = Step::new(operation.over(alloc, a, b, c)?, dims);
+            settle(inputs, node, whole, steps)
+        }
+    }
+}
+
+/// A node that is a step goes behind the others, and the number of its tensor is left of it.
+fn settle(
+    inputs: &Inputs,
+    node: Step,
+    is_step: bool,
+    steps: &mut Vec<Step>,
+) -> Result<Step, AllocError>
+    ensures { IfOk result (λ left.
+        IsSettled inputs.now is_step node steps.old.items steps.new.items left) }
+{
+    if !is_step {
+        return Ok(node);
+    }
+    let number = next_number(inputs, steps);
+    let left = Step::new(Expr::Input(number), node.dims().copied());
+    steps.push(node)?;
+    Ok(left)
+}
+
+/// The number of the tensor that comes behind the inputs and the steps.
+fn next_number(inputs: &Inputs, steps: &[Step]) -> u32
+    ensures { result ≡ number_of (length inputs.now + length steps.now) }
+{
+    let place = u64::from(inputs.len()) + steps.len() as u64;
+    (place % NUMBERS) as u32
+}
+
+/// The dims of an expression that has dims, from those of its operands.
+fn dims_over(inputs: &Inputs, expr: &Expr, operands: &[Dims]) -> Dims
+    requires inputs { IsTrue (has_inputs (term_of expr.now) (length inputs.now)) }
+    requires operands { operand_dims (term_of expr.now) inputs.now ≡ map Ok operands.now }
+    requires dims { IsOk (dims_of (term_of expr.now) inputs.now) }
+    ensures { dims_of (term_of expr.now) inputs.now ≡ Ok result }
+{
+    let Ok(dims) = expr.dims_over(inputs, operands) else {
+        unreachable!()
+    };
+    dims
+}
+
+/// Whether an operation combines many values of its operand into one.
+fn combines(operation: Unary<'_>) -> bool
+    ensures { result ≡ combines (unary_at operation.entry) }
+{
+    match operation {
+        Unary::Each(_) | Unary::Constant(_) | Unary::Move(_) => false,
+        Unary::Reduce(_, _) => true,
+    }
+}
+
+/// The same of two operands.
+fn combines_two(operation: Binary<'_>) -> bool
+    ensures { result ≡ combines_two (binary_at operation.entry) }
+{
+    match operation {
+        Binary::Pairwise(_) => false,
+        Binary::Contract(_) => true,
+    }
+}
+
+/// Whether an expression is an input.
+fn is_input(expr: &Expr) -> bool
+    ensures { result ≡ is_input (term_of expr.now) }
+{
+    matches!(expr.node(), Node::Input(_))
+}

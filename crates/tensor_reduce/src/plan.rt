@@ -1,0 +1,59 @@
+//! Plans.
+
+ghost use Rattle.std.specs.Prelude.{◌≡◌, ◌+◌, ◌<◌, ◌≤◌, ◌^◌, ◌++◌, length, map, IsTrue, IsOk, IfOk};
+ghost use Rattle.tensor_ops.specs.Result.{dims_of};
+ghost use Rattle.tensor_ops.specs.Term.{has_inputs, nodes_of};
+ghost use Rattle.tensor_ops.specs.Tree.{term_of};
+ghost use Rattle.tensor_ops.specs.Value.{tensor_of};
+ghost use Rattle.tensor_reduce.specs.Steps.{steps_of, step_nodes};
+
+use crate::cutting::steps_of;
+use crate::step::Step;
+use std::alloc::{AllocError, Global};
+use tensor_ops::{Expr, Inputs};
+
+/// The steps of an expression, children first.
+#[derive(Drop)]
+pub struct Plan {
+    steps: Vec<Step>,
+}
+
+impl Plan {
+    ghost use Rattle.tensor_reduce.specs.Plan.{steps_in, terms_in, dims_in, worked_out, AreReady};
+
+    /// The plan of an expression over these inputs, made in time linear in its nodes.
+    ///
+    /// Numbers of tensors have 32 bits, so it can be worked out as long as there are at most
+    /// 4,294,967,295 inputs and steps together.
+    pub fn of(alloc: Global, expr: &Expr, inputs: &Inputs) -> Result<Plan, AllocError>
+        requires inputs { IsTrue (has_inputs (term_of expr.now) (length inputs.now)) }
+        requires dims { IsOk (dims_of (term_of expr.now) inputs.now) }
+
+        // The steps are those of the definition, each with the dims of its node.
+        ensures terms { IfOk result (λ plan.
+            terms_in (steps_in plan) ≡ steps_of (length inputs.now) (term_of expr.now)) }
+        ensures dims { IfOk result (λ plan. dims_in (steps_in plan)
+            ≡ map (λ t. dims_of t inputs.now) (step_nodes (term_of expr.now))) }
+        ensures few { IfOk result (λ plan. length (steps_in plan) ≤ nodes_of (term_of expr.now)) }
+
+        // They can be worked out one after the other, and give their nodes' tensors: the root's is
+        // the last.
+        ensures ready { IfOk result (λ plan.
+            length inputs.now + length (steps_in plan) < 2 ^ 32
+            → AreReady (steps_in plan) inputs.now) }
+        ensures tensors { IfOk result (λ plan.
+            length inputs.now + length (steps_in plan) < 2 ^ 32
+            → worked_out (terms_in (steps_in plan)) inputs.now
+            ≡ inputs.now ++ map (λ t. tensor_of t inputs.now) (step_nodes (term_of expr.now))) }
+    {
+        let steps = steps_of(alloc, inputs, expr)?;
+        Ok(Plan { steps })
+    }
+
+    /// The steps, in order.
+    pub fn steps(&self) -> &[Step]
+        ensures { result.now ≡ steps_in self.now }
+    {
+        &self.steps
+    }
+}

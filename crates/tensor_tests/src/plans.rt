@@ -1,0 +1,105 @@
+//! Plans: how many steps expressions have, and what these give one after the other.
+
+ghost use Rattle.std.specs.Prelude.{◌≡◌, ◌+◌, ◌<◌, ◌^◌, length, IfOk, OnOk, IsTrue};
+ghost use Rattle.tensor_reduce.specs.Plan.{terms_in, worked_out, AreReady};
+ghost use Rattle.tensor_reduce.specs.Term.{has_inputs};
+ghost use Rattle.tensor_reduce.specs.Tree.{term_of};
+
+use std::alloc::{AllocError, Global};
+use std::process::Abort;
+use std::test::Fail;
+use tensor_ops::{Dims, Expr, Inputs, Tensor, eval_plain};
+use tensor_reduce::{Plan, Step};
+
+/// The tensor of these sizes and values.
+fn tensor(alloc: Global, sizes: &[u64], values: &[i64]) -> Result<Tensor, Fail> {
+    let dims = Dims::new(sizes)?;
+    if values.len() as u64 != dims.size() {
+        return Err("the values do not fill the dims".into());
+    }
+    Ok(Tensor::new(dims, values.to_vec(alloc)?))
+}
+
+/// Four inputs: of 2 by 3, of 3 by 2, of 2, and a scalar.
+fn four_inputs(alloc: Global) -> Result<Inputs, Fail>
+    ensures { IfOk result (λ inputs. length inputs ≡ 4) }
+{
+    let first = tensor(alloc, &[2, 3], &[1, 4, 2, 5, 3, 6])?;
+    let second = tensor(alloc, &[3, 2], &[1, 3, 5, 2, 4, 6])?;
+    let third = tensor(alloc, &[2], &[10, -1])?;
+    let fourth = tensor(alloc, &[], &[5])?;
+    Ok(Inputs::new(vec![in alloc; first, second, third, fourth]?))
+}
+
+/// Works out steps one after the other. Their tensors go behind those that are there.
+fn work_out(alloc: Global, steps: &[Step], tensors: &mut Inputs) -> Result<(), AllocError>
+    requires ready { AreReady steps.now tensors.old }
+    requires few { length tensors.old + length steps.now < 2 ^ 32 }
+    ensures { OnOk result (tensors.new ≡ worked_out (terms_in steps.now) tensors.old) }
+{
+    match steps {
+        [] => Ok(()),
+        [step, rest @ ..] => {
+            let tensor = eval_plain(alloc, step.expr(), tensors)?;
+            tensors.push(tensor)?;
+            work_out(alloc, rest, tensors)
+        }
+    }
+}
+
+/// Asserts that a plan has so many steps, of which the last gives the expression's tensor.
+fn has_steps(rt: &impl Abort, alloc: Global, expr: &Expr, count: usize) -> Result<(), Fail>
+    requires { IsTrue (has_inputs (term_of expr.now) 4) }
+{
+    let mut tensors = four_inputs(alloc)?;
+    expr.dims(&tensors)?;
+    let whole = eval_plain(alloc, expr, &tensors)?;
+    let plan = Plan::of(alloc, expr, &tensors)?;
+    assert_eq!(rt; plan.steps().len(), count);
+    assert!(rt; count > 0 && count < 100);
+    work_out(alloc, plan.steps(), &mut tensors)?;
+    assert_eq!(rt; tensors.len() as usize, count + 4);
+    let last = tensors.get(tensors.len() - 1);
+    assert_eq!(rt; last.dims().as_slice(), whole.dims().as_slice());
+    assert_eq!(rt; last.values(), whole.values());
+    let step = &plan.steps()[count - 1];
+    assert_eq!(rt; step.dims().as_slice(), whole.dims().as_slice());
+    Ok(())
+}
+
+/// The contraction of the first input's columns with the second's rows.
+fn contraction(alloc: Global, first: Expr) -> Result<Expr, AllocError>
+    ensures { IfOk result (λ e.
+        IsTrue (has_inputs (term_of first) 4) → IsTrue (has_inputs (term_of e) 4)) }
+{
+    let first = Box::new(alloc, first)?;
+    let second = Box::new(alloc, Expr::Input(1))?;
+    Ok(Expr::Contract(first, second, vec![in alloc; (1, 0)]?))
+}
+
+#[test]
+fn steps_of_the_root_alone(rt: HostRuntime) -> Result<(), Fail> {
+    let alloc = rt.alloc();
+    has_steps(&rt, alloc, &Expr::Input(0), 1)?;
+    has_steps(&rt, alloc, &contraction(alloc, Expr::Input(0))?, 1)
+}
+
+/// A sum is a step, and so is what adds to it.
+#[test]
+fn steps_of_a_sum_and_more(rt: HostRuntime) -> Result<(), Fail> {
+    let alloc = rt.alloc();
+    let sum = Expr::Sum(Box::new(alloc, Expr::Input(2))?, vec![in alloc; 0]?);
+    let both = Expr::Add(Box::new(alloc, sum)?, Box::new(alloc, Expr::Input(3))?);
+    has_steps(&rt, alloc, &both, 2)
+}
+
+/// A negation, its contraction, the squares of that, their greatest, and its product with an input.
+#[test]
+fn steps_of_nested_operations(rt: HostRuntime) -> Result<(), Fail> {
+    let alloc = rt.alloc();
+    let negation = Expr::Neg(Box::new(alloc, Expr::Input(0))?);
+    let squares = Expr::Square(Box::new(alloc, contraction(alloc, negation)?)?);
+    let greatest = Expr::Maximum(Box::new(alloc, squares)?, vec![in alloc; 1]?);
+    let product = Expr::Mul(Box::new(alloc, greatest)?, Box::new(alloc, Expr::Input(2))?);
+    has_steps(&rt, alloc, &product, 5)
+}
