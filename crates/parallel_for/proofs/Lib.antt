@@ -1,0 +1,5 @@
+pub mod Runs
+pub mod Cutting
+pub mod Rows
+pub mod Moves
+pub mod Outs

@@ -1,0 +1,54 @@
+use Rattle.std.proofs.Common.{rules, ◌≡◌, ◌∙◌, ap, sym, length, is_ok, true, false}
+use Rattle.std.proofs.lemmas.Bool.{false≢true}
+use Rattle.std.proofs.lemmas.List.Elements.{All-rest, All-same}
+use Rattle.std.specs.Vec.Iter.{into_iter_items}
+use Rattle.parallel_for.specs.Pieces.{IsRight, ranges_of}
+use Rattle.parallel_for.proofs.Rows.{items-none}
+use Rattle.parallel_for.proofs.Moves.{AreMoved-start, AreMoved-one, IsTaken-all, still-missing}
+use Rattle.parallel_for.proofs.collector.put_all.Goals as goal
+
+pub loop-piece-init : goal.loop-piece-init
+loop-piece-init g c =
+    let all = c.into_iter-piece-iterator.ensures.into_iter_gives.0 in
+    record {
+      can = tt;
+      finite = tt;
+      right =
+          All-same (IsRight (g.K.Kernel.item_at c.args.kernel.now)) _ _ all c.requires.right;
+      table = c.requires.table;
+      long = c.requires.long;
+      moved = AreMoved-start _ _ _ (ap ranges_of all);
+    }
+
+pub loop-piece-preserved : goal.loop-piece-preserved
+loop-piece-preserved g c =
+    let p = c.in-Some.piece in
+    let split = c.in-Some.ensures.steps.0 in
+    record {
+      can = tt;
+      finite = tt;
+      right =
+          All-rest (IsRight (g.K.Kernel.item_at c.args.kernel.now)) p _ _ split
+          c.loop-piece.invariant.right;
+      table = c.put.ensures.table;
+      long = c.put.ensures.long;
+      moved =
+          AreMoved-one _ _ _ _ (p.first, p.last) _ _ (ap ranges_of split)
+          c.loop-piece.invariant.moved (search rules);
+    }
+
+pub returns-in_err-put-clause-found : goal.returns-in_err-put-clause-found
+returns-in_err-put-clause-found g c = λ among.
+    let p = c.in-Some.piece in
+    let ok =
+    c.put.ensures.found
+    (still-missing _ _ _ _ (p.first, p.last) (ranges_of (into_iter_items c.next.new.self))
+    (ap ranges_of c.in-Some.ensures.steps.0) c.loop-piece.invariant.moved among) in
+    let bad : false ≡ true = sym (ap is_ok c.in_err-put.was) ∙ ok in
+    absurd (false≢true bad)
+
+pub returns-clause-taken : goal.returns-clause-taken
+returns-clause-taken g c =
+    let rest = into_iter_items c.loop-piece.piece-iterator in
+    let none : length rest ≡ 0 = search rules in
+    IsTaken-all _ _ _ _ (ap ranges_of (items-none rest none)) c.loop-piece.invariant.moved

@@ -1,0 +1,6 @@
+pub mod Leaves
+pub mod Items
+pub mod Steps
+pub mod Pieces
+pub mod Divisions
+pub mod Table

@@ -1,0 +1,27 @@
+-- What a step of a range job gives.
+use Rattle.std.specs.Prelude.{◌≡◌, ℕ, ◌<◌, ◌≤◌, ◌-◌, List}
+use Rattle.worker_pool.specs.declared.job.Progress.{Progress}
+use Rattle.worker_pool.specs.declared.job.Progress.TheVariants.{Fork, Done}
+use Rattle.parallel_for.specs.Leaves.{Range, middle}
+use Rattle.parallel_for.specs.Items.{AreItems}
+
+-- one fact where a job forks, another where it is done
+abbrev pub EitherWay : {J O : Type 0} → (J → J → Type 0) → (O → Type 0) → Progress J O → Type 0
+EitherWay forks done (Fork kid rest) = forks kid rest
+EitherWay forks done (Done out) = done out
+
+-- a range longer than a block is halved: the kid has the upper part, and the lower one stays
+pub record IsHalved (whole kid rest : Range) (block : ℕ) : Type 0 where
+  pub long : block < whole.1 - whole.0
+  pub kid_first : kid.0 ≡ middle whole.0 whole.1 block
+  pub kid_last : kid.1 ≡ whole.1
+  pub rest_first : rest.0 ≡ whole.0
+  pub rest_last : rest.1 ≡ middle whole.0 whole.1 block
+
+-- a range of at most a block is a leaf: the piece is that range, with a function's items
+pub record IsLeaf {I : Type 0} (item_at : ℕ → I) (whole piece : Range) (items : List I)
+    (block : ℕ) : Type 0 where
+  pub short : whole.1 - whole.0 ≤ block
+  pub first : piece.0 ≡ whole.0
+  pub last : piece.1 ≡ whole.1
+  pub filled : AreItems item_at whole.0 whole.1 items

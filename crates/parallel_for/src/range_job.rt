@@ -1,0 +1,172 @@
+//! A range of places as a job of a pool.
+ghost use Rattle.std.specs.Prelude.{◌≡◌, ◌≤◌, ◌<◌, ◌-◌, ◌+◌, ℕ, IfOk};
+ghost use Rattle.pool_barrier.specs.Shares.{share_id, barrier_id, notices_of, given_of};
+ghost use Rattle.pool_barrier.specs.Shares.{IsShareOf};
+ghost use Rattle.parallel_for.specs.Leaves.{blocks_of};
+ghost use Rattle.parallel_for.specs.Steps.{EitherWay, IsHalved, IsLeaf};
+
+use crate::division::Division;
+use crate::halving::{blocks, halve};
+use crate::kernel::Kernel;
+use crate::piece::Piece;
+use pool_barrier::{Barrier, Share};
+use std::alloc::{AllocError, Allocator, Global};
+use std::marker::PhantomData;
+use worker_pool::{Job, Progress};
+
+/// What the jobs of one division share.
+#[derive(Drop)]
+pub struct RangeContext<K: Kernel + Drop, D: Division, A: Allocator = Global> {
+    pub(crate) kernel: K,
+    pub(crate) barrier: Barrier<A>,
+    block: u64,
+    of: PhantomData<D>,
+    ghost sized: { K.size kernel ≡ D.size },
+    ghost counted: { barrier_id barrier ≡ D.barrier },
+    ghost cut: { block ≡ D.block },
+    ghost some: { 0 < block },
+}
+
+/// The places from `first` to before `last`, and a notice for each block of them.
+#[derive(Drop)]
+pub struct RangeJob<K: Kernel, D: Division, A: Allocator = Global> {
+    first: u64,
+    last: u64,
+    share: Share,
+    of: PhantomData<(K, D, A)>,
+    ghost order: { first < last },
+    ghost inside: { last ≤ D.size },
+    ghost counted: { share_id share ≡ D.barrier },
+    ghost notices: { notices_of share ≡ blocks_of (last - first) D.block },
+}
+
+impl<K: Kernel + Drop, D: Division, A: Allocator> RangeContext<K, D, A> {
+    pub(crate) fn new(kernel: K, barrier: Barrier<A>, block: u64) -> RangeContext<K, D, A>
+        requires size { K.size kernel ≡ D.size }
+        requires barrier { barrier_id barrier ≡ D.barrier }
+        requires block { block ≡ D.block }
+        requires some { 0 < block }
+        ensures kernel { result.kernel ≡ kernel }
+        ensures barrier { result.barrier ≡ barrier }
+    {
+        RangeContext {
+            kernel,
+            barrier,
+            block,
+            of: PhantomData,
+        }
+    }
+
+    /// Works a leaf out and counts it, where there was no memory for it too: nobody waits for it.
+    fn leaf(
+        &self,
+        alloc: A,
+        first: u64,
+        last: u64,
+        share: &mut Share,
+    ) -> Result<Piece<K::Item, A>, AllocError>
+        requires order { first ≤ last }
+        requires inside { last ≤ D.size }
+        requires short { last - first ≤ D.block }
+        requires of { IsShareOf self.now.barrier share.old }
+        requires notice { 0 < notices_of share.old }
+        ensures leaf { IfOk result (λ piece. IsLeaf (K.item_at self.now.kernel) (first, last)
+            (piece.first, piece.last) piece.items.items D.block) }
+        ensures counted { given_of share.new ≡ given_of share.old + 1 }
+    {
+        let filled = self.kernel.fill(alloc, first, last);
+        self.barrier.notify(share);
+        Ok(Piece {
+            first,
+            last,
+            items: filled?,
+        })
+    }
+}
+
+impl<K: Kernel, D: Division, A: Allocator> RangeJob<K, D, A> {
+    /// All places below `n` as one job.
+    pub(crate) fn root(n: u64, share: Share) -> RangeJob<K, D, A>
+        requires some { 0 < n }
+        requires inside { n ≤ D.size }
+        requires barrier { share_id share ≡ D.barrier }
+        requires notices { notices_of share ≡ blocks_of n D.block }
+        ensures first { result.first ≡ 0 }
+        ensures last { result.last ≡ n }
+    {
+        RangeJob {
+            first: 0,
+            last: n,
+            share,
+            of: PhantomData,
+        }
+    }
+}
+
+// A step forks the upper part of the range where it is longer than a block, and else works the
+// range out and notifies the barrier.
+impl<K: Kernel + Drop, D: Division, A: Allocator> Job<A> for RangeJob<K, D, A> {
+    type Ctx = RangeContext<K, D, A>;
+
+    type Out = Piece<K::Item, A>;
+
+    ghost weight_of = { λ job. job.last - job.first };
+
+    ghost allows = { λ context job. EitherWay
+        (λ kid rest. IsHalved (job.first, job.last) (kid.first, kid.last)
+        (rest.first, rest.last) D.block)
+        (λ piece. IsLeaf (K.item_at context.kernel) (job.first, job.last)
+        (piece.first, piece.last) piece.items.items D.block) };
+
+    fn weight(&self) -> u64 {
+        self.last - self.first
+    }
+
+    fn step(
+        self,
+        alloc: A,
+        ctx: &RangeContext<K, D, A>,
+    ) -> Result<Progress<RangeJob<K, D, A>, Piece<K::Item, A>>, AllocError> {
+        let RangeJob {
+            first,
+            last,
+            mut share,
+            of: _,
+        } = self;
+        let Some(mid) = halve(first, last, ctx.block) else {
+            return Ok(Progress::Done(ctx.leaf(alloc, first, last, &mut share)?));
+        };
+        let upper = ctx.barrier.split(&mut share, blocks(last - mid, ctx.block));
+        Ok(Progress::Fork {
+            kid: RangeJob {
+                first: mid,
+                last,
+                share: upper,
+                of: PhantomData,
+            },
+            rest: RangeJob {
+                first,
+                last: mid,
+                share,
+                of: PhantomData,
+            },
+        })
+    }
+
+    fn abandon(self, ctx: &RangeContext<K, D, A>) {
+        let mut share = self.share;
+        give_all(&ctx.barrier, &mut share);
+    }
+}
+
+/// Gives all notices that are left.
+fn give_all<A: Allocator>(barrier: &Barrier<A>, share: &mut Share)
+    requires { IsShareOf barrier.now share.old }
+    ensures of { IsShareOf barrier.now share.new }
+    ensures left { notices_of share.new ≡ 0 }
+    ensures given { given_of share.new ≡ given_of share.old + notices_of share.old }
+{
+    while share.notices() > 0 {
+        barrier.notify(share);
+    }
+}

@@ -1,0 +1,5 @@
+//! Tests of ranges that are cut into blocks.
+#![tactic(auto)]
+
+#[cfg(test)]
+mod cuts;

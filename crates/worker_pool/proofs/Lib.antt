@@ -1,0 +1,4 @@
+pub mod Bags
+pub mod Growing
+pub mod Runnings
+pub mod Tallies

@@ -1,0 +1,24 @@
+use Rattle.std.proofs.Common.{rules, refl, ◌∙◌}
+use Rattle.worker_pool.proofs.Tallies.{account-more, account-same}
+use Rattle.worker_pool.proofs.worker.take_turns.Goals as goal
+
+pub loop-preserved-in-Found : goal.loop-preserved-in-Found
+loop-preserved-in-Found g c = record {
+  can = tt;
+  finite = tt;
+  owner = c.begin-more.ensures.ready;
+  stop_seat = c.in-Found.ensures.stop;
+  account = account-more _ _ c.in-Found.job _ _ _ _ _ _ _ _ _ _ _ _ c.loop.invariant.account refl
+      c.in-Found.ensures.puts
+      (λ on. c.begin-more.ensures.takes on ∙ c.in-Found.ensures.takes on)
+      c.begin-more.ensures.ran (search rules);
+}
+
+pub returns-in-Last : goal.returns-in-Last
+returns-in-Last g c = record {
+  owner = c.in-Last.ensures.owner;
+  stop_seat = c.in-Last.ensures.stop;
+  walks = c.requires.walks;
+  account = account-same _ _ _ _ _ _ _ _ _ c.loop.invariant.account c.in-Last.ensures.takes
+      c.in-Last.ensures.puts;
+}

@@ -1,0 +1,17 @@
+use Rattle.worker_pool.specs.Accounts.{Account}
+use Rattle.worker_pool.specs.Seats.{IsOwner}
+use Rattle.worker_pool.specs.Steps.{IsStep}
+use Rattle.worker_pool.specs.Stops.{IsStopSeatOf}
+use Rattle.std.proofs.Common.{[]}
+use Rattle.worker_pool.proofs.worker.take_turns.Given as goal
+
+-- the seats are the pool's, and what ran so far lies between what was taken and what was put
+abbrev pub invariant-loop : goal.invariant-loop
+invariant-loop g l = record {
+  can : (goal.iterator-loop g).can_next l.iterator';
+  finite : (goal.iterator-loop g).is_finite l.iterator';
+  owner : IsOwner g.R.Rows g.W.WaitPoint l.pool.ground l.owner.row l.owner.waker;
+  stop_seat : IsStopSeatOf l.pool.stop.shared l.stop;
+  account : Account g.R.Rows.keeps_accounts (IsStep g.J.Job.weight_of g.J.Job.allows l.ctx)
+      (g.R.Rows.takes_of l.owner.row) (g.R.Rows.puts_of l.owner.row) l.outs.items [] l.refused;
+}

@@ -1,0 +1,13 @@
+pub use Rattle.run_queue.specs.Bag
+pub mod Accounts
+pub mod Callers
+pub mod Desks
+pub mod Nodes
+pub mod Ran
+pub mod Seats
+pub mod Setup
+pub mod Steps
+pub mod StopPlays
+pub mod Stops
+pub mod Turns
+pub mod Works

@@ -1,0 +1,56 @@
+-- What became of single jobs.
+use Rattle.std.specs.Prelude.{◌≡◌, ℕ, ◌+◌, List, [], ◌∷◌, map, Option, Some, None}
+use Rattle.std.specs.List.{flat_map}
+use Rattle.worker_pool.specs.declared.job.Progress.{Progress}
+use Rattle.worker_pool.specs.declared.job.Progress.TheVariants as progress
+
+-- The steps from the job on, each on the rest of the one before, fork these kids in this order, and
+-- end in the out, or in none where memory was refused or the job was abandoned.
+pub data Runs {J O : Type 0} (steps : J → Progress J O → Type 0) : J → List J → Option O → Type 0 where
+  ends : (job : J) (out : O) → steps job (progress.Done out) → Runs steps job [] (Some out)
+  stops : (job : J) → Runs steps job [] None
+  forks : (job kid rest : J) (kids : List J) (out : Option O) → steps job (progress.Fork kid rest)
+      → Runs steps rest kids out → Runs steps job (kid ∷ kids) out
+
+-- a job that left its out, one that was refused memory or abandoned, and one that was never run
+pub data Node (J O : Type 0) : Type 0 where
+  Done : (job : J) (out : O) (kids : List J) → Node J O
+  Refused : (job : J) (kids : List J) → Node J O
+  Left : (job : J) → Node J O
+
+module _ {J O : Type 0} where
+  -- the node's job
+  abbrev pub job_of : Node J O → J
+  job_of (Done job out kids) = job
+  job_of (Refused job kids) = job
+  job_of (Left job) = job
+
+  -- the kids that the job forked
+  abbrev pub kids_of : Node J O → List J
+  kids_of (Done job out kids) = kids
+  kids_of (Refused job kids) = kids
+  kids_of (Left job) = []
+
+  -- the out that the job left, if it left one
+  abbrev pub outs_of : Node J O → List O
+  outs_of (Done job out kids) = out ∷ []
+  outs_of (Refused job kids) = []
+  outs_of (Left job) = []
+
+  -- the job, where it was never run
+  abbrev pub left_of : Node J O → List J
+  left_of (Done job out kids) = []
+  left_of (Refused job kids) = []
+  left_of (Left job) = job ∷ []
+
+  -- 1 where the job was refused
+  abbrev pub refusals_of : Node J O → ℕ
+  refusals_of (Done job out kids) = 0
+  refusals_of (Refused job kids) = 1
+  refusals_of (Left job) = 0
+
+  -- the job's steps lead to what the node says
+  abbrev pub IsLawful : (J → Progress J O → Type 0) → Node J O → Type 0
+  IsLawful steps (Done job out kids) = Runs steps job kids (Some out)
+  IsLawful steps (Refused job kids) = Runs steps job kids None
+  IsLawful steps (Left job) = Unit {0}

@@ -1,0 +1,46 @@
+-- What the run of one job makes of the lists of the one that runs it.
+use Rattle.std.specs.Prelude.{◌≡◌, ℕ, ◌+◌, List, [], ◌++◌, map, sum_by, All, Option, Some, None}
+use Rattle.std.specs.Prelude.{option_to_list}
+use Rattle.std.specs.List.{flat_map}
+use Rattle.run_queue.specs.Bag.{total}
+use Rattle.worker_pool.specs.declared.job.Progress.{Progress}
+use Rattle.worker_pool.specs.Nodes.{Runs, Node, Done, Refused, IsLawful, job_of, kids_of, outs_of}
+use Rattle.worker_pool.specs.Nodes.{left_of, refusals_of}
+use Rattle.worker_pool.specs.Accounts.{counted}
+
+-- 1 where a run ended with no out
+abbrev pub refusal : {O : Type 0} → Option O → ℕ
+refusal None = 1
+refusal (Some out) = 0
+
+-- The job ran, and so did those of its kids that weren't passed on, and theirs: these are the
+-- others. Outs, jobs passed on and refusals are more by what they left.
+pub record Ran {J O : Type 0} (keeps : Type 0) (steps : J → Progress J O → Type 0) (job : J)
+    (puts puts_then : List J) (outs outs_then : List O) (refused : ℕ) : Type 0 where
+  pub others : List (Node J O)
+  pub kids : List J
+  pub out : Option O
+  pub passed : List J
+  pub main : Runs steps job kids out
+  pub lawful : All (IsLawful steps) others
+  pub none_left : flat_map left_of others ≡ []
+  pub outs_are : outs_then ≡ outs ++ (flat_map outs_of others ++ option_to_list out)
+  pub puts_are : keeps → puts_then ≡ puts ++ passed
+  pub refused_are : refused ≡ counted (sum_by refusals_of others + refusal out)
+  pub balance : keeps → (weight : J → ℕ)
+      → total weight (map job_of others) + total weight passed
+      ≡ total weight kids + total weight (flat_map kids_of others)
+
+-- the job was passed on, or it ran and left these nodes
+pub record Went {J O : Type 0} (keeps : Type 0) (steps : J → Progress J O → Type 0) (job : J)
+    (puts puts_then : List J) (outs outs_then : List O) (refused : ℕ) : Type 0 where
+  pub nodes : List (Node J O)
+  pub passed : List J
+  pub lawful : All (IsLawful steps) nodes
+  pub none_left : flat_map left_of nodes ≡ []
+  pub outs_are : outs_then ≡ outs ++ flat_map outs_of nodes
+  pub puts_are : keeps → puts_then ≡ puts ++ passed
+  pub refused_are : refused ≡ counted (sum_by refusals_of nodes)
+  pub balance : keeps → (weight : J → ℕ)
+      → total weight (map job_of nodes) + total weight passed
+      ≡ weight job + total weight (flat_map kids_of nodes)

@@ -1,0 +1,46 @@
+-- What the seats of a pool's threads are, while they work.
+use Rattle.std.specs.Prelude.{◌≡◌, ℕ, ◌<◌, ◌≤◌, List, []}
+use Rattle.event_word.specs.declared.phase.Phase.{Phase}
+use Rattle.event_word.specs.declared.phase.Phase.TheVariants.{Running}
+use Rattle.event_count.specs.declared.wait_point.WaitPoint as wait_point
+use Rattle.run_queue.specs.declared.rows.Rows as rows
+use Rattle.run_queue.specs.Limits.{most_rows}
+use Rattle.worker_pool.specs.declared.ground.Ground.{Ground}
+
+module _ {W A T : Type 0} (point : wait_point.Ghosts W A T) where
+  -- a seat of this point, that runs and owes nobody a wake
+  pub record IsIdle (at : W) (seat : T) : Type 0 where
+    pub ours : point.point_of seat ≡ point.identity_of at
+    pub running : point.phase_of seat ≡ Running
+    pub owes_none : point.owing_of seat ≡ []
+
+  -- one of this point's waiters, that runs and owes nobody a wake
+  pub record IsWaiter (at : W) (seat : T) : Type 0 where
+    pub idle : IsIdle at seat
+    pub waiter : point.number_of seat < point.waiter_count at
+
+module _ {R J A S : Type 0} (row : rows.Ghosts R J A S) where
+  -- a seat of these rows that owns one of them
+  pub record OwnsRow (at : R) (seat : S) : Type 0 where
+    pub ours : row.rows_of seat ≡ row.identity_of at
+    pub owner : row.number_of seat < row.row_count at
+
+module _ {R J A S W T : Type 0} (row : rows.Ghosts R J A S) (point : wait_point.Ghosts W A T) where
+  -- there are rows and waiters for each worker of the setup
+  pub record IsGround (ground : Ground W R) : Type 0 where
+    pub some : 0 < ground.workers
+    pub few : ground.workers ≤ most_rows
+    pub rows : row.row_count ground.rows ≡ ground.workers
+    pub waiters : point.waiter_count ground.point ≡ ground.workers
+
+  -- the seats of the thread that opened the pool
+  pub record IsOpener (ground : Ground W R) (seat : S) (waker : T) : Type 0 where
+    pub sized : IsGround ground
+    pub ours : row.rows_of seat ≡ row.identity_of ground.rows
+    pub idle : IsIdle point ground.point waker
+
+  -- the seats of a worker
+  pub record IsOwner (ground : Ground W R) (seat : S) (waker : T) : Type 0 where
+    pub sized : IsGround ground
+    pub owns : OwnsRow row ground.rows seat
+    pub waits : IsWaiter point ground.point waker

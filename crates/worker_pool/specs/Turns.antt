@@ -1,0 +1,10 @@
+-- What the turns of a worker find.
+use Rattle.std.specs.Prelude.{List, [], ◌∷◌}
+use Rattle.worker_pool.specs.declared.worker.Turn.{Turn}
+use Rattle.worker_pool.specs.declared.worker.Turn.TheVariants.{Found, Again, Last}
+
+-- the job that a turn found, if it found one
+abbrev pub jobs_in : {J : Type 0} → Turn J → List J
+jobs_in (Found job) = job ∷ []
+jobs_in Again = []
+jobs_in Last = []

@@ -1,0 +1,78 @@
+//! The one that opened a pool, as its body sees it.
+ghost use Rattle.std.specs.Prelude.{◌≡◌, ◌≤◌, [], ◌∷◌, ◌++◌};
+ghost use Rattle.worker_pool.specs.Callers.{IsCaller, StaysCaller, roots_of, started_of};
+ghost use Rattle.worker_pool.specs.Callers.{workers_of};
+
+use crate::ground::Ground;
+use crate::job::Job;
+use crate::lists::Lists;
+use crate::opener::Opener;
+use crate::passes::Passes;
+use crate::run::begin;
+use crate::stop;
+use crate::stop::{StopSeat, StopWord};
+use event_count::WaitPoint;
+use run_queue::Rows;
+use std::alloc::Allocator;
+use std::sync::Wait;
+
+/// What a pool lends its body: jobs are scheduled through it.
+pub struct Caller<
+    'p,
+    J: Job<A>,
+    A: Allocator,
+    W: WaitPoint<A>,
+    R: Rows<J, A>,
+    L: Lists<J::Out, A>,
+> {
+    pub(crate) ground: &'p Ground<W, R>,
+    pub(crate) stop: &'p StopWord<J>,
+    pub(crate) alloc: &'p A,
+    pub(crate) ctx: &'p J::Ctx,
+    pub(crate) opener: Opener<J, A, W, R>,
+    pub(crate) scheduled: StopSeat<J>,
+    pub(crate) outs: L::List,
+    pub(crate) refused: u64,
+}
+
+impl<'p, J, A, W, R, L> Caller<'p, J, A, W, R, L>
+where
+    J: Job<A> + Drop,
+    J::Out: Drop,
+    A: Allocator + Clone,
+    W: WaitPoint<A>,
+    R: Rows<J, A>,
+    L: Lists<J::Out, A>,
+{
+    /// Schedules a job: it goes to the back of a row that a random word picks, and one worker is
+    /// woken. Where the row is full, or no worker was started, the job is run at once.
+    pub fn schedule<RT: Wait>(&mut self, rt: &RT, job: J)
+        requires { IsCaller R.Rows W.WaitPoint J.Job L.Lists self.old }
+        ensures caller { StaysCaller R.Rows W.WaitPoint J.Job L.Lists self.old self.new }
+        ensures more { roots_of self.new ≡ roots_of self.old ++ job ∷ [] }
+    {
+        stop::note(self.stop, &mut self.scheduled, &job);
+        let Err(job) = self.opener.pass(rt, self.ground, job) else {
+            return;
+        };
+        let refused = begin::<RT, J, A, L, Opener<J, A, W, R>>(
+            rt,
+            self.alloc,
+            self.ctx,
+            self.ground,
+            &mut self.opener,
+            &mut self.outs,
+            job,
+        );
+        self.refused = self.refused.saturating_add(refused);
+    }
+
+    /// How many workers were started: at most those that the pool was set up with.
+    pub fn workers(&self) -> u32
+        requires { IsCaller R.Rows W.WaitPoint J.Job L.Lists self.now }
+        ensures started { result ≡ started_of self.now }
+        ensures few { result ≤ workers_of self.now }
+    {
+        self.opener.started
+    }
+}

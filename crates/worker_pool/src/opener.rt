@@ -1,0 +1,58 @@
+//! How the thread that opened a pool passes jobs on.
+ghost use Rattle.std.specs.Prelude.{◌≡◌, ℕ, ◌+◌, ◌<◌, ◌≤◌, List};
+
+use crate::ground::Ground;
+use crate::passes::Passes;
+use event_count::WaitPoint;
+use rand_core::utils::NextWord;
+use rand_pcg::Lcg64Xsh32;
+use run_queue::Rows;
+use std::alloc::Allocator;
+use std::marker::PhantomData;
+use std::sync::Wait;
+
+/// The seats of the thread that opened a pool.
+#[derive(Drop)]
+pub(crate) struct Opener<J, A: Allocator, W: WaitPoint<A>, R: Rows<J, A>> {
+    pub(crate) row: R::Seat,
+    pub(crate) waker: W::Seat,
+    pub(crate) words: Lcg64Xsh32,
+    /// How many workers were started.
+    pub(crate) started: u32,
+    pub(crate) of: PhantomData<(J, A)>,
+}
+
+impl<J, A: Allocator, W: WaitPoint<A>, R: Rows<J, A>> Passes<J> for Opener<J, A, W, R> {
+    ghost use Rattle.worker_pool.specs.Seats.{IsOpener};
+
+    type Place = Ground<W, R>;
+
+    ghost is_ready = { λ ground opener. IsOpener R.Rows W.WaitPoint ground opener.row opener.waker };
+
+    ghost number_of = { λ opener. opener.started };
+
+    ghost keeps_accounts = { R.keeps_accounts };
+
+    ghost puts_of = { λ opener. R.puts_of opener.row };
+
+    ghost takes_of = { λ opener. R.takes_of opener.row };
+
+    // To the back of a row that a random word picks, where a worker was started.
+    fn pass<RT: Wait>(&mut self, rt: &RT, ground: &Ground<W, R>, job: J) -> Result<(), J> {
+        if self.started == 0 {
+            return Err(job);
+        }
+        let row = row_at(self.words.next_word(), ground.workers);
+        ground.rows.put_back(rt, &mut self.row, row, job)?;
+        ground.point.wake_one(rt, &mut self.waker);
+        Ok(())
+    }
+}
+
+// The row that stands among the rows where the word stands among the words of 32 bits.
+fn row_at(word: u32, rows: u16) -> u16
+    requires { 0 < rows }
+    ensures { result < rows }
+{
+    ((u64::from(word) * u64::from(rows)) >> 32) as u16
+}
