@@ -66,3 +66,16 @@ fn dims_over_those_of_the_operands(rt: HostRuntime) -> Result<(), Fail> {
     }
     Ok(())
 }
+
+// 1,024 by 1,024 by 1,024: as many products as there may be.
+#[test]
+fn dims_of_the_largest_contraction(rt: HostRuntime) -> Result<(), Fail> {
+    let square = r#"["broadcast","a",[1024,1024]]"#;
+    let expr = format!(in rt.alloc(); r#"["contract",{square},{square},[[1,0]]]"#)?;
+    let inputs = r#"{"a":{"dims":[1,1],"data":[1]}}"#;
+    let text = request(rt.alloc(), inputs, expr.as_str())?;
+    let request = read_request(rt.alloc(), text.as_bytes())?;
+    let dims = request.expr.dims(&request.inputs)?;
+    assert_eq!(rt; dims.as_slice(), [1024, 1024].as_slice());
+    Ok(())
+}
