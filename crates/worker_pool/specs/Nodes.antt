@@ -6,7 +6,8 @@ use Rattle.worker_pool.specs.declared.job.Progress.TheVariants as progress
 
 -- The steps from the job on, each on the rest of the one before, fork these kids in this order, and
 -- end in the out, or in none where memory was refused or the job was abandoned.
-pub data Runs {J O : Type 0} (steps : J → Progress J O → Type 0) : J → List J → Option O → Type 0 where
+pub data Runs {J O : Type 0} (steps : J → Progress J O → Type 0)
+    : J → List J → Option O → Type 0 where
   ends : (job : J) (out : O) → steps job (progress.Done out) → Runs steps job [] (Some out)
   stops : (job : J) → Runs steps job [] None
   forks : (job kid rest : J) (kids : List J) (out : Option O) → steps job (progress.Fork kid rest)
