@@ -4,6 +4,8 @@
 #[cfg(test)]
 mod made;
 #[cfg(test)]
+mod pairs;
+#[cfg(test)]
 mod points;
 #[cfg(test)]
 mod seats;

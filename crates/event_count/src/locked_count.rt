@@ -14,9 +14,6 @@ use event_word::{Event, Phase};
 use std::alloc::{AllocError, Allocator, Global};
 use std::sync::{Condvar, Mutex, MutexGuard, Wait};
 
-#[cfg(test)]
-mod tests;
-
 /// A count behind one lock. Whenever the lock is free, what it holds is a lawful World without
 /// rows.
 #[derive(Drop)]

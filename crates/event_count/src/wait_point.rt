@@ -22,7 +22,7 @@ use std::sync::Wait;
 ///
 /// `EventCount` is one without a lock, and `LockedCount` the plain one, behind a lock.
 pub trait WaitPoint<A: Allocator>: Sized + Drop {
-    type Seat: Send + Drop;
+    type Seat: Drop;
 
     // How many seats may wait, and how many seats there are.
     ghost waiter_count: { Self → ℕ };

@@ -14,8 +14,10 @@ use Rattle.serde_json.specs.Data.{Members, no_members, member, put}
 use Rattle.serde_json.specs.Events.{members_len}
 use Rattle.serde_json.specs.Find.{get_member, get, as_object}
 use Rattle.serde_json.specs.Read.{number_of, of_json, of_items, of_members, max_depth, read}
+use Rattle.tensor_ops.specs.Contents.{Contents}
 use Rattle.expr_reader.specs.Counted.{member_count, count_in_items, count_in_members}
-use Rattle.expr_reader.specs.Fields.{Fields, has_members, fields_of, reading}
+use Rattle.expr_reader.specs.Fields.{Fields, has_members, cons_of, fields_of, reading}
+use Rattle.expr_reader.specs.Tensors.{Named, tensor_in, tensors_in, names_in, named_in}
 use Rattle.expr_reader.proofs.Grammar as tree
 use Rattle.expr_reader.proofs.Grammar.{tree_count, Fits, Fits-more, Fits-value}
 use Rattle.expr_reader.proofs.Tokens.{length-tokens}
@@ -161,3 +163,35 @@ members_len-as_object d ms is = subst (AtMost members_len (member_count d)) is (
     all (string s) = tt
     all (array ds) = tt
     all (object ms) = members_len-le-count ms
+
+-- there are no more tensors than members
+AtMost-cons_of : (head : Option Contents) (rest : Option (List Contents)) (m n : ℕ) → suc m ≤ n
+    → AtMost length m rest → AtMost length n (cons_of head rest)
+AtMost-cons_of None rest m n more h = tt
+AtMost-cons_of (Some x) rest m n more h =
+    AtMost-option_map length length m n (λ xs. x ∷ xs) (λ xs few. omega arith) rest h
+
+AtMost-tensors_in : (rank : ℕ) (ms : Members)
+    → AtMost length (count_in_members ms) (tensors_in rank ms)
+AtMost-tensors_in rank no_members = omega arith
+AtMost-tensors_in rank (member name d ms) =
+    AtMost-cons_of (tensor_in rank d) (tensors_in rank ms) (count_in_members ms)
+    (count_in_members (member name d ms)) (omega arith) (AtMost-tensors_in rank ms)
+
+pub length-named_in : (rank : ℕ) (d : Data) (n : Named) → named_in rank d ≡ Some n
+    → length n.tensors ≤ member_count d
+length-named_in rank d n is = subst (AtMost tensor_count (member_count d)) is (all d)
+  where
+    tensor_count : Named → ℕ
+    tensor_count named = length named.tensors
+
+    all : (d : Data) → AtMost tensor_count (member_count d) (named_in rank d)
+    all null = tt
+    all (boolean b) = tt
+    all (number x) = tt
+    all (string s) = tt
+    all (array ds) = tt
+    all (object ms) =
+        AtMost-option_map length tensor_count (count_in_members ms) (count_in_members ms)
+        (λ tensors. record { names = names_in ms; tensors = tensors }) (λ tensors few. few)
+        (tensors_in rank ms) (AtMost-tensors_in rank ms)

@@ -6,4 +6,5 @@ pub mod Lists
 pub mod Members
 pub mod Numbers
 pub mod Tokens
+pub mod Trees
 pub mod Walk

@@ -5,6 +5,10 @@ use Rattle.std.specs.Prelude.{ℕ}
 abbrev pub most_bytes : ℕ
 most_bytes = 16777216
 
+-- the most workers of any version
+abbrev pub most_workers : ℕ
+most_workers = 64
+
 -- the greatest block
 abbrev pub greatest_block : ℕ
 greatest_block = 1048576

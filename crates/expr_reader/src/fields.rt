@@ -1,6 +1,6 @@
 //! The parse of a text, its fields, and the whole numbers in it.
 
-ghost use Rattle.std.specs.Prelude.{◌≡◌, option_map};
+ghost use Rattle.std.specs.Prelude.{◌≡◌, ◌≤◌, IfSome, option_map};
 ghost use Rattle.serde_json.specs.View.{view};
 ghost use Rattle.expr_reader.specs.Fields.{reading, has_members, within, fields_of};
 ghost use Rattle.expr_reader.specs.Outcome.{IsReadOr};
@@ -35,7 +35,8 @@ pub(crate) fn has_members(value: &Value, count: usize) -> bool
 
 /// A whole number within these bounds.
 pub(crate) fn within(value: &Value, least: u64, most: u64) -> Option<u64>
-    ensures { result ≡ within least most (view value.now) }
+    ensures value { result ≡ within least most (view value.now) }
+    ensures bounds { IfSome result (λ number. (least ≤ number) × (number ≤ most)) }
 {
     let number = value.as_u64()?;
     if least <= number && number <= most {

@@ -1,9 +1,10 @@
 //! The request that a text names.
 
-ghost use Rattle.std.specs.Prelude.{IsTrue, IsOk, length};
+ghost use Rattle.std.specs.Prelude.{◌+◌, ◌^◌, ◌<◌, ◌≤◌, IsTrue, IsOk, length};
 ghost use Rattle.tensor_ops.specs.Result.{dims_of};
-ghost use Rattle.tensor_ops.specs.Term.{has_inputs};
+ghost use Rattle.tensor_ops.specs.Term.{has_inputs, nodes_of};
 ghost use Rattle.tensor_ops.specs.Tree.{term_of};
+ghost use Rattle.expr_reader.specs.Limits.{most_workers};
 
 use tensor_ops::{Expr, Inputs};
 
@@ -21,4 +22,8 @@ pub struct Request {
     pub expr: Expr,
     pub ghost has_inputs: { IsTrue (has_inputs (term_of expr) (length inputs)) },
     pub ghost has_dims: { IsOk (dims_of (term_of expr) inputs) },
+    pub ghost some_workers: { 1 ≤ workers },
+    pub ghost few_workers: { workers ≤ most_workers },
+    pub ghost some_block: { 1 ≤ block },
+    pub ghost few: { length inputs + nodes_of (term_of expr) < 2 ^ 32 },
 }

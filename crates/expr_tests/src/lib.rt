@@ -2,8 +2,6 @@
 #![tactic(auto)]
 
 #[cfg(test)]
-mod cursors;
-#[cfg(test)]
 mod dims;
 #[cfg(test)]
 mod faults;

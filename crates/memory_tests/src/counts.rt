@@ -1,5 +1,7 @@
+ghost use Rattle.std.specs.Prelude.{◌<◌};
+
 use crate::refusing::Sparing;
-use event_count::{CountFault, EventCount};
+use event_count::{CountFault, EventCount, LockedCount, WaitPoint};
 use std::alloc::Allocator;
 
 // How many seats a new count has, for one notifier, and the word that it is closed at.
@@ -50,4 +52,28 @@ fn each_allocation_of_a_count_at_the_last_epoch(rt: HostRuntime) {
     let heap = Sparing::new(rt.alloc(), 4);
     assert_eq!(rt; seats_and_word_at_the_last(&heap, 2), Ok((3, 0x3FFF)));
     assert_eq!(rt; seats_and_word_at_the_last(rt.alloc(), 2), Ok((3, 0x3FFF)));
+}
+
+// The same, of a count behind a lock.
+fn locked_seats_and_word<A: Allocator + Clone>(
+    alloc: A,
+    waiters: u16,
+) -> Result<(usize, u64), CountFault>
+    requires { 0 < waiters }
+{
+    let (count, seats) = LockedCount::open(alloc, waiters, 1)?;
+    Ok((seats.len(), count.shut(seats)))
+}
+
+// The World takes six blocks, and the seats one.
+#[test]
+fn each_allocation_of_a_locked_count(rt: HostRuntime) {
+    for left in 0..7 {
+        let heap = Sparing::new(rt.alloc(), left);
+        let fault = locked_seats_and_word(&heap, 2);
+        assert_eq!(rt; fault, Err(CountFault::NoMemory), "after {left}");
+    }
+    let heap = Sparing::new(rt.alloc(), 7);
+    assert_eq!(rt; locked_seats_and_word(&heap, 2), Ok((3, 0x3FFF)));
+    assert_eq!(rt; locked_seats_and_word(rt.alloc(), 2), Ok((3, 0x3FFF)));
 }

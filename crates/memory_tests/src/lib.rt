@@ -11,6 +11,8 @@ mod coprimes;
 #[cfg(test)]
 mod counts;
 #[cfg(test)]
+mod leaves;
+#[cfg(test)]
 mod refusing;
 #[cfg(test)]
 mod rows;

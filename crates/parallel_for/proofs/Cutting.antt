@@ -1,7 +1,9 @@
 -- Ranges that are cut after a number of whole blocks.
-use Rattle.std.proofs.Common.{◌≡◌, ℕ, ◌+◌, ◌-◌, ◌*◌, ◌/◌, ◌%◌, ◌<◌, ◌≤◌, min, List, ◌++◌, map}
+use Rattle.std.proofs.Common.{◌≡◌, inl, inr, ℕ, ◌+◌, ◌-◌, ◌*◌, ◌/◌, ◌%◌, ◌<◌, ◌≤◌, min}
+use Rattle.std.proofs.Common.{List, [], ◌∷◌, ◌++◌, map}
 use Rattle.std.proofs.Common.{ap, sym, ◌∙◌, arith}
 use Rattle.std.proofs.Math.Nat.{add-mul-div_right, add-mul-mod_self_right, mul-le-mul_right}
+use Rattle.std.proofs.Math.Nat.{div-eq_of_lt, mod-eq_of_lt, eq-or-lt_of_le}
 use Rattle.std.proofs.lemmas.Grind.{div_ceil_times}
 use Rattle.std.specs.List.{range_with_len}
 use Rattle.parallel_for.specs.Leaves.{Range, blocks_of, leaf, leaves_of}
@@ -103,3 +105,26 @@ leaf-worked_out n b i some below =
     let end : i * b + min b (n - i * b) ≡ 0 + min ((i + 1) * b) (n - 0) =
     omega (arith, times-add i 1 b) in
     (λ k. (start k, end k))
+
+-- places that fit into a block
+blocks_of-short : (n b : ℕ) → 0 < n → n ≤ b → blocks_of n b ≡ 1
+blocks_of-short n b some short = elim (eq-or-lt_of_le short) [
+  | inl same ↦
+      let once : n ≡ 1 * b = omega (arith, same) in
+      ap (λ (m : ℕ). blocks_of m b) once ∙ blocks_of-whole 1 b (omega arith)
+  | inr less ↦
+      let q : n / b ≡ 0 = div-eq_of_lt less in
+      let r : n % b ≡ n = mod-eq_of_lt less in
+      rw (q, r) (omega arith)
+]
+
+-- a range of at most a block is its own leaf
+pub leaves_of-short : (first last b : ℕ) → first < last → last - first ≤ b
+    → leaves_of first last b ≡ (first, last) ∷ []
+leaves_of-short first last b some short =
+    let n = last - first in
+    let start : first + 0 * b ≡ first = omega arith in
+    let end : first + min ((0 + 1) * b) n ≡ last = omega arith in
+    ap (λ (m : ℕ). map (leaf first n b) (range_with_len 0 m))
+    (blocks_of-short n b (omega arith) short)
+    ∙ (λ i. (start i, end i) ∷ [])

@@ -3,3 +3,4 @@ pub mod Cutting
 pub mod Rows
 pub mod Moves
 pub mod Outs
+pub mod Covering

@@ -6,6 +6,7 @@ use Rattle.std.proofs.Common.{refl, ap, sym, ◌∙◌, arith, rules}
 use Rattle.std.proofs.lemmas.Bool.Decides.{nat_tests}
 use Rattle.std.specs.List.{range_with_len, slice_get}
 use Rattle.run_queue.specs.Bag.{total, SameBag}
+use Rattle.worker_pool.proofs.Bags.{total-append}
 use Rattle.parallel_for.specs.Leaves.{Range, blocks_of, leaf, leaves_of}
 use Rattle.parallel_for.specs.Table.{missing, AreAmong, IsTaken}
 use Rattle.parallel_for.proofs.Rows.{missing-blank, Contains-from}
@@ -54,10 +55,6 @@ place-of r (s ∷ rs) some = elim (is_range-cases r s) [
   | inl same ↦ (zero, ap (λ (x : Range). Some x) (sym same))
   | inr other ↦ let rest = place-of r rs (omega arith) in (suc rest.0, rest.1)
 ]
-
-total-append : (h : Range → ℕ) (rs ss : List Range) → total h (rs ++ ss) ≡ total h rs + total h ss
-total-append h [] ss = omega arith
-total-append h (r ∷ rs) ss = let rest = total-append h rs ss in omega arith
 
 no-weight : (rs : List Range) → total (λ r. 1) rs ≡ 0 → rs ≡ []
 no-weight [] none = refl

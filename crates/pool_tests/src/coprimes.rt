@@ -5,16 +5,18 @@ use steal_walk::Coprimes;
 
 #[test]
 fn lists_the_coprimes(rt: HostRuntime) -> Result<(), Fail> {
-    let coprimes = Coprimes::new(rt.alloc(), 6)?;
-    assert_eq!(rt; coprimes.numbers(), [1, 5].as_slice());
-    let coprimes = Coprimes::new(rt.alloc(), 1)?;
-    assert_eq!(rt; coprimes.numbers(), [1].as_slice());
-    let coprimes = Coprimes::new(rt.alloc(), 2)?;
-    assert_eq!(rt; coprimes.numbers(), [1].as_slice());
-    let coprimes = Coprimes::new(rt.alloc(), 7)?;
-    assert_eq!(rt; coprimes.numbers(), [1, 2, 3, 4, 5, 6].as_slice());
-    let coprimes = Coprimes::new(rt.alloc(), 12)?;
-    assert_eq!(rt; coprimes.numbers(), [1, 5, 7, 11].as_slice());
+    let table: [(u32, &[u32]); 5] = [
+        (6, &[1, 5]),
+        (1, &[1]),
+        (2, &[1]),
+        (7, &[1, 2, 3, 4, 5, 6]),
+        (12, &[1, 5, 7, 11]),
+    ];
+    for (n, numbers) in table {
+        assert!(rt; n > 0);
+        let coprimes = Coprimes::new(rt.alloc(), n)?;
+        assert_eq!(rt; coprimes.numbers(), numbers, "of {n}");
+    }
     Ok(())
 }
 

@@ -5,13 +5,18 @@ use steal_walk::{Partition, PartitionFault};
 
 #[test]
 fn takes_rows_of_the_pool_alone(rt: HostRuntime) -> Result<(), Fail> {
-    assert_eq!(rt; Partition::new(0, 0, 4), Err(PartitionFault::Empty));
-    assert_eq!(rt; Partition::new(2, 5, 4), Err(PartitionFault::OutOfPool));
-    assert_eq!(rt;
-        Partition::new(5, 5, 4),
-        Err(PartitionFault::Empty),
-        "the first fault"
-    );
+    // The first fault is told, also where there are both.
+    for (start, limit, fault) in [
+        (0, 0, PartitionFault::Empty),
+        (2, 5, PartitionFault::OutOfPool),
+        (5, 5, PartitionFault::Empty),
+    ] {
+        assert_eq!(rt;
+            Partition::new(start, limit, 4).err(),
+            Some(fault),
+            "{start} to {limit}"
+        );
+    }
     let partition = Partition::new(2, 4, 4)?;
     assert_eq!(rt; (partition.start(), partition.limit()), (2, 4));
     Ok(())
@@ -19,17 +24,15 @@ fn takes_rows_of_the_pool_alone(rt: HostRuntime) -> Result<(), Fail> {
 
 #[test]
 fn names_its_faults(rt: HostRuntime) -> Result<(), Fail> {
-    let empty = format!(in rt.alloc();
-        "{} {}",
-        PartitionFault::Empty as u8,
-        PartitionFault::Empty
-    )?;
-    assert_eq!(rt; empty.as_str(), "1 the partition is empty");
-    let outside = format!(in rt.alloc();
-        "{} {}",
-        PartitionFault::OutOfPool as u8,
-        PartitionFault::OutOfPool
-    )?;
-    assert_eq!(rt; outside.as_str(), "2 the partition ends outside the pool");
+    for (fault, text) in [
+        (PartitionFault::Empty, "1 the partition is empty"),
+        (
+            PartitionFault::OutOfPool,
+            "2 the partition ends outside the pool",
+        ),
+    ] {
+        let told = format!(in rt.alloc(); "{} {fault}", fault as u8)?;
+        assert_eq!(rt; told.as_str(), text);
+    }
     Ok(())
 }

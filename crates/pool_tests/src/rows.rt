@@ -8,9 +8,12 @@ fn one_job_at_the_back(rt: HostRuntime) -> Result<(), Fail> {
     let (rows, mut seats) = LockedRows::<u32>::open(rt.alloc(), 2, 1)?;
     assert_eq!(rt; seats.len(), 3);
     let outsider = &mut seats[2];
-    assert_eq!(rt; rows.put_back(&rt, outsider, 1, 7), Ok(()));
-    assert_eq!(rt; rows.row_length(&rt, outsider, 0), 0);
-    assert_eq!(rt; rows.row_length(&rt, outsider, 1), 1);
+    let put = rows.put_back(&rt, outsider, 1, 7);
+    let lengths = [
+        rows.row_length(&rt, outsider, 0),
+        rows.row_length(&rt, outsider, 1),
+    ];
+    assert_eq!(rt; (put, lengths), (Ok(()), [0, 1]));
     let left = rows.drain_all(seats);
     assert_eq!(rt; left.as_slice(), [7].as_slice());
     Ok(())
@@ -21,12 +24,15 @@ fn an_owner_at_the_front(rt: HostRuntime) -> Result<(), Fail> {
     let (rows, mut seats) = LockedRows::<u32>::open(rt.alloc(), 2, 0)?;
     assert_eq!(rt; seats.len(), 2);
     let owner = &mut seats[1];
-    assert_eq!(rt; rows.take_front(&rt, owner), None);
-    assert_eq!(rt; rows.put_front(&rt, owner, 10), Ok(()));
-    assert_eq!(rt; rows.put_front(&rt, owner, 20), Ok(()));
-    assert_eq!(rt; rows.put_back(&rt, owner, 1, 30), Ok(()));
-    assert_eq!(rt; rows.put_front(&rt, owner, 40), Ok(()));
-    assert_eq!(rt; rows.take_front(&rt, owner), Some(40));
+    let first = rows.take_front(&rt, owner);
+    let puts = [
+        rows.put_front(&rt, owner, 10),
+        rows.put_front(&rt, owner, 20),
+        rows.put_back(&rt, owner, 1, 30),
+        rows.put_front(&rt, owner, 40),
+    ];
+    let last = rows.take_front(&rt, owner);
+    assert_eq!(rt; (first, puts, last), (None, [Ok(()); 4], Some(40)));
     let left = rows.drain_all(seats);
     assert_eq!(rt; left.as_slice(), [20, 10, 30].as_slice());
     Ok(())
@@ -36,13 +42,17 @@ fn an_owner_at_the_front(rt: HostRuntime) -> Result<(), Fail> {
 fn a_thief_at_the_back(rt: HostRuntime) -> Result<(), Fail> {
     let (rows, mut seats) = LockedRows::<u32>::open(rt.alloc(), 2, 0)?;
     assert_eq!(rt; seats.len(), 2);
-    assert_eq!(rt; rows.put_front(&rt, &mut seats[1], 20), Ok(()));
-    assert_eq!(rt; rows.put_back(&rt, &mut seats[1], 1, 30), Ok(()));
+    let owner = &mut seats[1];
+    let puts = [
+        rows.put_front(&rt, owner, 20),
+        rows.put_back(&rt, owner, 1, 30),
+    ];
     let thief = &mut seats[0];
-    assert_eq!(rt; rows.take_back(&rt, thief, 1), Some(30));
-    assert_eq!(rt; rows.take_back(&rt, thief, 0), None);
-    assert_eq!(rt; rows.row_length(&rt, thief, 1), 1);
-    assert_eq!(rt; rows.put_back(&rt, thief, 0, 50), Ok(()));
+    let takes = [rows.take_back(&rt, thief, 1), rows.take_back(&rt, thief, 0)];
+    let length = rows.row_length(&rt, thief, 1);
+    let put = rows.put_back(&rt, thief, 0, 50);
+    assert_eq!(rt; (puts, takes), ([Ok(()); 2], [Some(30), None]));
+    assert_eq!(rt; (length, put), (1, Ok(())));
     let left = rows.drain_all(seats);
     assert_eq!(rt; left.as_slice(), [50, 20].as_slice());
     Ok(())
@@ -56,10 +66,11 @@ fn full_row_gives_the_job_back(rt: HostRuntime) -> Result<(), Fail> {
     for job in 0..1024 {
         assert_eq!(rt; rows.put_back(&rt, outsider, 0, job), Ok(()), "job {job}");
     }
-    assert_eq!(rt; rows.put_back(&rt, outsider, 0, 5000), Err(5000));
+    let back = rows.put_back(&rt, outsider, 0, 5000);
     let owner = &mut seats[0];
-    assert_eq!(rt; rows.put_front(&rt, owner, 5001), Err(5001));
-    assert_eq!(rt; rows.row_length(&rt, owner, 0), 1024);
+    let front = rows.put_front(&rt, owner, 5001);
+    let length = rows.row_length(&rt, owner, 0);
+    assert_eq!(rt; (back, front, length), (Err(5000), Err(5001), 1024));
     Ok(())
 }
 

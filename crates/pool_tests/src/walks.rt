@@ -5,21 +5,21 @@ use steal_walk::{Coprimes, Walk};
 
 #[test]
 fn visits_the_rows_that_a_word_picks(rt: HostRuntime) -> Result<(), Fail> {
-    let of_six = Coprimes::new(rt.alloc(), 6)?;
-    let of_five = Coprimes::new(rt.alloc(), 5)?;
-    let of_one = Coprimes::new(rt.alloc(), 1)?;
     let half = 1 << 31;
-
-    let rows = Walk::of(half, 0, 6, &of_six).collect::<Vec<u32>>(rt.alloc())?;
-    assert_eq!(rt; rows.as_slice(), [3, 2, 1, 0, 5, 4].as_slice());
-    let rows = Walk::of(0, 0, 6, &of_six).collect::<Vec<u32>>(rt.alloc())?;
-    assert_eq!(rt; rows.as_slice(), [0, 1, 2, 3, 4, 5].as_slice());
-    let rows = Walk::of(u32::MAX, 10, 16, &of_six).collect::<Vec<u32>>(rt.alloc())?;
-    assert_eq!(rt; rows.as_slice(), [15, 14, 13, 12, 11, 10].as_slice());
-    let rows = Walk::of(half, 2, 7, &of_five).collect::<Vec<u32>>(rt.alloc())?;
-    assert_eq!(rt; rows.as_slice(), [4, 2, 5, 3, 6].as_slice());
-    let rows = Walk::of(half, 0, 1, &of_one).collect::<Vec<u32>>(rt.alloc())?;
-    assert_eq!(rt; rows.as_slice(), [0].as_slice());
+    let table: [(u32, u32, u32, &[u32]); 5] = [
+        (half, 0, 6, &[3, 2, 1, 0, 5, 4]),
+        (0, 0, 6, &[0, 1, 2, 3, 4, 5]),
+        (u32::MAX, 10, 16, &[15, 14, 13, 12, 11, 10]),
+        (half, 2, 7, &[4, 2, 5, 3, 6]),
+        (half, 0, 1, &[0]),
+    ];
+    for (word, start, limit, rows) in table {
+        assert!(rt; start < limit);
+        let coprimes = Coprimes::new(rt.alloc(), limit - start)?;
+        let walk = Walk::of(word, start, limit, &coprimes);
+        let visited = walk.collect::<Vec<u32>>(rt.alloc())?;
+        assert_eq!(rt; visited.as_slice(), rows, "{word} from {start} to {limit}");
+    }
     Ok(())
 }
 

@@ -14,11 +14,10 @@ fn consumes_a_signal(rt: HostRuntime) -> Result<(), Fail> {
         Event::Notify { actor: 1 },
         Event::Commit { seat: 0 },
     ];
-    assert_eq!(rt; world.play(&events), 4);
-    assert_eq!(rt; world.phase(0), Phase::Running);
-    assert_eq!(rt; world.signals(), 0);
-    assert_eq!(rt; world.pre().len(), 0);
-    assert_eq!(rt; world.play(&[Event::Commit { seat: 0 }]), 0);
+    let taken = world.play(&events);
+    let after = (world.phase(0), world.signals(), world.pre().len());
+    let again = world.play(&[Event::Commit { seat: 0 }]);
+    assert_eq!(rt; (taken, after, again), (4, (Phase::Running, 0, 0), 0));
     Ok(())
 }
 
@@ -82,29 +81,32 @@ fn two_asleep(alloc: Global) -> Result<(World, u64), AllocError>
 #[test]
 fn readers_tell_the_lists(rt: HostRuntime) -> Result<(), Fail> {
     let (mut world, taken) = two_asleep(rt.alloc())?;
-    assert_eq!(rt; taken, 7);
-    assert_eq!(rt; world.stack(), [2, 0].as_slice());
-    assert_eq!(rt; world.pre(), [1].as_slice());
-    assert_eq!(rt; world.phase(0), Phase::Stacked);
-    assert_eq!(rt; world.phase(1), Phase::Pre);
-    assert!(rt; world.step(Event::NotifyAll { actor: 3 }));
-    assert_eq!(rt; world.signals(), 1);
-    assert_eq!(rt; world.stack().len(), 0);
+    let lists = (world.stack(), world.pre());
+    assert_eq!(rt; lists, ([2, 0].as_slice(), [1].as_slice()));
+    let phases = [world.phase(0), world.phase(1)];
+    assert_eq!(rt; (taken, phases), (7, [Phase::Stacked, Phase::Pre]));
+    let notified = world.step(Event::NotifyAll { actor: 3 });
+    let after = (world.signals(), world.stack().len());
+    assert_eq!(rt; (notified, after), (true, (1, 0)));
     Ok(())
 }
 
 #[test]
 fn a_notifier_owes_the_stack(rt: HostRuntime) -> Result<(), Fail> {
     let (mut world, _) = two_asleep(rt.alloc())?;
-    assert!(rt; world.step(Event::NotifyAll { actor: 3 }));
-    let owed = [world.owed(3, 0), world.owed(3, 1), world.owed(3, 2)];
-    assert_eq!(rt; owed, [Some(2), Some(0), None]);
-    assert_eq!(rt; world.owed(1, 0), None);
-    assert!(rt; world.step(Event::Unpark { actor: 3 }));
-    assert_eq!(rt; (world.token(0), world.token(2)), (false, true));
-    assert_eq!(rt; world.owed(3, 0), Some(0));
-    assert!(rt; world.step(Event::Wake { seat: 2 }));
-    assert_eq!(rt; world.phase(2), Phase::Running);
-    assert!(rt; !world.token(2));
+    let notified = world.step(Event::NotifyAll { actor: 3 });
+    let owed = [
+        world.owed(3, 0),
+        world.owed(3, 1),
+        world.owed(3, 2),
+        world.owed(1, 0),
+    ];
+    assert_eq!(rt; (notified, owed), (true, [Some(2), Some(0), None, None]));
+    let unparked = world.step(Event::Unpark { actor: 3 });
+    let after = ([world.token(0), world.token(2)], world.owed(3, 0));
+    assert_eq!(rt; (unparked, after), (true, ([false, true], Some(0))));
+    let woken = world.step(Event::Wake { seat: 2 });
+    let after = (world.phase(2), world.token(2));
+    assert_eq!(rt; (woken, after), (true, (Phase::Running, false)));
     Ok(())
 }

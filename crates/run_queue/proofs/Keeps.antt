@@ -152,7 +152,7 @@ module _ {J : Type 0} where
   is_empty busy e = absurd (omega arith)
   is_empty (ready x) e = absurd (omega arith)
 
-  is_busy : (p : Phase J) → 1 ≤ namers_of p → Path (Phase J) p busy
+  pub is_busy : (p : Phase J) → 1 ≤ namers_of p → Path (Phase J) p busy
   is_busy empty e = absurd (omega arith)
   is_busy busy e = refl
   is_busy (ready x) e = absurd (omega arith)

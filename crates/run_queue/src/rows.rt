@@ -39,7 +39,7 @@ impl From<AllocError> for RowsFault {
 /// at the end every job that was put in was taken out once or is left. Where they keep none, a
 /// refused put still gives its job back, and nothing else is said of jobs.
 pub trait Rows<J, A: Allocator>: Sized + Drop {
-    type Seat: Send + Drop;
+    type Seat: Drop;
 
     // How many rows there are, and how many seats were made with them.
     ghost row_count: { Self → ℕ };

@@ -10,6 +10,7 @@ use std::sync::Mutex;
 
 mod closing;
 mod ends;
+mod laws;
 mod opening;
 mod plays;
 mod rule;

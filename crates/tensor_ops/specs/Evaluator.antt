@@ -1,6 +1,7 @@
 -- What an evaluator evaluates.
 use Rattle.std.specs.Prelude.{List}
 use Rattle.tensor_ops.specs.Contents.{Contents}
+use Rattle.tensor_ops.specs.Tensors.{tensors_in}
 use Rattle.tensor_ops.specs.Term.{Term}
 use Rattle.tensor_ops.specs.Tree.{term_of}
 use Rattle.tensor_ops.specs.declared.evaluator.TensorEvaluator.{TensorEvaluator}
@@ -11,4 +12,4 @@ term_evaluated e = term_of e.expr.now
 
 -- the inputs of that term
 abbrev pub inputs_evaluated : TensorEvaluator → List Contents
-inputs_evaluated e = e.inputs.now
+inputs_evaluated e = tensors_in e.tensors

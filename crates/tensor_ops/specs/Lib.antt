@@ -27,6 +27,7 @@ pub mod Scalars
 pub mod Shaped
 pub mod StripDots
 pub mod Strips
+pub mod Tensors
 pub mod Term
 pub mod Tiling
 pub mod Tree

@@ -13,7 +13,7 @@ use crate::rows::Rows;
 use crate::strip_dots::StripDots;
 use crate::strips::{Strips, strip_width};
 use crate::tiling::Tiled;
-use std::alloc::{AllocError, Global};
+use std::alloc::{AllocError, Allocator, Global};
 use std::borrow::CowSlice;
 use tensor_shape::Dims;
 
@@ -88,12 +88,12 @@ impl<'a> Contraction<'a> {
     }
 
     /// The values at the places from the first to before the last of the result, in order.
-    pub(crate) fn values(
+    pub(crate) fn values<A: Allocator>(
         &self,
-        alloc: Global,
+        alloc: A,
         first: usize,
         last: usize,
-    ) -> Result<Vec<i64>, AllocError>
+    ) -> Result<Vec<i64, A>, AllocError>
         requires order { first ≤ last }
         requires within { last ≤ contraction_count self.now }
         ensures { IfOk result (λ v. v.items

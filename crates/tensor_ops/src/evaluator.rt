@@ -1,9 +1,10 @@
 //! The values of an expression at ranges of places.
 
-ghost use Rattle.std.specs.Prelude.{◌≡◌, ◌<◌, ◌≤◌, ◌-◌, ℕ, length, IsTrue, IsOk, IfOk};
+ghost use Rattle.std.specs.Prelude.{◌≡◌, ◌<◌, ◌≤◌, ◌-◌, ◌++◌, ℕ, length, IsTrue, IsOk, IfOk};
 ghost use Rattle.tensor_shape.specs.Index.{size_of};
 ghost use Rattle.tensor_ops.specs.Result.{dims_of, shape_of};
 ghost use Rattle.tensor_ops.specs.Root.{root_value, root_count, IsSoundRoot, IsSoundRoot-prop};
+ghost use Rattle.tensor_ops.specs.Tensors.{tensors_in};
 ghost use Rattle.tensor_ops.specs.Term.{has_inputs};
 ghost use Rattle.tensor_ops.specs.Tree.{term_of};
 ghost use Rattle.tensor_ops.specs.Value.{value_of_place, values_from};
@@ -11,7 +12,9 @@ ghost use Rattle.tensor_ops.specs.Value.{value_of_place, values_from};
 use crate::expr::Expr;
 use crate::inputs::Inputs;
 use crate::root::Root;
-use std::alloc::{AllocError, Global};
+use crate::tensor::Tensor;
+use crate::tensors::Tensors;
+use std::alloc::{AllocError, Allocator, Global};
 use tensor_shape::Dims;
 
 /// An expression that has result dims, over its inputs, made ready to be evaluated by ranges of
@@ -19,15 +22,16 @@ use tensor_shape::Dims;
 /// share it.
 #[derive(Drop)]
 pub struct TensorEvaluator<'a> {
+    alloc: Global,
     expr: &'a Expr,
-    inputs: &'a Inputs,
+    tensors: Tensors<'a>,
     dims: Dims,
     root: Root<'a>,
-    ghost has_shape: { dims ≡ shape_of (term_of expr.now) inputs.now },
+    ghost has_shape: { dims ≡ shape_of (term_of expr.now) (tensors_in tensors) },
     ghost sound: { IsSoundRoot root } by { IsSoundRoot-prop root },
-    ghost count: { root_count root ≡ size_of (shape_of (term_of expr.now) inputs.now) },
-    ghost means: { (p : ℕ) → p < size_of (shape_of (term_of expr.now) inputs.now)
-        → root_value root p ≡ value_of_place (term_of expr.now) inputs.now p },
+    ghost count: { root_count root ≡ size_of (shape_of (term_of expr.now) (tensors_in tensors)) },
+    ghost means: { (p : ℕ) → p < size_of (shape_of (term_of expr.now) (tensors_in tensors))
+        → root_value root p ≡ value_of_place (term_of expr.now) (tensors_in tensors) p },
 }
 
 impl<'a> TensorEvaluator<'a> {
@@ -46,10 +50,28 @@ impl<'a> TensorEvaluator<'a> {
         ensures term { IfOk result (λ e. term_evaluated e ≡ term_of expr.now) }
         ensures inputs { IfOk result (λ e. inputs_evaluated e ≡ inputs.now) }
     {
-        let (root, dims) = Root::of(alloc, expr, inputs)?;
+        TensorEvaluator::over(alloc, expr, inputs, &[])
+    }
+
+    /// The same where other tensors stand behind the inputs: the first of them has the number of
+    /// inputs for its own.
+    pub fn over(
+        alloc: Global,
+        expr: &'a Expr,
+        inputs: &'a Inputs,
+        others: &'a [Tensor],
+    ) -> Result<TensorEvaluator<'a>, AllocError>
+        requires inputs { IsTrue (has_inputs (term_of expr.now) (length (inputs.now ++ others.now))) }
+        requires dims { IsOk (dims_of (term_of expr.now) (inputs.now ++ others.now)) }
+        ensures term { IfOk result (λ e. term_evaluated e ≡ term_of expr.now) }
+        ensures inputs { IfOk result (λ e. inputs_evaluated e ≡ inputs.now ++ others.now) }
+    {
+        let tensors = Tensors::of(inputs, others);
+        let (root, dims) = Root::of(alloc, expr, tensors)?;
         Ok(TensorEvaluator {
+            alloc,
             expr,
-            inputs,
+            tensors,
             dims,
             root,
         })
@@ -63,14 +85,21 @@ impl<'a> TensorEvaluator<'a> {
     }
 
     /// The values of the expression at the places from the first to before the last of its result,
-    /// in order. Takes memory for them, and for a few pieces of 1,024 places.
-    pub fn values(&self, alloc: Global, first: u64, last: u64) -> Result<Vec<i64>, AllocError>
+    /// in order. Takes memory for them, and of the allocator that the evaluator was made with for a
+    /// few pieces of 1,024 places.
+    pub fn values<A: Allocator>(
+        &self,
+        alloc: A,
+        first: u64,
+        last: u64,
+    ) -> Result<Vec<i64, A>, AllocError>
         requires order { first ≤ last }
         requires within { last
             ≤ size_of (shape_of (term_evaluated self.now) (inputs_evaluated self.now)) }
         ensures { IfOk result (λ v. v.items ≡ values_from
             (term_evaluated self.now) (inputs_evaluated self.now) first (last - first)) }
     {
-        self.root.values(alloc, first as usize, last as usize)
+        self.root
+            .values(self.alloc, alloc, first as usize, last as usize)
     }
 }

@@ -141,7 +141,7 @@ fn all_values<'a>(
         Placed::Lent(values) => Ok(CowSlice::Borrowed(values)),
         Placed::Kept(values) => Ok(CowSlice::Owned(values)),
         placed => {
-            let values = placed.values(alloc, 0, dims.size() as usize)?;
+            let values = placed.values(alloc, alloc, 0, dims.size() as usize)?;
             Ok(CowSlice::Owned(values))
         }
     }

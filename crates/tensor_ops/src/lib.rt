@@ -42,6 +42,7 @@ mod small;
 mod strip_dots;
 mod strips;
 mod tensor;
+mod tensors;
 mod tile;
 mod tiling;
 mod walk;

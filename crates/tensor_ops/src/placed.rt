@@ -12,7 +12,7 @@ use crate::loops::{SelectOrder, apply, combine, select};
 use crate::operations::{BinaryScalar, UnaryScalar};
 use crate::places::Places;
 use crate::walk::{Axis, sources};
-use std::alloc::{AllocError, Global};
+use std::alloc::{AllocError, Allocator, Global};
 use std::borrow::CowSlice;
 
 /// How many places are worked out at a time, so that their values stay in the nearest cache.
@@ -41,20 +41,22 @@ pub(crate) enum Placed<'a> {
 }
 
 impl<'a> Placed<'a> {
-    /// The values at the places from the first to before the last, in order.
-    pub(crate) fn values(
+    /// The values at the places from the first to before the last, in order, in memory of their
+    /// own allocator.
+    pub(crate) fn values<A: Allocator>(
         &self,
         alloc: Global,
+        target: A,
         first: usize,
         last: usize,
-    ) -> Result<Vec<i64>, AllocError>
+    ) -> Result<Vec<i64, A>, AllocError>
         requires order { first ≤ last }
         requires sound { IsSound self.now }
         requires within { last ≤ count_of self.now }
         ensures { IfOk result (λ v. v.items
             ≡ map (meaning self.now) (range_with_len first (last - first))) }
     {
-        let mut values = Vec::with_capacity(alloc, last - first)?;
+        let mut values = Vec::with_capacity(target, last - first)?;
         let mut from = first;
         while from < last {
             let to = from + (last - from).min(PIECE);

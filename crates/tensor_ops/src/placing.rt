@@ -7,6 +7,7 @@ ghost use Rattle.tensor_ops.specs.Meaning.{meaning, count_of, IsSound};
 ghost use Rattle.tensor_ops.specs.Movement.{moved, moved_dims};
 ghost use Rattle.tensor_ops.specs.Placing.{Gives, IsJoined, IsView, meaning_at};
 ghost use Rattle.tensor_ops.specs.Result.{dims_of, shape_of, unary_dims};
+ghost use Rattle.tensor_ops.specs.Tensors.{tensors_in};
 ghost use Rattle.tensor_ops.specs.Term.{has_inputs};
 ghost use Rattle.tensor_ops.specs.Tree.{term_of, movement_at, unary_at};
 ghost use Rattle.tensor_ops.specs.Scalars.{combined, is_true};
@@ -14,7 +15,6 @@ ghost use Rattle.tensor_ops.specs.Value.{value, unary_value};
 
 use crate::axes::{are_along, moved_axes, moved_start, whole_axes};
 use crate::expr::Expr;
-use crate::inputs::Inputs;
 use crate::kernels::{place_contraction, place_reduction};
 use crate::loops::SelectOrder;
 use crate::movement_dims::moved_dims;
@@ -22,6 +22,7 @@ use crate::node::{Binary, Movement, Node, Ternary, Unary};
 use crate::operations::BinaryScalar;
 use crate::part::Part;
 use crate::placed::Placed;
+use crate::tensors::Tensors;
 use crate::walk::Axis;
 use std::alloc::{AllocError, Global};
 use tensor_shape::Dims;
@@ -38,18 +39,19 @@ struct View<'a> {
 pub(crate) fn place<'a>(
     alloc: Global,
     expr: &Expr,
-    inputs: &'a Inputs,
+    tensors: Tensors<'a>,
     room: &mut usize,
 ) -> Result<Part<'a>, AllocError>
-    requires inputs { IsTrue (has_inputs (term_of expr.now) (length inputs.now)) }
-    requires dims { IsOk (dims_of (term_of expr.now) inputs.now) }
+    requires inputs { IsTrue (has_inputs (term_of expr.now) (length (tensors_in tensors))) }
+    requires dims { IsOk (dims_of (term_of expr.now) (tensors_in tensors)) }
     ensures placed { IfOk result (λ r.
-        Gives r.placed r.dims (value (term_of expr.now) inputs.now)) }
-    ensures dims { IfOk result (λ r. r.dims ≡ shape_of (term_of expr.now) inputs.now) }
+        Gives r.placed r.dims (value (term_of expr.now) (tensors_in tensors.entry))) }
+    ensures dims { IfOk result (λ r.
+        r.dims ≡ shape_of (term_of expr.now) (tensors_in tensors.entry)) }
 {
     match expr.node() {
         Node::Input(number) => {
-            let input = inputs.get(number);
+            let input = tensors.get(number);
             Ok(Part {
                 placed: Placed::Lent(input.values()),
                 dims: input.dims().copied(),
@@ -57,23 +59,23 @@ pub(crate) fn place<'a>(
             })
         }
         Node::Unary(operation, operand) => {
-            let operand = place(alloc, operand, inputs, room)?;
+            let operand = place(alloc, operand, tensors, room)?;
             place_unary(alloc, operation, operand, room)
         }
         Node::Binary(Binary::Pairwise(operation), left, right) => {
-            let left = place(alloc, left, inputs, room)?;
-            let right = place(alloc, right, inputs, room)?;
+            let left = place(alloc, left, tensors, room)?;
+            let right = place(alloc, right, tensors, room)?;
             place_pairwise(alloc, operation, left, right)
         }
         Node::Binary(Binary::Contract(pairs), first, second) => {
-            let first = place(alloc, first, inputs, room)?;
-            let second = place(alloc, second, inputs, room)?;
+            let first = place(alloc, first, tensors, room)?;
+            let second = place(alloc, second, tensors, room)?;
             place_contraction(alloc, pairs, first, second)
         }
         Node::Ternary(Ternary::Select, condition, yes, no) => {
-            let condition = place(alloc, condition, inputs, room)?;
-            let yes = place(alloc, yes, inputs, room)?;
-            let no = place(alloc, no, inputs, room)?;
+            let condition = place(alloc, condition, tensors, room)?;
+            let yes = place(alloc, yes, tensors, room)?;
+            let no = place(alloc, no, tensors, room)?;
             place_select(alloc, condition, yes, no)
         }
     }
@@ -298,7 +300,7 @@ fn kept<'a>(
         return Ok(placed);
     }
     *room -= count;
-    Ok(Placed::Kept(placed.values(alloc, 0, count)?))
+    Ok(Placed::Kept(placed.values(alloc, alloc, 0, count)?))
 }
 
 /// A placed expression of these dims, read along axes.

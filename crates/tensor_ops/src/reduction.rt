@@ -13,7 +13,7 @@ use crate::folds::combine_runs;
 use crate::offsets::offsets;
 use crate::reducer::Reducer;
 use crate::woven::{among, next_among, next_other, others, span};
-use std::alloc::{AllocError, Global};
+use std::alloc::{AllocError, Allocator, Global};
 use std::borrow::CowSlice;
 use tensor_shape::Dims;
 
@@ -88,12 +88,12 @@ impl<'a> Reduction<'a> {
 
     /// The values at the places from the first to before the last of its result, in order. Takes
     /// memory for them.
-    pub(crate) fn values(
+    pub(crate) fn values<A: Allocator>(
         &self,
-        alloc: Global,
+        alloc: A,
         first: usize,
         last: usize,
-    ) -> Result<Vec<i64>, AllocError>
+    ) -> Result<Vec<i64, A>, AllocError>
         requires order { first ≤ last }
         requires within { last ≤ places_of_result self.now }
         ensures { IfOk result (λ v. v.items

@@ -4,19 +4,20 @@ ghost use Rattle.std.specs.Prelude.{◌≡◌, ◌≤◌, ◌-◌, length, map, 
 ghost use Rattle.std.specs.List.{range_with_len};
 ghost use Rattle.tensor_ops.specs.Placing.{HasValues};
 ghost use Rattle.tensor_ops.specs.Result.{dims_of, shape_of};
+ghost use Rattle.tensor_ops.specs.Tensors.{tensors_in};
 ghost use Rattle.tensor_ops.specs.Term.{has_inputs};
 ghost use Rattle.tensor_ops.specs.Tree.{term_of};
 ghost use Rattle.tensor_ops.specs.Value.{value};
 
 use crate::contraction::Contraction;
 use crate::expr::Expr;
-use crate::inputs::Inputs;
 use crate::kernels::{contraction_of, reduction_of};
 use crate::node::{Binary, Node, Unary};
 use crate::placed::Placed;
 use crate::placing::place;
 use crate::reduction::Reduction;
-use std::alloc::{AllocError, Global};
+use crate::tensors::Tensors;
+use std::alloc::{AllocError, Allocator, Global};
 use tensor_shape::Dims;
 
 /// How many places of operands are worked out, all together, when an expression is placed: 256 KiB
@@ -39,42 +40,45 @@ impl<'a> Root<'a> {
     pub(crate) fn of(
         alloc: Global,
         expr: &Expr,
-        inputs: &'a Inputs,
+        tensors: Tensors<'a>,
     ) -> Result<(Root<'a>, Dims), AllocError>
-        requires inputs { IsTrue (has_inputs (term_of expr.now) (length inputs.now)) }
-        requires dims { IsOk (dims_of (term_of expr.now) inputs.now) }
+        requires inputs { IsTrue (has_inputs (term_of expr.now) (length (tensors_in tensors))) }
+        requires dims { IsOk (dims_of (term_of expr.now) (tensors_in tensors)) }
         ensures sound { IfOk result (λ r. IsSoundRoot r.0) }
         ensures values { IfOk result (λ r. HasValues (root_count r.0) (root_value r.0) r.1
-            (value (term_of expr.now) inputs.now)) }
-        ensures dims { IfOk result (λ r. r.1 ≡ shape_of (term_of expr.now) inputs.now) }
+            (value (term_of expr.now) (tensors_in tensors.entry))) }
+        ensures dims { IfOk result (λ r.
+            r.1 ≡ shape_of (term_of expr.now) (tensors_in tensors.entry)) }
     {
         let mut room = KEPT;
         match expr.node() {
             Node::Unary(Unary::Reduce(reducer, axes), operand) => {
-                let operand = place(alloc, operand, inputs, &mut room)?;
+                let operand = place(alloc, operand, tensors, &mut room)?;
                 let (reduction, dims) = reduction_of(alloc, reducer, axes, operand)?;
                 Ok((Root::Reduction(reduction), dims))
             }
             Node::Binary(Binary::Contract(pairs), first, second) => {
-                let first = place(alloc, first, inputs, &mut room)?;
-                let second = place(alloc, second, inputs, &mut room)?;
+                let first = place(alloc, first, tensors, &mut room)?;
+                let second = place(alloc, second, tensors, &mut room)?;
                 let (contraction, dims) = contraction_of(alloc, pairs, first, second)?;
                 Ok((Root::Contraction(contraction), dims))
             }
             _ => {
-                let part = place(alloc, expr, inputs, &mut room)?;
+                let part = place(alloc, expr, tensors, &mut room)?;
                 Ok((Root::Placed(part.placed), part.dims))
             }
         }
     }
 
-    /// The values at the places from the first to before the last, in order.
-    pub(crate) fn values(
+    /// The values at the places from the first to before the last, in order, in memory of their
+    /// own allocator.
+    pub(crate) fn values<A: Allocator>(
         &self,
         alloc: Global,
+        target: A,
         first: usize,
         last: usize,
-    ) -> Result<Vec<i64>, AllocError>
+    ) -> Result<Vec<i64, A>, AllocError>
         requires order { first ≤ last }
         requires sound { IsSoundRoot self.now }
         requires within { last ≤ root_count self.now }
@@ -82,9 +86,9 @@ impl<'a> Root<'a> {
             ≡ map (root_value self.now) (range_with_len first (last - first))) }
     {
         match self {
-            Root::Placed(placed) => placed.values(alloc, first, last),
-            Root::Reduction(reduction) => reduction.values(alloc, first, last),
-            Root::Contraction(contraction) => contraction.values(alloc, first, last),
+            Root::Placed(placed) => placed.values(alloc, target, first, last),
+            Root::Reduction(reduction) => reduction.values(target, first, last),
+            Root::Contraction(contraction) => contraction.values(target, first, last),
         }
     }
 }

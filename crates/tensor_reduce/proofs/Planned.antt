@@ -1,15 +1,16 @@
 -- The steps of a whole expression.
-use Rattle.std.proofs.Common.{◌≡◌, ◌+◌, ◌^◌, ◌<◌, ◌≤◌, List, [], ◌∷◌, ◌++◌, length, map}
-use Rattle.std.proofs.Common.{Bool, true, false, ◌||◌, Ok, IsOk, ap, sym, ◌∙◌, arith}
-use Rattle.std.proofs.lemmas.List.{length-append, length-map, map-append}
-use Rattle.tensor_ops.specs.Contents.{Contents}
+use Rattle.std.proofs.Common.{◌≡◌, ◌+◌, ◌-◌, ◌^◌, ◌<◌, ◌≤◌, List, [], ◌∷◌, ◌++◌, length, map}
+use Rattle.std.proofs.Common.{Bool, true, false, ◌||◌, Ok, IsOk, refl, ap, sym, ◌∙◌, arith}
+use Rattle.std.proofs.lemmas.List.{length-append, length-map, map-append, append_assoc}
+use Rattle.std.proofs.Math.Seq.{get_or-append_seam}
+use Rattle.tensor_ops.specs.Contents.{Contents, nothing, input_of}
 use Rattle.tensor_ops.specs.Result.{dims_of}
 use Rattle.tensor_ops.specs.Shaped.{Shaped}
 use Rattle.tensor_ops.specs.Term.{Term, input, unary, binary, ternary, has_inputs, nodes_of}
 use Rattle.tensor_ops.specs.Value.{tensor_of}
 use Rattle.tensor_reduce.specs.Cutting.{IsCut, AreStepsOf}
 use Rattle.tensor_reduce.specs.Plan.{term_of_step, dims_of_step, terms_in, worked_out}
-use Rattle.tensor_reduce.specs.Plan.{AreReady}
+use Rattle.tensor_reduce.specs.Plan.{last_tensor, AreReady}
 use Rattle.tensor_reduce.specs.Steps.{combines, combines_two, own, operand_nodes, step_nodes}
 use Rattle.tensor_reduce.specs.Steps.{is_input, cut, steps_of}
 use Rattle.tensor_reduce.specs.declared.step.Step.{Step}
@@ -64,6 +65,24 @@ length-step_nodes (unary o a) = length-operand_nodes (unary o a) true
 length-step_nodes (binary o a b) = length-operand_nodes (binary o a b) true
 length-step_nodes (ternary o a b c) = length-operand_nodes (ternary o a b c) true
 
+-- the root is the last of the nodes that are steps
+step_nodes-root : (t : Term) → (earlier : List Term) × (step_nodes t ≡ earlier ++ t ∷ [])
+step_nodes-root (input n) = ([], refl)
+step_nodes-root (unary o a) = (operand_nodes (combines o) a, refl)
+step_nodes-root (binary o a b) =
+    (operand_nodes (combines_two o) a ++ operand_nodes (combines_two o) b, refl)
+step_nodes-root (ternary o a b c) =
+    (operand_nodes false a ++ operand_nodes false b ++ operand_nodes false c, refl)
+
+-- the last of tensors
+pub last_tensor-append : (tensors : List Contents) (tensor : Contents)
+    → last_tensor (tensors ++ tensor ∷ []) ≡ tensor
+last_tensor-append tensors tensor =
+    let there : length (tensors ++ tensor ∷ []) - 1 ≡ length tensors =
+    omega (arith, length-append tensors (tensor ∷ [])) in
+    ap (λ n. input_of (tensors ++ tensor ∷ []) n) there
+    ∙ get_or-append_seam tensors tensor [] nothing
+
 module _ (inputs : List Contents) (t : Term) (steps : List Step) where
   -- an expression that isn't an input
   pub steps-cut : (rest : Step) → is_input t ≡ false → IsCut inputs true t [] steps rest
@@ -85,6 +104,16 @@ module _ (inputs : List Contents) (t : Term) (steps : List Step) where
         length-map (step_nodes t) (λ a. dims_of a inputs),
       )
 
+  pub some-steps_of : AreStepsOf inputs t steps → 0 < length steps
+  some-steps_of are =
+      let root = step_nodes-root t in
+      omega (
+        arith,
+        length-steps are,
+        ap length root.1,
+        length-append root.0 (t ∷ []),
+      )
+
   pub length-steps_of : AreStepsOf inputs t steps → length steps ≤ nodes_of t
   length-steps_of are = omega (arith, length-steps are, length-step_nodes t)
 
@@ -103,6 +132,19 @@ module _ (inputs : List Contents) (t : Term) (steps : List Step) where
     worked_out-steps_of =
         ap (λ us. worked_out us inputs) are.terms
         ∙ worked_out-fit inputs inputs (steps_of (length inputs) t) (step_nodes t) fit
+
+    pub last_tensor-steps_of :
+        last_tensor (worked_out (terms_in steps) inputs) ≡ tensor_of t inputs
+    last_tensor-steps_of =
+        let root = step_nodes-root t in
+        let tensor : Term → Contents = λ a. tensor_of a inputs in
+        let earlier : List Contents = map tensor root.0 in
+        let whole : inputs ++ map tensor (step_nodes t) ≡ inputs ++ earlier ++ tensor t ∷ [] =
+        ap (λ ts. inputs ++ map tensor ts) root.1
+        ∙ ap (λ l. inputs ++ l) (map-append tensor root.0 (t ∷ []))
+        ∙ sym (append_assoc inputs earlier (tensor t ∷ [])) in
+        ap last_tensor (worked_out-steps_of ∙ whole)
+        ∙ last_tensor-append (inputs ++ earlier) (tensor t)
 
 -- an input is a step as it is
 pub steps-input : (inputs : List Contents) (t : Term) (steps : List Step) (rest : Step)

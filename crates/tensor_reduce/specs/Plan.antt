@@ -1,6 +1,6 @@
 -- Plans: steps with their dims, and what they give one after the other.
-use Rattle.std.specs.Prelude.{◌≡◌, ℕ, List, [], ◌∷◌, ◌++◌, length, map, Ok, IsTrue}
-use Rattle.tensor_ops.specs.Contents.{Contents}
+use Rattle.std.specs.Prelude.{◌≡◌, ◌-◌, ℕ, List, [], ◌∷◌, ◌++◌, length, map, Ok, IsTrue}
+use Rattle.tensor_ops.specs.Contents.{Contents, input_of}
 use Rattle.tensor_ops.specs.Result.{dims_of}
 use Rattle.tensor_ops.specs.Shaped.{Shaped}
 use Rattle.tensor_ops.specs.Term.{Term, has_inputs}
@@ -32,6 +32,10 @@ steps_in plan = plan.steps.items
 abbrev pub worked_out : List Term → List Contents → List Contents
 worked_out [] tensors = tensors
 worked_out (t ∷ terms) tensors = worked_out terms (tensors ++ tensor_of t tensors ∷ [])
+
+-- the last of tensors, of which there is one at least
+abbrev pub last_tensor : List Contents → Contents
+last_tensor tensors = input_of tensors (length tensors - 1)
 
 -- a step can be worked out in one go over tensors
 pub record IsReady (s : Step) (tensors : List Contents) : Type 0 where

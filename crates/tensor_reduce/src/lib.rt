@@ -10,12 +10,20 @@
 //!
 //! That the steps are these is proved, and that worked out one after the other each gives the
 //! tensor of its node, as the plain meaning of expressions has it, and the last that of the whole.
+//!
+//! [`run_plan`] works a plan out on the workers of a pool. The values of a step are those that its
+//! [`StepKernel`] gives for ranges of its places.
 #![tactic(auto)]
 
 mod cutting;
 mod plan;
+mod running;
 mod step;
+mod step_kernel;
 
+pub use parallel_for::{ForFault, Kernel, PoolFault, Setup};
 pub use plan::Plan;
+pub use running::run_plan;
 pub use step::Step;
-pub use tensor_ops::{Dims, Expr, Inputs, Reducer};
+pub use step_kernel::StepKernel;
+pub use tensor_ops::{Dims, Expr, Inputs, Reducer, Tensor};

@@ -16,10 +16,12 @@ use tensor_ops::{Expr, Inputs};
 #[derive(Drop)]
 pub struct Plan {
     steps: Vec<Step>,
+    ghost some: { 0 < length steps.items },
 }
 
 impl Plan {
     ghost use Rattle.tensor_reduce.specs.Plan.{steps_in, terms_in, dims_in, worked_out, AreReady};
+    ghost use Rattle.tensor_reduce.specs.Plan.{last_tensor};
 
     /// The plan of an expression over these inputs, made in time linear in its nodes.
     ///
@@ -45,6 +47,10 @@ impl Plan {
             length inputs.now + length (steps_in plan) < 2 ^ 32
             → worked_out (terms_in (steps_in plan)) inputs.now
             ≡ inputs.now ++ map (λ t. tensor_of t inputs.now) (step_nodes (term_of expr.now))) }
+        ensures root { IfOk result (λ plan.
+            length inputs.now + length (steps_in plan) < 2 ^ 32
+            → last_tensor (worked_out (terms_in (steps_in plan)) inputs.now)
+            ≡ tensor_of (term_of expr.now) inputs.now) }
     {
         let steps = steps_of(alloc, inputs, expr)?;
         Ok(Plan { steps })

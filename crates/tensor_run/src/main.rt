@@ -9,7 +9,7 @@ use tensor_runner::{CountedReader, CountedWriter, serve};
 fn main(rt: HostRuntime) -> io::Result<ExitCode> {
     let mut reader = CountedReader::new(rt.stdin());
     let mut writer = CountedWriter::new(rt.stdout());
-    let ending = serve(rt.alloc(), &mut reader, &mut writer);
+    let ending = serve(&rt, rt.alloc(), &mut reader, &mut writer);
     if let Some(complaint) = ending.complaint {
         eprint!(rt; "{complaint}")?;
     }

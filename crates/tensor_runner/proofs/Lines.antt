@@ -1,5 +1,6 @@
 -- The answer of what was read of a text.
-use Rattle.std.proofs.Common.{◌≡◌, ℕ, ◌<◌, List, Err, length, take, refl, ap, sym, ◌∙◌, inl, inr, arith}
+use Rattle.std.proofs.Common.{◌≡◌, ℕ, ◌<◌, List, Err, length, take, true, refl, ap, sym, subst}
+use Rattle.std.proofs.Common.{◌∙◌, inl, inr, arith}
 use Rattle.std.proofs.Math.Decide.{dec_le}
 use Rattle.std.proofs.Math.Nat.{lt_of_not-le}
 use Rattle.std.proofs.lemmas.Bool.{lt-ltb}
@@ -7,7 +8,8 @@ use Rattle.std.proofs.lemmas.List.{take_all, length-take-le}
 use Rattle.expr_reader.specs.Limits.{most_bytes}
 use Rattle.expr_reader.specs.Request.{request_of}
 use Rattle.expr_reader.specs.declared.fault.Fault.TheVariants.{TooLong}
-use Rattle.tensor_runner.specs.Answer.{Answer, answer_of, answer_from, fault, IsAnswerTo}
+use Rattle.tensor_runner.specs.Answer.{Answer, answer_of, answer_from, fault, is_tensor}
+use Rattle.tensor_runner.specs.Answer.{IsAnswerTo}
 
 -- too long a text, whatever it says
 answer_of-long : (text : List ℕ) → most_bytes < length text → answer_of text ≡ fault TooLong
@@ -26,4 +28,6 @@ answer_of-take n text more = elim (dec_le n (length text)) [
 
 pub IsAnswerTo-take : (n : ℕ) (text : List ℕ) (a : Answer) → most_bytes < n → IsAnswerTo (take n text) a → IsAnswerTo text a
 IsAnswerTo-take n text a more (inl own) = inl (own ∙ answer_of-take n text more)
-IsAnswerTo-take n text a more (inr memory) = inr memory
+IsAnswerTo-take n text a more (inr (inl memory)) = inr (inl memory)
+IsAnswerTo-take n text a more (inr (inr lost)) =
+    inr (inr (subst (λ b. is_tensor b ≡ true) (answer_of-take n text more) lost.0, lost.1))

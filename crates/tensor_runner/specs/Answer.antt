@@ -1,6 +1,6 @@
 -- The answer of a text, and its line.
 use Rattle.std.specs.Prelude.{◌≡◌, ◌⊎◌, ℕ, ℤ, pos, List, [], ◌∷◌, ◌++◌, map, codes, decimal}
-use Rattle.std.specs.Prelude.{Result, Ok, Err}
+use Rattle.std.specs.Prelude.{Result, Ok, Err, Bool, true, false, IsTrue}
 use Rattle.std.specs.Fmt.{signed_decimal}
 use Rattle.std.specs.List.{join_with_byte}
 use Rattle.expr_reader.specs.Contents.{Contents}
@@ -12,10 +12,11 @@ use Rattle.expr_reader.specs.declared.fault.Fault.TheVariants.{NoMemory}
 use Rattle.tensor_runner.specs.declared.status.Status.{Status}
 use Rattle.tensor_runner.specs.declared.status.Status.TheVariants as status
 
--- a tensor, or a fault
+-- a tensor, a fault, or that values of a tensor were lost between the workers
 pub data Answer : Type 0 where
   tensor : Contents → Answer
   fault : Fault → Answer
+  lost : Answer
 
 -- the tensor that a request asks for
 abbrev pub asked_tensor : Asked → Contents
@@ -41,15 +42,27 @@ tensor_line t =
 abbrev pub fault_line : Fault → List ℕ
 fault_line f = codes "error " ++ decimal (fault_number f) ++ 32 ∷ fault_name f ++ 10 ∷ []
 
+abbrev pub lost_line : List ℕ
+lost_line = codes "error 18 Lost" ++ 10 ∷ []
+
 -- the line that answers, with its line feed
 abbrev pub line_of : Answer → List ℕ
 line_of (tensor t) = tensor_line t
 line_of (fault f) = fault_line f
+line_of lost = lost_line
 
 abbrev pub status_of : Answer → Status
 status_of (tensor t) = status.Tensor
 status_of (fault f) = status.Fault
+status_of lost = status.Fault
 
--- the answer of the text, or want of memory
+-- whether an answer is a tensor
+abbrev pub is_tensor : Answer → Bool
+is_tensor (tensor t) = true
+is_tensor (fault f) = false
+is_tensor lost = false
+
+-- the answer of the text, or want of memory, or, where the text has a tensor, that values were lost
 abbrev pub IsAnswerTo : List ℕ → Answer → Type 0
-IsAnswerTo text a = (a ≡ answer_of text) ⊎ (a ≡ fault NoMemory)
+IsAnswerTo text a = (a ≡ answer_of text)
+    ⊎ ((a ≡ fault NoMemory) ⊎ (IsTrue (is_tensor (answer_of text)) × (a ≡ lost)))

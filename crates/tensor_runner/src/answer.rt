@@ -2,18 +2,24 @@
 
 ghost use Rattle.std.specs.Prelude.{◌≡◌, ◌⊎◌, MatchResult};
 ghost use Rattle.std.specs.Cow.{cow_slice_items};
-ghost use Rattle.tensor_runner.specs.Answer.{fault_line, IsAnswerTo, fault};
-ghost use Rattle.tensor_runner.specs.Line.{IsLineFor, IsLineOfTensor};
+ghost use Rattle.tensor_runner.specs.Answer.{fault_line, lost_line, IsAnswerTo};
+ghost use Rattle.tensor_runner.specs.Line.{IsLineFor, IsLineOfTensor, answer_under};
 
 use crate::evaluation::eval;
-use crate::status::Status;
+use crate::refusal::Refusal;
+use crate::status::{RunFault, Status};
 use crate::text::push_tensor;
 use expr_reader::{Fault, read_request};
 use std::alloc::Global;
 use std::borrow::CowSlice;
+use std::sync::Wait;
+use std::thread::Threads;
 
 /// The line where there is no memory, which takes none.
 const NO_MEMORY: &[u8] = b"error 15 NoMemory\n";
+
+/// The line where values were lost between the workers.
+const LOST: &[u8] = b"error 18 Lost\n";
 
 /// A line with its line feed, and what it says.
 #[derive(Drop)]
@@ -23,15 +29,16 @@ pub(crate) struct Line {
 }
 
 /// The line that answers a text, in the text's own room where it is a tensor's.
-pub(crate) fn answer(alloc: Global, text: Vec<u8>) -> Line
+pub(crate) fn answer<RT: Threads + Wait + Sync>(rt: &RT, alloc: Global, text: Vec<u8>) -> Line
     ensures { IsLineFor text.items result }
 {
-    match tensor_of(alloc, text) {
+    match tensor_of(rt, alloc, text) {
         Ok(line) => Line {
             bytes: CowSlice::Owned(line),
             status: Status::Tensor,
         },
-        Err(fault) => refusal(alloc, fault),
+        Err(Refusal::Text(fault)) => refusal(alloc, fault),
+        Err(Refusal::Lost) => lost(),
     }
 }
 
@@ -46,21 +53,41 @@ pub(crate) fn no_memory() -> Line
     }
 }
 
-/// The line of a tensor, or the fault of the text. The line takes the text's place, which isn't
-/// needed any more once it is read.
-fn tensor_of(alloc: Global, text: Vec<u8>) -> Result<Vec<u8>, Fault>
-    ensures { MatchResult result (λ line. IsLineOfTensor text.items line.items)
-        (λ f. IsAnswerTo text.items (fault f)) }
+/// The line that values were lost, which takes no memory.
+fn lost() -> Line
+    ensures bytes { cow_slice_items result.bytes ≡ lost_line }
+    ensures status { result.status ≡ Status.Fault }
 {
-    let request = read_request(alloc, text.as_slice())?;
-    let Ok(tensor) = eval(alloc, &request) else {
-        return Err(Fault::NoMemory);
+    Line {
+        bytes: CowSlice::Borrowed(LOST),
+        status: Status::Fault,
+    }
+}
+
+/// The line of a tensor, or why there is none. The line takes the text's place, which isn't needed
+/// any more once it is read.
+fn tensor_of<RT: Threads + Wait + Sync>(
+    rt: &RT,
+    alloc: Global,
+    text: Vec<u8>,
+) -> Result<Vec<u8>, Refusal>
+    ensures { MatchResult result (λ line. IsLineOfTensor text.items line.items)
+        (λ refusal. IsAnswerTo text.items (answer_under refusal)) }
+{
+    let request = match read_request(alloc, text.as_slice()) {
+        Ok(request) => request,
+        Err(fault) => return Err(Refusal::Text(fault)),
+    };
+    let tensor = match eval(rt, alloc, &request) {
+        Ok(tensor) => tensor,
+        Err(RunFault::NoMemory) => return Err(Refusal::Text(Fault::NoMemory)),
+        Err(RunFault::Lost) => return Err(Refusal::Lost),
     };
     let mut line = text;
     line.clear();
     match push_tensor(alloc, &tensor, &mut line) {
         Ok(()) => Ok(line),
-        Err(_) => Err(Fault::NoMemory),
+        Err(_) => Err(Refusal::Text(Fault::NoMemory)),
     }
 }
 

@@ -10,6 +10,8 @@ use crate::sink::Sink;
 use crate::source::Source;
 use crate::status::{Status, StreamFault};
 use std::alloc::Global;
+use std::sync::Wait;
+use std::thread::Threads;
 
 /// The exit status, and what stands on standard error.
 #[derive(Clone, Copy, Debug, Drop, Eq, PartialEq)]
@@ -21,7 +23,12 @@ pub struct Ending {
 }
 
 /// Answers the text of one stream on another, as [`run`] does, and says what the program ends with.
-pub fn serve<R: Source, W: Sink>(alloc: Global, reader: &mut R, writer: &mut W) -> Ending
+pub fn serve<RT: Threads + Wait + Sync, R: Source, W: Sink>(
+    rt: &RT,
+    alloc: Global,
+    reader: &mut R,
+    writer: &mut W,
+) -> Ending
     // A line was written whole, or the reader failed, or the writer.
     ensures ended { (EndsAnswered (R.remaining reader.old)
         (W.contents writer.old) (W.contents writer.new) result
@@ -36,7 +43,7 @@ pub fn serve<R: Source, W: Sink>(alloc: Global, reader: &mut R, writer: &mut W) 
         × HasFailed (W.failures writer.old) (W.failures writer.new))) }
     ensures reads { R.calls reader.new ≤ R.calls reader.old + most_reads }
 {
-    match run(alloc, reader, writer) {
+    match run(rt, alloc, reader, writer) {
         Ok(Status::Tensor) => quiet(0),
         Ok(Status::Fault) => quiet(1),
         Err(StreamFault::ReadFault) => complaining("error 16 ReadFault\n"),

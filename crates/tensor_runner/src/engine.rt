@@ -12,21 +12,25 @@ use crate::source::Source;
 use crate::status::{Status, StreamFault};
 use crate::writing::write_line;
 use std::alloc::Global;
+use std::sync::Wait;
+use std::thread::Threads;
 
 /// The most bytes of a text that are read: one more than a text may have, which tells that it is
 /// too long.
 pub const MOST_READ: usize = 16_777_217;
 
 /// Reads a request text to its end, or to its first [`MOST_READ`] bytes, and writes the line that
-/// answers it: the tensor, or the first fault. No memory is taken from the first write on; where
-/// there is none before it, the line says so.
+/// answers it: the tensor, or the first fault. The tensor is worked out by the request's workers;
+/// where values were lost between them the line is `error 18 Lost`. No memory is taken from the
+/// first write on; where there is none before it, the line says so.
 ///
 /// # Errors
 ///
 /// [`StreamFault::ReadFault`] at any error of a read: nothing was written then.
 /// [`StreamFault::WriteFault`] at an error of a write, or where it takes nothing: the front of the
 /// line was written then.
-pub fn run<R: Source, W: Sink>(
+pub fn run<RT: Threads + Wait + Sync, R: Source, W: Sink>(
+    rt: &RT,
     alloc: Global,
     reader: &mut R,
     writer: &mut W,
@@ -47,13 +51,17 @@ pub fn run<R: Source, W: Sink>(
         × (W.failures writer.new ≡ W.failures writer.old)) }
     ensures reads { R.calls reader.new ≤ R.calls reader.old + most_reads }
 {
-    let line = prepare(alloc, reader)?;
+    let line = prepare(rt, alloc, reader)?;
     write_line(writer, line.bytes.as_slice())?;
     Ok(line.status)
 }
 
 /// The line that answers the text of a reader, whole in memory.
-fn prepare<R: Source>(alloc: Global, reader: &mut R) -> Result<Line, StreamFault>
+fn prepare<RT: Threads + Wait + Sync, R: Source>(
+    rt: &RT,
+    alloc: Global,
+    reader: &mut R,
+) -> Result<Line, StreamFault>
     ensures line { IfOk result (λ line. (text : List ℕ) → R.remaining reader.old ≡ Some text
         → IsLineFor text line) }
     ensures ok_failures { OnOk result (R.failures reader.new ≡ R.failures reader.old) }
@@ -62,7 +70,7 @@ fn prepare<R: Source>(alloc: Global, reader: &mut R) -> Result<Line, StreamFault
     ensures calls { R.calls reader.new ≤ R.calls reader.old + most_reads }
 {
     match read_text(alloc, reader) {
-        Ok(text) => Ok(answer(alloc, text)),
+        Ok(text) => Ok(answer(rt, alloc, text)),
         Err(Unread::NoMemory) => Ok(no_memory()),
         Err(Unread::Failed) => Err(StreamFault::ReadFault),
     }

@@ -9,7 +9,7 @@ use thiserror::Error;
 pub enum Status {
     /// A tensor.
     Tensor,
-    /// A fault of the text.
+    /// A fault.
     Fault,
 }
 
@@ -19,6 +19,9 @@ pub enum RunFault {
     /// A growth of memory was refused.
     #[error("error 15 NoMemory")]
     NoMemory = 15,
+    /// Values that workers had worked out were lost on the way back.
+    #[error("error 18 Lost")]
+    Lost = 18,
 }
 
 /// Why no whole line was written.

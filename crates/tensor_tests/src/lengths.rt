@@ -1,6 +1,6 @@
 //! The length of a text: at most 16,777,216 bytes.
 
-use crate::fixtures::{SCALAR, prints};
+use crate::fixtures::{FIVE, prints, request};
 use std::test::Fail;
 
 const MOST: usize = 16_777_216;
@@ -18,7 +18,8 @@ fn length_limit(rt: HostRuntime) -> Result<(), Fail> {
 /// A request with white space behind it.
 #[test]
 fn longest_request(rt: HostRuntime) -> Result<(), Fail> {
-    let mut text = SCALAR.as_bytes().to_vec(rt.alloc())?;
+    let request = request(rt.alloc(), FIVE, "\"a\"")?;
+    let mut text = request.as_bytes().to_vec(rt.alloc())?;
     text.resize(MOST, b' ')?;
     prints(
         &rt,

@@ -1,43 +1,18 @@
-//! Tests of the whole way from the bytes of a request text to the line that answers it.
+//! Tests of the whole way from the bytes of a request text to the line that answers it, where a file
+//! of cases can't hold the text: it has bytes of its own, or is made by a rule.
 #![tactic(auto)]
 
 #[cfg(test)]
-mod arguments;
-#[cfg(test)]
-mod check_order;
-#[cfg(test)]
-mod contractions;
-#[cfg(test)]
-mod each_fault;
+mod bytes;
 #[cfg(test)]
 mod evaluation;
-#[cfg(test)]
-mod fault_order;
 #[cfg(test)]
 mod fixtures;
 #[cfg(test)]
 mod lengths;
 #[cfg(test)]
-mod movements;
-#[cfg(test)]
-mod nested;
-#[cfg(test)]
 mod pieces;
-#[cfg(test)]
-mod plans;
-#[cfg(test)]
-mod ranks;
-#[cfg(test)]
-mod readers;
-#[cfg(test)]
-mod reductions;
-#[cfg(test)]
-mod tensors;
 #[cfg(test)]
 mod tiles;
 #[cfg(test)]
 mod trees;
-#[cfg(test)]
-mod values;
-#[cfg(test)]
-mod writers;

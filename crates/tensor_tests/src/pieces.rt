@@ -95,3 +95,14 @@ fn over_movements(rt: HostRuntime) -> Result<(), Fail> {
     }
     Ok(())
 }
+
+#[test]
+fn a_sum_of_the_most_places(rt: HostRuntime) -> Result<(), Fail> {
+    answers(
+        &rt,
+        rt.alloc(),
+        r#"{"a":{"dims":[1],"data":[1]}}"#,
+        r#"["sum",["broadcast","a",[1048576]],[0]]"#,
+        r#"{"data":[1048576],"dims":[]}"#,
+    )
+}

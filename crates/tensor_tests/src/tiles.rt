@@ -3,7 +3,9 @@
 use crate::fixtures::answers;
 use std::alloc::{AllocError, Global};
 use std::process::Abort;
+use std::sync::Wait;
 use std::test::Fail;
+use std::thread::Threads;
 
 /// Two lists of small numbers.
 const SMALL: &str = concat!(
@@ -92,8 +94,8 @@ fn product(alloc: Global, rows: u32, products: u32, columns: u32) -> Result<Stri
 }
 
 // Each value of a product, weighed by its row and its column, adds up to one number.
-fn weighs(
-    rt: &impl Abort,
+fn weighs<RT: Threads + Wait + Abort + Sync>(
+    rt: &RT,
     inputs: &str,
     alloc: Global,
     (rows, products, columns): (u32, u32, u32),

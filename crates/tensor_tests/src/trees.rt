@@ -68,28 +68,14 @@ fn node_number_before_its_faults(rt: HostRuntime) -> Result<(), Fail> {
 fn mismatched_dims_and_too_many_nodes(rt: HostRuntime) -> Result<(), Fail> {
     let mut tree = String::new(rt.alloc());
     push_tree(&mut tree, 501)?;
-    let before = format!(in rt.alloc(); "[\"add\",[\"add\",\"a\",\"b\"],{}]", tree.as_str())?;
-    answers(
-        &rt,
-        rt.alloc(),
-        TWO_SHAPES,
-        before.as_str(),
-        "error 12 ShapeMismatch",
-    )?;
-    let behind = format!(in rt.alloc(); "[\"add\",{},[\"add\",\"a\",\"b\"]]", tree.as_str())?;
-    answers(
-        &rt,
-        rt.alloc(),
-        TWO_SHAPES,
-        behind.as_str(),
-        "error 14 TooLarge",
-    )?;
-    let around = format!(in rt.alloc(); "[\"add\",\"b\",{}]", tree.as_str())?;
-    answers(
-        &rt,
-        rt.alloc(),
-        TWO_SHAPES,
-        around.as_str(),
-        "error 14 TooLarge",
-    )
+    let pair = r#"["add","a","b"]"#;
+    for (first, second, line) in [
+        (pair, tree.as_str(), "error 12 ShapeMismatch"),
+        (tree.as_str(), pair, "error 14 TooLarge"),
+        ("\"b\"", tree.as_str(), "error 14 TooLarge"),
+    ] {
+        let expr = format!(in rt.alloc(); "[\"add\",{first},{second}]")?;
+        answers(&rt, rt.alloc(), TWO_SHAPES, expr.as_str(), line)?;
+    }
+    Ok(())
 }

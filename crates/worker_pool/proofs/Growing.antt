@@ -1,7 +1,13 @@
 -- Facts about lists that a loop goes through or fills.
 use Rattle.std.proofs.Common.{◌≡◌, ℕ, List, [], ◌∷◌, ◌++◌, All, Option, Some, option_to_list}
-use Rattle.std.proofs.Common.{subst, sym}
+use Rattle.std.proofs.Common.{subst, sym, ap, ◌∙◌, length, ◌+◌}
+use Rattle.std.proofs.lemmas.List.{length_push}
 use Rattle.std.proofs.lemmas.List.Elements.{All-append, All-nil, All-cons, All-head, All-tail}
+
+-- a list that gets one item more at its end
+pub length-snoc : {X : Type 0} (xs : List X) (x : X) (ys : List X) → ys ≡ xs ++ x ∷ []
+    → length ys ≡ length xs + 1
+length-snoc xs x ys is = ap length is ∙ length_push xs x
 
 module _ {X : Type 0} (P : X → Type 0) where
   -- what holds of each item holds of each that is left behind the first

@@ -1,4 +1,9 @@
 pub mod Bags
+pub mod Checks
+pub mod Closings
+pub mod Dealings
 pub mod Growing
+pub mod Numbered
 pub mod Runnings
+pub mod StopWords
 pub mod Tallies

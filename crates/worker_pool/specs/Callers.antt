@@ -8,7 +8,8 @@ use Rattle.worker_pool.specs.declared.caller.Caller.{Caller}
 use Rattle.worker_pool.specs.Accounts.{Account}
 use Rattle.worker_pool.specs.Seats.{IsOpener}
 use Rattle.worker_pool.specs.Steps.{IsStep}
-use Rattle.worker_pool.specs.Stops.{IsStopSeatOf, jobs_of}
+use Rattle.worker_pool.specs.Stops.{IsStopSeatOf, jobs_of, stored_of, last_word}
+use Rattle.worker_pool.specs.Stops.{cancelled_word}
 
 module _ {J A W R L C O T S K : Type 0} where
   -- the jobs that were scheduled through the caller, in order
@@ -22,6 +23,14 @@ module _ {J A W R L C O T S K : Type 0} where
   -- how many workers its pool was set up with
   abbrev pub workers_of : Caller J A W R L C O T S K → ℕ
   workers_of caller = caller.ground.now.workers
+
+  -- what was last stored in the stop word through the caller
+  abbrev pub stop_of : Caller J A W R L C O T S K → ℕ
+  stop_of caller = stored_of caller.scheduled
+
+  -- the pool was cancelled through the caller
+  abbrev pub IsCancelled : Caller J A W R L C O T S K → Type 0
+  IsCancelled caller = stop_of caller ≡ cancelled_word
 
   -- both are callers of one pool
   pub record IsSamePool (caller then : Caller J A W R L C O T S K) : Type 0 where
@@ -38,6 +47,7 @@ module _ {J A W R L C O T S K : Type 0} where
       pub opener : IsOpener row point caller.ground.now caller.opener.row caller.opener.waker
       pub scheduled : IsStopSeatOf caller.stop.now caller.scheduled
       pub few : started_of caller ≤ workers_of caller
+      pub stop : stop_of caller ≡ last_word caller.cancelled
       pub took_none : row.keeps_accounts → row.takes_of caller.opener.row ≡ []
       pub account : Account row.keeps_accounts
           (IsStep law.weight_of law.allows caller.ctx.now)

@@ -1,5 +1,5 @@
 -- What the thread that opened a pool works with, and what it has done.
-use Rattle.std.specs.Prelude.{◌≡◌, []}
+use Rattle.std.specs.Prelude.{◌≡◌, ◌↔◌, List, [], IsTrue}
 use Rattle.event_count.specs.declared.wait_point.WaitPoint as wait_point
 use Rattle.run_queue.specs.declared.rows.Rows as rows
 use Rattle.worker_pool.specs.declared.job.Job as job
@@ -8,10 +8,10 @@ use Rattle.worker_pool.specs.declared.caller.Caller.{Caller}
 use Rattle.worker_pool.specs.declared.desk.Desk.{Desk}
 use Rattle.worker_pool.specs.declared.pool.Pool.{Pool}
 use Rattle.worker_pool.specs.Accounts.{Account}
-use Rattle.worker_pool.specs.Callers.{roots_of, workers_of}
+use Rattle.worker_pool.specs.Callers.{IsCancelled, roots_of, workers_of}
 use Rattle.worker_pool.specs.Seats.{IsOpener}
 use Rattle.worker_pool.specs.Steps.{IsStep}
-use Rattle.worker_pool.specs.Stops.{IsStopSeatOf, jobs_of}
+use Rattle.worker_pool.specs.Stops.{IsStopSeatOf, jobs_of, stored_of, open_word, closing_word}
 
 module _ {J A W R L C O T S K : Type 0} (row : rows.Ghosts R J A S)
     (point : wait_point.Ghosts W A T) where
@@ -21,19 +21,28 @@ module _ {J A W R L C O T S K : Type 0} (row : rows.Ghosts R J A S)
     pub opener : IsOpener row point pool.ground desk.opener.row desk.opener.waker
     pub stop_seat : IsStopSeatOf pool.stop.shared desk.scheduled
     pub no_roots : jobs_of desk.scheduled ≡ []
+    pub stored_none : stored_of desk.scheduled ≡ open_word
     pub put_none : row.keeps_accounts → row.puts_of desk.opener.row ≡ []
     pub took_none : row.keeps_accounts → row.takes_of desk.opener.row ≡ []
     pub no_outs : list.items_of desk.outs ≡ []
     pub none_refused : desk.refused ≡ 0
 
+  -- These jobs came in: some were passed on, and the others ran. The pool is closing.
+  pub record HasWorked (law : job.Ghosts J A C O) (list : lists.Ghosts L O A K) (pool : Pool J A W R)
+      (ctx : C) (roots : List J) (desk : Desk J A W R L C O T S K) : Type 0 where
+    pub opener : IsOpener row point pool.ground desk.opener.row desk.opener.waker
+    pub stop_seat : IsStopSeatOf pool.stop.shared desk.scheduled
+    pub closing : stored_of desk.scheduled ≡ closing_word desk.cancelled
+    pub took_none : row.keeps_accounts → row.takes_of desk.opener.row ≡ []
+    pub account : Account row.keeps_accounts (IsStep law.weight_of law.allows ctx) roots
+        (row.puts_of desk.opener.row) (list.items_of desk.outs) [] desk.refused
+
   -- It was lent as one caller and came back as another: the jobs that were scheduled meanwhile came
-  -- in, some jobs were passed on, and the others ran.
+  -- in, and it knows whether the pool was cancelled.
   pub record IsLent (law : job.Ghosts J A C O) (list : lists.Ghosts L O A K) (pool : Pool J A W R)
       (ctx : C) (before after : Caller J A W R L C O T S K)
       (desk : Desk J A W R L C O T S K) : Type 0 where
     pub no_roots : roots_of before ≡ []
     pub workers : workers_of before ≡ pool.ground.workers
-    pub opener : IsOpener row point pool.ground desk.opener.row desk.opener.waker
-    pub took_none : row.keeps_accounts → row.takes_of desk.opener.row ≡ []
-    pub account : Account row.keeps_accounts (IsStep law.weight_of law.allows ctx)
-        (roots_of after) (row.puts_of desk.opener.row) (list.items_of desk.outs) [] desk.refused
+    pub cancelled : IsTrue desk.cancelled ↔ IsCancelled after
+    pub worked : HasWorked law list pool ctx (roots_of after) desk

@@ -2,12 +2,16 @@ pub use Rattle.run_queue.specs.Bag
 pub mod Accounts
 pub mod Callers
 pub mod Desks
+pub mod Gathered
 pub mod Nodes
+pub mod Openings
 pub mod Ran
 pub mod Seats
 pub mod Setup
+pub mod Starts
 pub mod Steps
 pub mod StopPlays
 pub mod Stops
+pub mod Tasks
 pub mod Turns
 pub mod Works

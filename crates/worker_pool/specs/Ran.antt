@@ -6,7 +6,7 @@ use Rattle.run_queue.specs.Bag.{total}
 use Rattle.worker_pool.specs.declared.job.Progress.{Progress}
 use Rattle.worker_pool.specs.Nodes.{Runs, Node, Done, Refused, IsLawful, job_of, kids_of, outs_of}
 use Rattle.worker_pool.specs.Nodes.{left_of, refusals_of}
-use Rattle.worker_pool.specs.Accounts.{counted}
+use Rattle.worker_pool.specs.Accounts.{Account, counted}
 
 -- 1 where a run ended with no out
 abbrev pub refusal : {O : Type 0} → Option O → ℕ
@@ -44,3 +44,18 @@ pub record Went {J O : Type 0} (keeps : Type 0) (steps : J → Progress J O → 
   pub balance : keeps → (weight : J → ℕ)
       → total weight (map job_of nodes) + total weight passed
       ≡ weight job + total weight (flat_map kids_of nodes)
+
+-- These jobs came in and ran too, with all their kids: whoever had the account before has it now, of
+-- these jobs too, with what they left and the refusals that they add.
+pub record RanToo {J O : Type 0} (keeps : Type 0) (steps : J → Progress J O → Type 0) (jobs : List J)
+    (outs outs_then : List O) (refused refused_then : ℕ) : Type 0 where
+  pub account : (came passed : List J) → Account keeps steps came passed outs [] refused
+      → Account keeps steps (came ++ jobs) passed outs_then [] refused_then
+
+-- These jobs came in, and each ran too or is left: whoever had the account before has it now, of
+-- these jobs too.
+pub record AreSettled {J O : Type 0} (keeps : Type 0) (steps : J → Progress J O → Type 0)
+    (jobs : List J) (outs outs_then : List O) (left : List J) (refused refused_then : ℕ)
+    : Type 0 where
+  pub account : (came passed : List J) → Account keeps steps came passed outs [] refused
+      → Account keeps steps (came ++ jobs) passed outs_then left refused_then

@@ -1,5 +1,5 @@
 -- What the seats of a pool's threads are, while they work.
-use Rattle.std.specs.Prelude.{◌≡◌, ℕ, ◌<◌, ◌≤◌, List, []}
+use Rattle.std.specs.Prelude.{◌≡◌, ℕ, ◌+◌, ◌<◌, ◌≤◌, List, []}
 use Rattle.event_word.specs.declared.phase.Phase.{Phase}
 use Rattle.event_word.specs.declared.phase.Phase.TheVariants.{Running}
 use Rattle.event_count.specs.declared.wait_point.WaitPoint as wait_point
@@ -26,12 +26,15 @@ module _ {R J A S : Type 0} (row : rows.Ghosts R J A S) where
     pub owner : row.number_of seat < row.row_count at
 
 module _ {R J A S W T : Type 0} (row : rows.Ghosts R J A S) (point : wait_point.Ghosts W A T) where
-  -- there are rows and waiters for each worker of the setup
+  -- There are rows and waiters for each worker of the setup, and beside theirs one seat more at each
+  -- for the opener.
   pub record IsGround (ground : Ground W R) : Type 0 where
     pub some : 0 < ground.workers
     pub few : ground.workers ≤ most_rows
     pub rows : row.row_count ground.rows ≡ ground.workers
+    pub row_seats : row.seat_count ground.rows ≡ ground.workers + 1
     pub waiters : point.waiter_count ground.point ≡ ground.workers
+    pub wakers : point.seat_count ground.point ≡ ground.workers + 1
 
   -- the seats of the thread that opened the pool
   pub record IsOpener (ground : Ground W R) (seat : S) (waker : T) : Type 0 where

@@ -1,17 +1,44 @@
 -- What contracts say of the stop word and its seats.
-use Rattle.std.specs.Prelude.{◌≡◌, List, []}
+use Rattle.std.specs.Prelude.{◌≡◌, ℕ, Bool, true, false, List}
 use Rattle.atomic_table.specs.declared.shared.Shared.{Shared}
 use Rattle.atomic_table.specs.declared.shared.Seat.{Seat}
 use Rattle.worker_pool.specs.declared.stop.TheConstants.{WORDS}
 use Rattle.worker_pool.specs.declared.stop.StopRule.{StopRule}
+use Rattle.worker_pool.specs.declared.stop_view.StopView.{StopView}
+
+-- the stop word of a pool that is open
+abbrev pub open_word : ℕ
+open_word = 0
+
+-- the stop word of a pool that was cancelled
+abbrev pub cancelled_word : ℕ
+cancelled_word = 2
+
+-- what is last stored in the stop word before a pool closes: nothing, or that it was cancelled
+abbrev pub last_word : (cancelled : Bool) → ℕ
+last_word false = 0
+last_word true = 2
+
+-- what closing stores: that it was cancelled, where it was
+abbrev pub closing_word : (cancelled : Bool) → ℕ
+closing_word false = 1
+closing_word true = 2
 
 module _ {J : Type 0} where
   -- the jobs that were scheduled through the seat, in order
-  abbrev pub jobs_of : Seat (Unit {0}) (List J) → List J
-  jobs_of seat = seat.me.0
+  abbrev pub jobs_of : Seat (Unit {0}) (StopView J) → List J
+  jobs_of seat = seat.me.0.jobs
+
+  -- what the seat last stored in the stop word, or 0
+  abbrev pub stored_of : Seat (Unit {0}) (StopView J) → ℕ
+  stored_of seat = seat.me.0.stored
+
+  -- what the seat's last look found in the stop word, or 0
+  abbrev pub found_of : Seat (Unit {0}) (StopView J) → ℕ
+  found_of seat = seat.me.0.found
 
   -- the seat was made with the stop word's table
-  pub record IsStopSeatOf (stop : Shared (Unit {0}) (List J) (Unit {0}) StopRule)
-      (seat : Seat (Unit {0}) (List J)) : Type 0 where
+  pub record IsStopSeatOf (stop : Shared (Unit {0}) (StopView J) (Unit {0}) StopRule)
+      (seat : Seat (Unit {0}) (StopView J)) : Type 0 where
     pub ours : seat.table_id ≡ stop.table_id
     pub words : stop.table_id.words ≡ WORDS

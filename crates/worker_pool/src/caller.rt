@@ -1,7 +1,7 @@
 //! The one that opened a pool, as its body sees it.
 ghost use Rattle.std.specs.Prelude.{◌≡◌, ◌≤◌, [], ◌∷◌, ◌++◌};
-ghost use Rattle.worker_pool.specs.Callers.{IsCaller, StaysCaller, roots_of, started_of};
-ghost use Rattle.worker_pool.specs.Callers.{workers_of};
+ghost use Rattle.worker_pool.specs.Callers.{IsCaller, StaysCaller, IsCancelled, roots_of};
+ghost use Rattle.worker_pool.specs.Callers.{started_of, workers_of, stop_of};
 
 use crate::ground::Ground;
 use crate::job::Job;
@@ -33,6 +33,8 @@ pub struct Caller<
     pub(crate) scheduled: StopSeat<J>,
     pub(crate) outs: L::List,
     pub(crate) refused: u64,
+    /// Whether it cancelled the pool.
+    pub(crate) cancelled: bool,
 }
 
 impl<'p, J, A, W, R, L> Caller<'p, J, A, W, R, L>
@@ -50,6 +52,7 @@ where
         requires { IsCaller R.Rows W.WaitPoint J.Job L.Lists self.old }
         ensures caller { StaysCaller R.Rows W.WaitPoint J.Job L.Lists self.old self.new }
         ensures more { roots_of self.new ≡ roots_of self.old ++ job ∷ [] }
+        ensures stop { stop_of self.new ≡ stop_of self.old }
     {
         stop::note(self.stop, &mut self.scheduled, &job);
         let Err(job) = self.opener.pass(rt, self.ground, job) else {
@@ -65,6 +68,19 @@ where
             job,
         );
         self.refused = self.refused.saturating_add(refused);
+    }
+
+    /// Cancels the pool: each worker ends before its next turn. Jobs are scheduled as before, and
+    /// those that nobody has run are handed back once the pool is closed.
+    pub fn cancel<RT: Wait>(&mut self, rt: &RT)
+        requires { IsCaller R.Rows W.WaitPoint J.Job L.Lists self.old }
+        ensures caller { StaysCaller R.Rows W.WaitPoint J.Job L.Lists self.old self.new }
+        ensures same { roots_of self.new ≡ roots_of self.old }
+        ensures cancelled { IsCancelled self.new }
+    {
+        stop::cancel(self.stop, &mut self.scheduled);
+        self.cancelled = true;
+        self.ground.point.wake_all(rt, &mut self.opener.waker);
     }
 
     /// How many workers were started: at most those that the pool was set up with.

@@ -11,7 +11,7 @@ where
 {
     /// A list for each worker of the setup, by number, and then the caller's.
     pub outs: Vec<Vec<J::Out, A>, A>,
-    /// The jobs that were handed back: none, since a pool isn't cancelled.
+    /// The jobs that nobody ran, which only a pool that was cancelled hands back.
     pub left: Vec<J, A>,
     /// How many jobs were abandoned or ended for want of memory; the greatest `u64` where more.
     pub refused: u64,

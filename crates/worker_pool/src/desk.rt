@@ -1,8 +1,10 @@
 //! What the thread that opened a pool works with.
-ghost use Rattle.std.specs.Prelude.{◌≡◌, ◌≤◌};
+ghost use Rattle.std.specs.Prelude.{◌≡◌, ◌<◌, ◌≤◌, ◌↔◌, List, [], ◌∷◌, false, IsTrue};
 ghost use Rattle.std.specs.Fn.{FnOnceReturnsAtMut};
-ghost use Rattle.worker_pool.specs.Callers.{IsCaller, StaysCaller};
-ghost use Rattle.worker_pool.specs.Desks.{IsFresh, IsLent};
+ghost use Rattle.run_queue.specs.Limits.{most_rows};
+ghost use Rattle.worker_pool.specs.Callers.{IsCaller, StaysCaller, IsCancelled, roots_of, stop_of};
+ghost use Rattle.worker_pool.specs.Desks.{IsFresh, IsLent, HasWorked};
+ghost use Rattle.worker_pool.specs.Stops.{IsStopSeatOf, open_word};
 
 use crate::caller::Caller;
 use crate::job::Job;
@@ -30,10 +32,12 @@ where
     pub(crate) scheduled: StopSeat<J>,
     pub(crate) outs: L::List,
     pub(crate) refused: u64,
+    /// Whether the pool was cancelled.
+    pub(crate) cancelled: bool,
 }
 
-/// Calls the body with a caller, and begins to close the pool.
-pub(crate) fn lend<RT, J, A, W, R, L, F>(
+/// Calls the body with a caller, and lets the workers end.
+pub(crate) fn lend<W, R, L, RT, J, A, F>(
     rt: &RT,
     pool: &Pool<J, A, W, R>,
     ctx: &J::Ctx,
@@ -60,14 +64,96 @@ where
     ensures { (before : _) × (after : _) × FnOnceReturnsAtMut F.FnOnce body before tt after
         × IsLent R.Rows W.WaitPoint J.Job L.Lists pool.now ctx.now before after result }
 {
+    let mut caller = caller_of(pool, ctx, desk, started);
+    call(&mut caller, body);
+    end(rt, pool, caller)
+}
+
+/// Schedules the root, calls what comes then, and lets the workers end.
+pub(crate) fn plant<RT, J, A, W, R, L, F>(
+    rt: &RT,
+    pool: &Pool<J, A, W, R>,
+    ctx: &J::Ctx,
+    desk: Desk<J, A, W, R, L>,
+    started: u32,
+    root: J,
+    then: F,
+) -> Desk<J, A, W, R, L>
+where
+    RT: Wait,
+    J: Job<A> + Drop,
+    J::Out: Drop,
+    A: Allocator + Clone,
+    W: WaitPoint<A>,
+    R: Rows<J, A>,
+    L: Lists<J::Out, A>,
+    F: FnOnce(),
+    requires fresh { IsFresh R.Rows W.WaitPoint L.Lists pool.now desk }
+    requires few { started ≤ pool.now.ground.workers }
+    requires then { F.pre then }
+    ensures worked { HasWorked R.Rows W.WaitPoint J.Job L.Lists pool.now ctx.now (root ∷ [])
+        result }
+    ensures not_cancelled { result.cancelled ≡ false }
+{
+    let mut caller = caller_of(pool, ctx, desk, started);
+    caller.schedule(rt, root);
+    then();
+    end(rt, pool, caller)
+}
+
+/// The worker of this number takes no turn. What the desk has done stays.
+pub(crate) fn leave_out<J, A, W, R, L>(
+    pool: &Pool<J, A, W, R>,
+    desk: &mut Desk<J, A, W, R, L>,
+    worker: usize,
+)
+where
+    J: Job<A>,
+    A: Allocator,
+    W: WaitPoint<A>,
+    R: Rows<J, A>,
+    L: Lists<J::Out, A>,
+    requires stop { IsStopSeatOf pool.now.stop.shared desk.old.scheduled }
+    requires worker { worker < most_rows }
+    ensures worked { (ctx : J.Ctx) → (roots : List J)
+        → HasWorked R.Rows W.WaitPoint J.Job L.Lists pool.now ctx roots desk.old
+        → HasWorked R.Rows W.WaitPoint J.Job L.Lists pool.now ctx roots desk.new }
+    ensures cancelled { desk.new.cancelled ≡ desk.old.cancelled }
+{
+    stop::leave_out(&pool.stop.shared, &mut desk.scheduled, worker);
+}
+
+// The caller that works at the desk.
+fn caller_of<'p, J, A, W, R, L>(
+    pool: &'p Pool<J, A, W, R>,
+    ctx: &'p J::Ctx,
+    desk: Desk<J, A, W, R, L>,
+    started: u32,
+) -> Caller<'p, J, A, W, R, L>
+where
+    J: Job<A>,
+    A: Allocator,
+    W: WaitPoint<A>,
+    R: Rows<J, A>,
+    L: Lists<J::Out, A>,
+    requires fresh { IsFresh R.Rows W.WaitPoint L.Lists pool.now desk }
+    requires few { started ≤ pool.now.ground.workers }
+    ensures caller { IsCaller R.Rows W.WaitPoint J.Job L.Lists result }
+    ensures no_roots { roots_of result ≡ [] }
+    ensures open { stop_of result ≡ open_word }
+    ensures ground { result.ground.now ≡ pool.now.ground }
+    ensures stop { result.stop.now ≡ pool.now.stop.shared }
+    ensures ctx { result.ctx.now ≡ ctx.now }
+{
     let Desk {
         mut opener,
         scheduled,
         outs,
         refused,
+        cancelled: _,
     } = desk;
     opener.started = started;
-    let mut caller = Caller {
+    Caller {
         ground: &pool.ground,
         stop: &pool.stop.shared,
         alloc: &pool.alloc,
@@ -76,8 +162,30 @@ where
         scheduled,
         outs,
         refused,
-    };
-    call(&mut caller, body);
+        cancelled: false,
+    }
+}
+
+// From here on the pool is closing.
+fn end<RT, J, A, W, R, L>(
+    rt: &RT,
+    pool: &Pool<J, A, W, R>,
+    caller: Caller<'_, J, A, W, R, L>,
+) -> Desk<J, A, W, R, L>
+where
+    RT: Wait,
+    J: Job<A>,
+    A: Allocator,
+    W: WaitPoint<A>,
+    R: Rows<J, A>,
+    L: Lists<J::Out, A>,
+    requires caller { IsCaller R.Rows W.WaitPoint J.Job L.Lists caller }
+    requires ground { caller.ground.now ≡ pool.now.ground }
+    requires stop { caller.stop.now ≡ pool.now.stop.shared }
+    ensures worked { HasWorked R.Rows W.WaitPoint J.Job L.Lists pool.now caller.entry.ctx.now
+        (roots_of caller.entry) result }
+    ensures cancelled { IsTrue result.cancelled ↔ IsCancelled caller.entry }
+{
     let Caller {
         ground: _,
         stop: _,
@@ -87,19 +195,21 @@ where
         mut scheduled,
         outs,
         refused,
+        cancelled,
     } = caller;
-    stop::set(&pool.stop.shared, &mut scheduled);
+    stop::set(&pool.stop.shared, &mut scheduled, cancelled);
     pool.ground.point.wake_all(rt, &mut opener.waker);
     Desk {
         opener,
         scheduled,
         outs,
         refused,
+        cancelled,
     }
 }
 
 // Calls the body with the caller.
-fn call<J, A, W, R, L, F>(caller: &mut Caller<'_, J, A, W, R, L>, body: F)
+fn call<W, R, L, J, A, F>(caller: &mut Caller<'_, J, A, W, R, L>, body: F)
 where
     J: Job<A>,
     A: Allocator,

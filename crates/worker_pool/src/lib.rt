@@ -1,25 +1,37 @@
 //! A pool of workers that run jobs, as Eigen's `NonBlockingThreadPool.h`.
 #![tactic(auto)]
 
+mod boxed;
 mod caller;
+mod close;
 mod closed;
+mod closer;
 mod desk;
+mod entry;
 mod gate;
+mod gathered;
 mod ground;
 mod job;
 mod lists;
+mod near;
+mod open;
 mod opener;
 mod owner;
 mod passes;
 mod pool;
 mod run;
 mod setup;
+mod shop;
+mod start;
 mod steal;
 mod stop;
+mod stop_view;
 mod worker;
 
+pub use boxed::{BoxedJob, BoxedTask, TaskOut};
 pub use caller::Caller;
 pub use closed::Closed;
+pub use entry::{with_pool, with_root};
 pub use gate::{Gate, NoGate};
 pub use job::{Job, Progress};
 pub use lists::{Lists, VecLists};

@@ -1,6 +1,7 @@
 //! How a pool is set up.
-ghost use Rattle.std.specs.Prelude.{◌≡◌, ◌<◌, ◌↔◌, ◌⊎◌, vec_len, IsOk, IsErrOf};
-ghost use Rattle.worker_pool.specs.Setup.{IsPoolSize, IsNoPoolSize};
+ghost use Rattle.std.specs.Prelude.{◌≡◌, ◌<◌, ◌↔◌, ◌⊎◌, false, IsTrue, IsOk, IsErrOf};
+ghost use Rattle.worker_pool.specs.Setup.{IsPoolSize, IsNoPoolSize, ArePartitions};
+ghost use Rattle.worker_pool.specs.Setup.{AreNoPartitions};
 
 use event_count::CountFault;
 use run_queue::{MOST_ROWS, RowsFault};
@@ -37,7 +38,7 @@ impl From<AllocError> for PoolFault {
 #[derive(Debug, Drop)]
 pub struct Setup<A: Allocator = Global> {
     pub workers: u32,
-    /// None: each worker has the whole pool. A pool takes no partitions yet.
+    /// None: each worker has the whole pool. Else one for each worker, by number.
     pub partitions: Vec<Partition, A>,
 }
 
@@ -45,18 +46,33 @@ impl<A: Allocator> Setup<A> {
     /// The fault that `with_pool` would find in these numbers.
     pub fn check(&self) -> Result<(), PoolFault>
         ensures ok { IsOk result
-            ↔ (IsPoolSize self.now.workers × (vec_len self.now.partitions ≡ 0)) }
+            ↔ (IsPoolSize self.now.workers
+            × ArePartitions self.now.workers self.now.partitions.items) }
         ensures bad_workers { IsErrOf result PoolFault.BadWorkers
             ↔ IsNoPoolSize self.now.workers }
         ensures bad_partition { IsErrOf result PoolFault.BadPartition
-            ↔ (IsPoolSize self.now.workers × (0 < vec_len self.now.partitions)) }
+            ↔ (IsPoolSize self.now.workers
+            × AreNoPartitions self.now.workers self.now.partitions.items) }
     {
         if self.workers == 0 || self.workers > MOST_WORKERS {
             return Err(PoolFault::BadWorkers);
         }
-        if !self.partitions.is_empty() {
+        if !are_partitions(self.workers, &self.partitions) {
             return Err(PoolFault::BadPartition);
         }
         Ok(())
     }
+}
+
+// Whether there is no partition or one for each worker, and each ends inside the pool.
+fn are_partitions(workers: u32, partitions: &[Partition]) -> bool
+    ensures yes { IsTrue result ↔ ArePartitions workers partitions.now }
+    ensures no { (result ≡ false) ↔ AreNoPartitions workers partitions.now }
+{
+    if !partitions.is_empty() && partitions.len() != workers as usize {
+        return false;
+    }
+    partitions
+        .iter()
+        .all(|partition| partition.limit() <= workers)
 }

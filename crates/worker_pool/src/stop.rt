@@ -1,18 +1,32 @@
-//! The stop word, and what the seats at its table know.
-ghost use Rattle.std.specs.Prelude.{◌≡◌, List, [], ◌∷◌, ◌++◌, IfOk};
-ghost use Rattle.worker_pool.specs.Stops.{IsStopSeatOf, jobs_of};
+//! The stop word, the words of the workers, and what the seats at their table know.
+ghost use Rattle.std.specs.Prelude.{◌≡◌, ◌≢◌, ℕ, ◌+◌, ◌<◌, ◌↔◌, List, [], ◌∷◌, ◌++◌, IfOk, IsTrue};
+ghost use Rattle.run_queue.specs.Limits.{most_rows};
+ghost use Rattle.worker_pool.specs.Stops.{IsStopSeatOf, jobs_of, stored_of, found_of};
+ghost use Rattle.worker_pool.specs.Stops.{open_word, cancelled_word, closing_word};
 
+use crate::stop_view::StopView;
 use atomic_table::{Play, Seat, Shared, Split, Table, TableRule};
+use run_queue::MOST_ROWS;
 use std::alloc::{AllocError, Allocator};
-use std::collections::LinkedList;
 use std::marker::{Brand, PhantomData};
 
-/// How many words the table has.
-const WORDS: usize = 16;
+/// How many words the table has: two cache lines, and a word for each worker.
+const WORDS: usize = WORKERS + MOST_ROWS as usize;
 
-/// The place of the one word that is used. The cache line that it lies in has no memory of others,
-/// wherever the block begins.
+/// The place of the stop word. The cache line that it lies in has no memory of others, wherever the
+/// block begins.
 const STOP: usize = 8;
+
+/// The place of the first worker's word. A worker whose thread couldn't be started is called all the
+/// same, so that its seats come home, and this word tells it to take no turn. Each is loaded once,
+/// so they may share their lines.
+const WORKERS: usize = 16;
+
+/// The word of a worker that was started.
+const STARTED: u64 = 0;
+
+/// The word of a worker that was left out, since no thread could be had for it.
+const LEFT_OUT: u64 = 1;
 
 /// The stop word of a pool that is open.
 const OPEN: u64 = 0;
@@ -20,35 +34,67 @@ const OPEN: u64 = 0;
 /// The stop word of a pool that is closing.
 const CLOSING: u64 = 1;
 
-/// Nothing is asked of the stop word. What a seat knows is the jobs that were scheduled through it.
+/// The stop word of a pool that was cancelled, and stays so while it closes.
+const CANCELLED: u64 = 2;
+
+/// Nothing is asked of the stop word.
 pub(crate) struct StopRule;
 
-impl<J> TableRule<(), LinkedList<J>, ()> for StopRule {
-    ghost use Rattle.std.specs.Prelude.{[]};
+impl<J> TableRule<(), StopView<J>, ()> for StopRule {
+    ghost use Rattle.worker_pool.specs.StopPlays.{unused};
 
     ghost holds = { λ _ _. Unit {0} };
 
-    ghost first = { λ _. [] };
+    ghost first = { λ _. unused };
 }
 
 /// A new seat has scheduled nothing.
 struct DealsSeat<J>(PhantomData<J>);
 
-impl<J> Split<LinkedList<J>> for DealsSeat<J> {
-    ghost use Rattle.std.specs.Prelude.{[]};
+impl<J> Split<StopView<J>> for DealsSeat<J> {
+    ghost use Rattle.worker_pool.specs.StopPlays.{unused};
 
-    ghost left = { λ jobs. jobs };
+    ghost left = { λ view. view };
 
-    ghost right = { λ _. [] };
+    ghost right = { λ _. unused };
 }
 
-/// The stop word is loaded or stored, and nothing is scheduled.
-struct Steps<J>(PhantomData<J>);
+/// The stop word is loaded.
+struct Looks<J>(PhantomData<J>);
 
-impl<J> Play<(), LinkedList<J>> for Steps<J> {
-    ghost use Rattle.worker_pool.specs.StopPlays.{keeps_jobs};
+impl<J> Play<(), StopView<J>> for Looks<J> {
+    ghost use Rattle.worker_pool.specs.StopPlays.{looks};
 
-    ghost then = { keeps_jobs };
+    ghost then = { looks };
+}
+
+/// The stop word is stored.
+struct Stores<J>(PhantomData<J>);
+
+impl<J> Play<(), StopView<J>> for Stores<J> {
+    ghost use Rattle.worker_pool.specs.StopPlays.{stores};
+
+    ghost then = { stores };
+}
+
+/// The place of a worker's word.
+trait WordOfWorker {
+    ghost use Rattle.std.specs.Prelude.{ℕ};
+
+    ghost place: { ℕ };
+}
+
+impl WordOfWorker for Brand {
+    ghost place = { 0 };
+}
+
+/// A worker's word is loaded or stored, of which no view tells.
+struct StepsOnWorker<J, K: WordOfWorker>(PhantomData<(J, K)>);
+
+impl<J, K: WordOfWorker> Play<(), StopView<J>> for StepsOnWorker<J, K> {
+    ghost use Rattle.worker_pool.specs.StopPlays.{keeps_view};
+
+    ghost then = { keeps_view K.place };
 }
 
 /// The jobs that a load schedules.
@@ -63,27 +109,28 @@ impl<J> Scheduled<J> for Brand {
 /// The stop word is loaded, and these jobs are scheduled.
 struct Schedules<J, K: Scheduled<J>>(PhantomData<(J, K)>);
 
-impl<J, K: Scheduled<J>> Play<(), LinkedList<J>> for Schedules<J, K> {
+impl<J, K: Scheduled<J>> Play<(), StopView<J>> for Schedules<J, K> {
     ghost use Rattle.worker_pool.specs.StopPlays.{adds_jobs};
 
     ghost then = { adds_jobs K.jobs };
 }
 
 /// The table of a pool's stop word.
-pub(crate) type StopTable<J, A> = Table<(), LinkedList<J>, (), StopRule, A>;
+pub(crate) type StopTable<J, A> = Table<(), StopView<J>, (), StopRule, A>;
 
 /// A word that says whether a pool is closing.
-pub(crate) type StopWord<J> = Shared<(), LinkedList<J>, (), StopRule>;
+pub(crate) type StopWord<J> = Shared<(), StopView<J>, (), StopRule>;
 
 /// A seat at a stop word.
-pub(crate) type StopSeat<J> = Seat<(), LinkedList<J>>;
+pub(crate) type StopSeat<J> = Seat<(), StopView<J>>;
 
 /// The stop word of a pool that is open, and its first seat.
 pub(crate) fn open<J, A: Allocator>(alloc: A) -> Result<(StopTable<J, A>, StopSeat<J>), AllocError>
     ensures of { IfOk result (λ made. IsStopSeatOf made.0.shared made.1) }
     ensures none { IfOk result (λ made. jobs_of made.1 ≡ []) }
+    ensures stored { IfOk result (λ made. stored_of made.1 ≡ open_word) }
 {
-    let mut words = [0; WORDS];
+    let mut words = [STARTED; WORDS];
     words[STOP] = OPEN;
     Table::of_words(alloc, &words, &())
 }
@@ -93,27 +140,51 @@ pub(crate) fn deal<J>(stop: &StopWord<J>, seat: &mut StopSeat<J>) -> StopSeat<J>
     requires { IsStopSeatOf stop.now seat.old }
     ensures of { IsStopSeatOf stop.now seat.new × IsStopSeatOf stop.now result }
     ensures same { jobs_of seat.new ≡ jobs_of seat.old }
+    ensures stored { stored_of seat.new ≡ stored_of seat.old }
     ensures none { jobs_of result ≡ [] }
 {
     stop.split_seat::<DealsSeat<J>>(seat)
 }
 
-/// Whether the pool was closing when the word was loaded.
+/// Whether the pool was closing or cancelled when the word was loaded.
 pub(crate) fn is_set<J>(stop: &StopWord<J>, seat: &mut StopSeat<J>) -> bool
     requires { IsStopSeatOf stop.now seat.old }
     ensures of { IsStopSeatOf stop.now seat.new }
     ensures same { jobs_of seat.new ≡ jobs_of seat.old }
+    ensures set { IsTrue result ↔ (found_of seat.new ≢ open_word) }
 {
-    stop.load::<Steps<J>>(seat, STOP) != OPEN
+    stop.load::<Looks<J>>(seat, STOP) != OPEN
 }
 
-/// From now on the pool is closing.
-pub(crate) fn set<J>(stop: &StopWord<J>, seat: &mut StopSeat<J>)
+/// Whether the pool was cancelled when the word was loaded.
+pub(crate) fn is_cancelled<J>(stop: &StopWord<J>, seat: &mut StopSeat<J>) -> bool
     requires { IsStopSeatOf stop.now seat.old }
     ensures of { IsStopSeatOf stop.now seat.new }
     ensures same { jobs_of seat.new ≡ jobs_of seat.old }
+    ensures cancelled { IsTrue result ↔ (found_of seat.new ≡ cancelled_word) }
 {
-    stop.store::<Steps<J>>(seat, STOP, CLOSING);
+    stop.load::<Looks<J>>(seat, STOP) == CANCELLED
+}
+
+/// From now on the pool is closing. Where it was cancelled it stays so.
+pub(crate) fn set<J>(stop: &StopWord<J>, seat: &mut StopSeat<J>, cancelled: bool)
+    requires { IsStopSeatOf stop.now seat.old }
+    ensures of { IsStopSeatOf stop.now seat.new }
+    ensures same { jobs_of seat.new ≡ jobs_of seat.old }
+    ensures stored { stored_of seat.new ≡ closing_word cancelled }
+{
+    let word = if cancelled { CANCELLED } else { CLOSING };
+    stop.store::<Stores<J>>(seat, STOP, word);
+}
+
+/// From now on the pool is cancelled.
+pub(crate) fn cancel<J>(stop: &StopWord<J>, seat: &mut StopSeat<J>)
+    requires { IsStopSeatOf stop.now seat.old }
+    ensures of { IsStopSeatOf stop.now seat.new }
+    ensures same { jobs_of seat.new ≡ jobs_of seat.old }
+    ensures stored { stored_of seat.new ≡ cancelled_word }
+{
+    stop.store::<Stores<J>>(seat, STOP, CANCELLED);
 }
 
 /// Writes down that the job was scheduled: in the seat's view, where contracts see it.
@@ -121,6 +192,7 @@ pub(crate) fn note<J>(stop: &StopWord<J>, seat: &mut StopSeat<J>, job: &J)
     requires { IsStopSeatOf stop.now seat.old }
     ensures of { IsStopSeatOf stop.now seat.new }
     ensures more { jobs_of seat.new ≡ jobs_of seat.old ++ job.now ∷ [] }
+    ensures stored { stored_of seat.new ≡ stored_of seat.old }
 {
     note_by::<J, Brand>(stop, seat, job);
 }
@@ -129,6 +201,49 @@ fn note_by<J, K: Scheduled<J>>(stop: &StopWord<J>, seat: &mut StopSeat<J>, _job:
     requires { IsStopSeatOf stop.now seat.old }
     ensures of { IsStopSeatOf stop.now seat.new }
     ensures more { jobs_of seat.new ≡ jobs_of seat.old ++ K.jobs }
+    ensures stored { stored_of seat.new ≡ stored_of seat.old }
 {
     stop.load::<Schedules<J, K>>(seat, STOP);
+}
+
+/// Whether the worker of this number had been left out when its word was loaded.
+pub(crate) fn is_left_out<J>(stop: &StopWord<J>, seat: &mut StopSeat<J>, worker: usize) -> bool
+    requires of { IsStopSeatOf stop.now seat.old }
+    requires worker { worker < most_rows }
+    ensures of { IsStopSeatOf stop.now seat.new }
+    ensures same { jobs_of seat.new ≡ jobs_of seat.old }
+{
+    load_by::<J, Brand>(stop, seat, worker) == LEFT_OUT
+}
+
+/// The worker of this number takes no turn.
+pub(crate) fn leave_out<J>(stop: &StopWord<J>, seat: &mut StopSeat<J>, worker: usize)
+    requires of { IsStopSeatOf stop.now seat.old }
+    requires worker { worker < most_rows }
+    ensures of { IsStopSeatOf stop.now seat.new }
+    ensures same { jobs_of seat.new ≡ jobs_of seat.old }
+    ensures stored { stored_of seat.new ≡ stored_of seat.old }
+{
+    store_by::<J, Brand>(stop, seat, worker);
+}
+
+fn load_by<J, K: WordOfWorker>(stop: &StopWord<J>, seat: &mut StopSeat<J>, worker: usize) -> u64
+    requires of { IsStopSeatOf stop.now seat.old }
+    requires worker { worker < most_rows }
+    requires place { K.place ≡ WORKERS + worker }
+    ensures of { IsStopSeatOf stop.now seat.new }
+    ensures same { jobs_of seat.new ≡ jobs_of seat.old }
+{
+    stop.load::<StepsOnWorker<J, K>>(seat, WORKERS + worker)
+}
+
+fn store_by<J, K: WordOfWorker>(stop: &StopWord<J>, seat: &mut StopSeat<J>, worker: usize)
+    requires of { IsStopSeatOf stop.now seat.old }
+    requires worker { worker < most_rows }
+    requires place { K.place ≡ WORKERS + worker }
+    ensures of { IsStopSeatOf stop.now seat.new }
+    ensures same { jobs_of seat.new ≡ jobs_of seat.old }
+    ensures stored { stored_of seat.new ≡ stored_of seat.old }
+{
+    stop.store::<StepsOnWorker<J, K>>(seat, WORKERS + worker, LEFT_OUT);
 }

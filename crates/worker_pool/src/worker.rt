@@ -3,11 +3,13 @@ ghost use Rattle.std.specs.Prelude.{◌≡◌, ◌<◌, ◌++◌, All};
 ghost use Rattle.worker_pool.specs.Seats.{IsGround, IsOwner};
 ghost use Rattle.worker_pool.specs.Stops.{IsStopSeatOf};
 ghost use Rattle.worker_pool.specs.Turns.{jobs_in};
-ghost use Rattle.worker_pool.specs.Works.{IsAtWork};
+ghost use Rattle.worker_pool.specs.Works.{IsAtWork, IsInside};
 
+use crate::gate::Gate;
 use crate::ground::Ground;
 use crate::job::Job;
 use crate::lists::VecLists;
+use crate::near::Near;
 use crate::owner::Owner;
 use crate::pool::Pool;
 use crate::run::begin;
@@ -33,6 +35,8 @@ where
     R: Rows<J, A>,
 {
     pub(crate) number: u32,
+    /// Its partition, where it has one that isn't the whole pool.
+    pub(crate) near: Option<Near<A>>,
     pub(crate) owner: Owner<J, A, W, R>,
     pub(crate) stop: StopSeat<J>,
     pub(crate) words: Lcg64Xsh32,
@@ -47,38 +51,44 @@ pub(crate) enum Turn<J> {
     Found(J),
     /// With nothing, and the worker turns again.
     Again,
-    /// With nothing in a pool that is closing: it was the last.
+    /// With nothing in a pool that is closing, or at once in one that was cancelled: it was the
+    /// last.
     Last,
 }
 
-/// Turns until the pool is closing and no job is found, and runs what it finds.
-pub(crate) fn take_turns<RT, J, A, W, R>(
+/// Turns until the pool is closing and no job is found, or was cancelled, and runs what it finds.
+pub(crate) fn take_turns<RT, J, A, W, R, G>(
     rt: &RT,
     pool: &Pool<J, A, W, R>,
     ctx: &J::Ctx,
+    gate: &G,
     hands: Hands<J, A, W, R>,
 ) -> Hands<J, A, W, R>
 where
-    RT: Wait + Sync,
-    J: Job<A> + Drop + Send,
-    J::Ctx: Sync,
-    J::Out: Drop + Send,
-    A: Allocator + Clone + Send + Sync,
-    W: WaitPoint<A> + Sync,
-    R: Rows<J, A> + Sync,
+    RT: Wait,
+    J: Job<A> + Drop,
+    J::Out: Drop,
+    A: Allocator + Clone,
+    W: WaitPoint<A>,
+    R: Rows<J, A>,
+    G: Gate,
     requires { IsAtWork R.Rows W.WaitPoint J.Job pool.now ctx.now hands }
     ensures { IsAtWork R.Rows W.WaitPoint J.Job pool.now ctx.now result }
 {
     let Hands {
         number,
+        near,
         mut owner,
         mut stop,
         mut words,
         mut outs,
         mut refused,
     } = hands;
+    let mut turn: u64 = 0;
     for _ in rt.forever() {
-        match take_turn(rt, pool, &mut owner, &mut stop, &mut words) {
+        gate.before(number, turn);
+        turn = turn.saturating_add(1);
+        match take_turn(rt, pool, &near, &mut owner, &mut stop, &mut words) {
             Turn::Found(job) => {
                 let more = begin::<RT, J, A, VecLists, Owner<J, A, W, R>>(
                     rt,
@@ -95,6 +105,7 @@ where
             Turn::Last => {
                 return Hands {
                     number,
+                    near,
                     owner,
                     stop,
                     words,
@@ -107,10 +118,12 @@ where
     unreachable!()
 }
 
-// Looks in its own row, and then in all rows; where it finds nothing it waits.
+// Looks in its own row, then in those of its partition, and then in all; where it finds nothing it
+// waits. In a pool that was cancelled it looks nowhere.
 fn take_turn<RT, J, A, W, R>(
     rt: &RT,
     pool: &Pool<J, A, W, R>,
+    near: &Option<Near<A>>,
     owner: &mut Owner<J, A, W, R>,
     stop: &mut StopSeat<J>,
     words: &mut Lcg64Xsh32,
@@ -120,6 +133,7 @@ where
     A: Allocator,
     W: WaitPoint<A>,
     R: Rows<J, A>,
+    requires near { IsInside pool.now.ground.workers near.now }
     requires owner { IsOwner R.Rows W.WaitPoint pool.now.ground owner.old.row owner.old.waker }
     requires stop { IsStopSeatOf pool.now.stop.shared stop.old }
     requires coprimes { pool.now.coprimes ≡ pool.now.ground.workers }
@@ -130,8 +144,16 @@ where
         → R.takes_of owner.new.row ≡ R.takes_of owner.old.row ++ jobs_in result }
 {
     let rows = &pool.ground.rows;
+    if stop::is_cancelled(&pool.stop.shared, stop) {
+        return Turn::Last;
+    }
     if let Some(job) = rows.take_front(rt, &mut owner.row) {
         return Turn::Found(job);
+    }
+    if let Some(near) = near {
+        if let Some(job) = steal(rt, rows, &mut owner.row, near.walk(words)) {
+            return Turn::Found(job);
+        }
     }
     let walk = walk_of(pool, words);
     if let Some(job) = steal(rt, rows, &mut owner.row, walk) {

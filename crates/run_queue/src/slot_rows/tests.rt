@@ -20,6 +20,7 @@ fn full_row_gives_the_job_back(rt: HostRuntime) -> Result<(), Fail> {
         assert_eq!(rt; rows.push_front(owner, job), Ok(()), "job {job}");
     }
     assert_eq!(rt; rows.push_front(owner, 5000), Err(5000));
+    assert_eq!(rt; rows.close(seats).len(), 1024);
     Ok(())
 }
 
@@ -29,14 +30,14 @@ fn both_ends(rt: HostRuntime) -> Result<(), Fail> {
     assert_eq!(rt; seats.len(), 1);
     let owner = &mut seats[0];
     assert_eq!(rt; owner.number, 0);
-    assert_eq!(rt; rows.pop_front(owner), None);
     assert_eq!(rt; rows.push_front(owner, 1), Ok(()));
     assert_eq!(rt; rows.push_front(owner, 2), Ok(()));
     assert_eq!(rt; rows.push_back(&rt, owner, 0, 3), Ok(()));
     assert_eq!(rt; rows.pop_front(owner), Some(2));
     assert_eq!(rt; rows.pop_back(&rt, owner, 0), Some(3));
-    let left = rows.close(seats);
-    assert_eq!(rt; left.as_slice(), [1].as_slice());
+    // The one that is left lies where both positions began.
+    assert_eq!(rt; rows.pop_back(&rt, owner, 0), Some(1));
+    assert_eq!(rt; rows.pop_front(owner), None);
     Ok(())
 }
 

@@ -1,6 +1,7 @@
 use Rattle.std.proofs.Common.{◌≡◌, ap, subst, sym, ◌∙◌}
 use Rattle.tensor_ops.specs.Contents.{value_at}
 use Rattle.tensor_ops.specs.Placing.{Gives}
+use Rattle.tensor_ops.specs.Tensors.{tensors_in}
 use Rattle.tensor_ops.specs.Term.{binary, contract}
 use Rattle.tensor_ops.specs.Tree.{term_of, unary_at, binary_at}
 use Rattle.tensor_ops.specs.declared.placed.Placed.TheVariants.{Lent}
@@ -25,7 +26,7 @@ returns-in_ok-operand-in-Unary-clause-placed t c =
     rw (← c.in-Unary.ensures)
     (IfOk-both c.place_unary.result _ _ _
     (λ r gives dims.
-    gives-unary c.args.inputs.now (term_of c.in-Unary.operand.now)
+    gives-unary (tensors_in c.args.tensors) (term_of c.in-Unary.operand.now)
     (unary_at c.in-Unary.operation) operand.operand.placed r.placed
     operand.operand.dims r.dims operand.ensures.placed operand.ensures.dims dims gives)
     c.place_unary.ensures.placed c.place_unary.ensures.dims)
@@ -43,7 +44,7 @@ returns-in_ok-second-in-Binary-Contract-default-default-clause-placed t c =
     rw (← node)
     (IfOk-both c.place_contraction.result _ _ _
     (λ r gives dims.
-    gives-contraction c.args.inputs.now (term_of arm.first.now)
+    gives-contraction (tensors_in c.args.tensors) (term_of arm.first.now)
     (term_of arm.second.now) arm.pairs.now left.first.placed right.second.placed r.placed
     left.first.dims right.second.dims r.dims left.ensures.placed right.ensures.placed
     left.ensures.dims right.ensures.dims dims gives)

@@ -1,4 +1,3 @@
-use Rattle.std.proofs.Common.{rules}
 use Rattle.worker_pool.proofs.Runnings.{ran-stops}
 use Rattle.worker_pool.proofs.run.begin.Goals as goal
 

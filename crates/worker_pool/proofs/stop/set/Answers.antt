@@ -4,4 +4,4 @@ use Rattle.worker_pool.proofs.stop.set.Goals as goal
 
 pub store-requires : goal.store-requires
 store-requires g c =
-    (search rules, search rules, λ s rule homes at small. (c.args.seat.now.me.0, keeps, tt, tt, (refl, refl)))
+    (search rules, search rules, λ s rule homes at small. (_, keeps, tt, tt, (refl, refl)))

@@ -18,6 +18,7 @@ pub returns-in-Last : goal.returns-in-Last
 returns-in-Last g c = record {
   owner = c.in-Last.ensures.owner;
   stop_seat = c.in-Last.ensures.stop;
+  near = c.requires.near;
   walks = c.requires.walks;
   account = account-same _ _ _ _ _ _ _ _ _ c.loop.invariant.account c.in-Last.ensures.takes
       c.in-Last.ensures.puts;

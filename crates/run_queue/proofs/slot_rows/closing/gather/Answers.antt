@@ -1,5 +1,5 @@
 -- One more seat is taken in.
-use Rattle.std.proofs.Common.{rules, ◌≡◌, ◌+◌, ◌∙◌, ◌<◌, ◌++◌, ◌∷◌, [], sym, ap, subst}
+use Rattle.std.proofs.Common.{rules, ◌≡◌, ◌∙◌, ◌<◌, ◌++◌, ◌∷◌, [], sym, ap, subst}
 use Rattle.std.proofs.Common.{arith, length}
 use Rattle.std.specs.Prelude.{All}
 use Rattle.std.specs.List.{flat_map}

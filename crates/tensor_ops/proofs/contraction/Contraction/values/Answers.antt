@@ -7,7 +7,7 @@ use Rattle.tensor_ops.proofs.Runs.{part-read, map-shifted}
 use Rattle.tensor_ops.proofs.contraction.Contraction.values.Goals as goal
 
 pub returns : goal.returns
-returns c =
+returns g c =
     let out = c.fill.new.out in
     let all = out ++ drop (length out) c.in_ok-values.values.items in
     let n = c.in_ok-values.values.len in

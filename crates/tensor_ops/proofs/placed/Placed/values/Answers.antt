@@ -5,7 +5,7 @@ use Rattle.tensor_ops.proofs.Runs.{chunk-more}
 use Rattle.tensor_ops.proofs.placed.Placed.values.Goals as goal
 
 pub loop-from-preserved-in_ok-extend_from_slice : goal.loop-from-preserved-in_ok-extend_from_slice
-loop-from-preserved-in_ok-extend_from_slice c = record {
+loop-from-preserved-in_ok-extend_from_slice g c = record {
   above = omega arith;
   below = omega arith;
   items =
@@ -16,7 +16,7 @@ loop-from-preserved-in_ok-extend_from_slice c = record {
 }
 
 pub loop-from-preserved : goal.loop-from-preserved
-loop-from-preserved c = record {
+loop-from-preserved g c = record {
   above = omega arith;
   below = omega arith;
   items =

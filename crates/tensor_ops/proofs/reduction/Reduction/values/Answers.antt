@@ -15,7 +15,7 @@ take-written : (n : ℕ) (xs ys : List ℤ) → n ≡ length xs → take n (xs +
 take-written n xs ys whole = rw whole (take-append_seam xs ys)
 
 pub returns : goal.returns
-returns c =
+returns g c =
     let s = c.args.self.now in
     let first = c.args.first in
     let count : ℕ = c.args.last - first in

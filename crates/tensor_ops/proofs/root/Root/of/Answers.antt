@@ -4,6 +4,7 @@ use Rattle.tensor_ops.specs.Contraction.{contracted}
 use Rattle.tensor_ops.specs.Placing.{meaning_at}
 use Rattle.tensor_ops.specs.Reduced.{places_of_result, reduction_at}
 use Rattle.tensor_ops.specs.Reduction.{reduced}
+use Rattle.tensor_ops.specs.Tensors.{tensors_in}
 use Rattle.tensor_ops.specs.Term.{unary, reduce, binary, contract}
 use Rattle.tensor_ops.specs.Tree.{term_of, unary_at, binary_at}
 use Rattle.tensor_ops.specs.Value.{value}
@@ -24,8 +25,8 @@ returns-in_ok-reduction-in-Unary-Reduce-default-clause-values c =
     (reduced arm.reducer arm.axes.now inner.operand.dims
     (meaning_at inner.operand.placed inner.operand.dims))
     (value (unary (reduce arm.reducer arm.axes.now)
-    (term_of arm.operand.now)) c.args.inputs.now) made.ensures.values
-    (agree-term c.args.inputs.now (term_of arm.operand.now)
+    (term_of arm.operand.now)) (tensors_in c.args.tensors)) made.ensures.values
+    (agree-term (tensors_in c.args.tensors) (term_of arm.operand.now)
     (reduce arm.reducer arm.axes.now) inner.operand.placed inner.operand.dims made.dims
     inner.ensures.placed inner.ensures.dims made.ensures.dims))
 
@@ -47,8 +48,8 @@ returns-in_ok-contraction-in-Binary-Contract-default-default-clause-values c =
     (meaning_at left.first.placed left.first.dims)
     (meaning_at right.second.placed right.second.dims))
     (value (binary (contract arm.pairs.now) (term_of arm.first.now)
-    (term_of arm.second.now)) c.args.inputs.now) made.ensures.values
-    (agree-contraction c.args.inputs.now (term_of arm.first.now)
+    (term_of arm.second.now)) (tensors_in c.args.tensors)) made.ensures.values
+    (agree-contraction (tensors_in c.args.tensors) (term_of arm.first.now)
     (term_of arm.second.now) arm.pairs.now left.first.placed right.second.placed
     left.first.dims right.second.dims made.dims left.ensures.placed right.ensures.placed
     left.ensures.dims right.ensures.dims made.ensures.dims))

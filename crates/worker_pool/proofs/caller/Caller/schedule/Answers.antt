@@ -10,6 +10,7 @@ returns-in_default-clause-caller g c = record {
     opener = c.in_default.ensures.ready;
     scheduled = c.note.ensures.of;
     few = rw c.in_default.ensures.number c.requires.few;
+    stop = c.note.ensures.stored ∙ c.requires.stop;
     took_none = λ on. c.in_default.ensures.takes on ∙ c.requires.took_none on;
     account = account-passed _ _ c.args.job _ _ _ _ _ _ _ c.requires.account
         c.in_default.ensures.puts (λ on. c.note.ensures.more);
@@ -31,6 +32,7 @@ returns-clause-caller g c =
         opener = c.begin-refused.ensures.ready;
         scheduled = c.note.ensures.of;
         few = rw number c.requires.few;
+        stop = c.note.ensures.stored ∙ c.requires.stop;
         took_none = λ on. c.begin-refused.ensures.takes on
             ∙ (c.in-Err.ensures.takes on ∙ c.requires.took_none on);
         account = account-more _ _ c.in-Err.job _ _ _ _ _ _ _ _ _ _ _ _ c.requires.account refl

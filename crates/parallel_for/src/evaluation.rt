@@ -1,0 +1,239 @@
+//! Evaluating a range on the workers of a pool.
+ghost use Rattle.std.specs.Prelude.{◌≡◌, ◌<◌, ◌≤◌, ◌↔◌, IfOk, IsErrOf};
+ghost use Rattle.pool_barrier.specs.Shares.{barrier_id, notices_of, IsShareOf, IsWaiterOf};
+ghost use Rattle.worker_pool.specs.Setup.{IsPoolSize, IsNoPoolSize, AreNoPartitions};
+ghost use Rattle.parallel_for.specs.Faults.{most_leaves, IsBlockLength, IsNoBlockLength};
+ghost use Rattle.parallel_for.specs.Items.{AreItems};
+ghost use Rattle.parallel_for.specs.Leaves.{blocks_of};
+
+use crate::collector::{CollectFault, collect};
+use crate::division::Division;
+use crate::fault::ForFault;
+use crate::halving::blocks;
+use crate::kernel::Kernel;
+use crate::piece::Piece;
+use crate::range_job::{RangeContext, RangeJob};
+use event_count::{LockedCount, WaitPoint};
+use pool_barrier::{Barrier, MOST_NOTICES, Share, Waiter};
+use run_queue::{LockedRows, Rows};
+use std::alloc::Allocator;
+use std::marker::Brand;
+use std::sync::Wait;
+use std::thread::Threads;
+use worker_pool::{Lists, NoGate, PoolFault, Setup, VecLists, with_root};
+
+/// How many leaves a range has at most: each takes a notice of one barrier.
+const MOST_LEAVES: u64 = MOST_NOTICES;
+
+/// The kernel's items at the places below `n`, in order.
+///
+/// Places are worked out by blocks, each on some worker of a pool that the setup describes, which
+/// is opened for this call alone. No more workers are started than there are blocks, and none where
+/// there is only one. Where fewer are started than the setup has, each looks in the whole pool.
+pub fn parallel_for<RT, K, A>(
+    rt: &RT,
+    alloc: A,
+    setup: &Setup<A>,
+    kernel: &K,
+    n: u64,
+    block: u64,
+) -> Result<Vec<K::Item, A>, ForFault>
+where
+    RT: Threads + Wait + Sync,
+    K: Kernel + Sync,
+    K::Item: Send,
+    A: Allocator + Clone + Send + Sync,
+    requires { n ≤ K.size kernel.now }
+    ensures items { IfOk result (λ items. AreItems (K.item_at kernel.now) 0 n items.items) }
+
+    ensures bad_block { IsErrOf result ForFault.BadBlock ↔ IsNoBlockLength n block }
+    ensures bad_workers { IsErrOf result (ForFault.Pool PoolFault.BadWorkers)
+        ↔ (IsBlockLength n block × IsNoPoolSize setup.now.workers) }
+    ensures bad_partition { IsErrOf result (ForFault.Pool PoolFault.BadPartition)
+        ↔ (IsBlockLength n block × IsPoolSize setup.now.workers
+        × AreNoPartitions setup.now.workers setup.now.partitions.items) }
+    // Want of memory for a pool is answered as want of memory.
+    ensures no_other { IsErrOf result (ForFault.Pool PoolFault.NoMemory) → ⊥ }
+
+    // No place takes no memory, and one leaf isn't lost.
+    ensures no_memory { IsErrOf result ForFault.NoMemory → 0 < n }
+    ensures lost { IsErrOf result ForFault.Lost → block < n }
+{
+    if block == 0 || blocks(n, block) > MOST_LEAVES {
+        return Err(ForFault::BadBlock);
+    }
+    if let Err(fault) = setup.check() {
+        return Err(ForFault::Pool(fault));
+    }
+    if n == 0 {
+        return Ok(Vec::new(alloc));
+    }
+    if n <= block {
+        return Ok(kernel.fill(alloc, 0, n)?);
+    }
+    match fill_leaves(rt, alloc, setup, kernel, n, block) {
+        Ok(items) => Ok(items),
+        Err(CollectFault::NoMemory) => Err(ForFault::NoMemory),
+        Err(CollectFault::Lost) => Err(ForFault::Lost),
+    }
+}
+
+// The items of several leaves, by no more workers than there are leaves.
+fn fill_leaves<RT, K, A>(
+    rt: &RT,
+    alloc: A,
+    setup: &Setup<A>,
+    kernel: &K,
+    n: u64,
+    block: u64,
+) -> Result<Vec<K::Item, A>, CollectFault>
+where
+    RT: Threads + Wait + Sync,
+    K: Kernel + Sync,
+    K::Item: Send,
+    A: Allocator + Clone + Send + Sync,
+    requires inside { n ≤ K.size kernel.now }
+    requires several { block < n }
+    requires blocks { IsBlockLength n block }
+    ensures { IfOk result (λ items. AreItems (K.item_at kernel.now) 0 n items.items) }
+{
+    let leaves = blocks(n, block);
+    if leaves >= u64::from(setup.workers) {
+        return count_leaves(rt, alloc, setup, kernel, n, block);
+    }
+    let fewer = Setup {
+        workers: leaves as u32,
+        partitions: Vec::new(alloc.clone()?),
+    };
+    count_leaves(rt, alloc, &fewer, kernel, n, block)
+}
+
+// The same, by the workers of this setup.
+fn count_leaves<RT, K, A>(
+    rt: &RT,
+    alloc: A,
+    setup: &Setup<A>,
+    kernel: &K,
+    n: u64,
+    block: u64,
+) -> Result<Vec<K::Item, A>, CollectFault>
+where
+    RT: Threads + Wait + Sync,
+    K: Kernel + Sync,
+    K::Item: Send,
+    A: Allocator + Clone + Send + Sync,
+    requires inside { n ≤ K.size kernel.now }
+    requires several { block < n }
+    requires blocks { IsBlockLength n block }
+    ensures { IfOk result (λ items. AreItems (K.item_at kernel.now) 0 n items.items) }
+{
+    let Ok((barrier, waiter, share)) = Barrier::new(alloc.clone()?, blocks(n, block)) else {
+        return Err(CollectFault::NoMemory);
+    };
+    let range = CountedRange {
+        n,
+        block,
+        barrier,
+        waiter,
+        share,
+    };
+    fill_under_locks::<Brand, RT, &K, A>(rt, alloc, setup, kernel, range)
+}
+
+// The places below n, which are cut into blocks, and a barrier with a notice for each block.
+#[derive(Drop)]
+struct CountedRange<A: Allocator> {
+    n: u64,
+    block: u64,
+    barrier: Barrier<A>,
+    waiter: Waiter,
+    share: Share,
+    ghost any: { 0 < n },
+    ghost some: { 0 < block },
+    ghost waits: { IsWaiterOf barrier waiter },
+    ghost shares: { IsShareOf barrier share },
+    ghost notices: { notices_of share ≡ blocks_of n block },
+}
+
+// The items of the range. Here stands by which wait point and rows the workers work.
+fn fill_under_locks<D, RT, K, A>(
+    rt: &RT,
+    alloc: A,
+    setup: &Setup<A>,
+    kernel: K,
+    range: CountedRange<A>,
+) -> Result<Vec<K::Item, A>, CollectFault>
+where
+    D: Division + Send + Sync,
+    RT: Threads + Wait + Sync,
+    K: Kernel + Drop + Send + Sync,
+    K::Item: Send,
+    A: Allocator + Clone + Send + Sync,
+    requires size { K.size kernel ≡ D.size }
+    requires block { range.block ≡ D.block }
+    requires barrier { barrier_id range.barrier ≡ D.barrier }
+    requires inside { range.n ≤ D.size }
+    ensures { IfOk result (λ items. AreItems (K.item_at kernel) 0 range.n items.items) }
+{
+    fill_range::<D, RT, K, A, LockedCount<A>, LockedRows<RangeJob<K, D, A>, A>, VecLists>(
+        rt, alloc, setup, kernel, range,
+    )
+}
+
+// The items of the range, whose leaves are jobs of a pool. The caller sleeps until all have run.
+fn fill_range<D, RT, K, A, W, R, L>(
+    rt: &RT,
+    alloc: A,
+    setup: &Setup<A>,
+    kernel: K,
+    range: CountedRange<A>,
+) -> Result<Vec<K::Item, A>, CollectFault>
+where
+    D: Division + Send + Sync,
+    RT: Threads + Wait + Sync,
+    K: Kernel + Drop + Send + Sync,
+    K::Item: Send,
+    A: Allocator + Clone + Send + Sync,
+    W: WaitPoint<A> + Sync,
+    W::Seat: Send,
+    R: Rows<RangeJob<K, D, A>, A> + Sync,
+    R::Seat: Send,
+    L: Lists<Piece<K::Item, A>, A>,
+    requires size { K.size kernel ≡ D.size }
+    requires block { range.block ≡ D.block }
+    requires barrier { barrier_id range.barrier ≡ D.barrier }
+    requires inside { range.n ≤ D.size }
+    ensures items { IfOk result (λ items. AreItems (K.item_at kernel) 0 range.n items.items) }
+    ensures never_lost { R.keeps_accounts → IsErrOf result CollectFault.Lost → ⊥ }
+{
+    let CountedRange {
+        n,
+        block,
+        barrier,
+        mut waiter,
+        share,
+    } = range;
+    let ctx = RangeContext::<K, D, A>::new(kernel, barrier, block);
+    let root = RangeJob::<K, D, A>::root(n, share);
+    let closed = with_root::<W, R, L, RT, RangeJob<K, D, A>, A, NoGate, _>(
+        rt,
+        alloc.clone()?,
+        setup,
+        &ctx,
+        &NoGate,
+        root,
+        ||
+            requires { IsWaiterOf ctx.barrier waiter }
+        {
+            ctx.barrier.wait(rt, &mut waiter);
+        },
+    );
+    // The setup was checked, so that a pool can only want memory.
+    let Ok(closed) = closed else {
+        return Err(CollectFault::NoMemory);
+    };
+    if closed.refused > 0 {
+        return Err(CollectFault::NoMemory);
+    }
+    collect(&alloc, &ctx.kernel, n, block, closed.outs)
+}

@@ -1,0 +1,32 @@
+//! The lines of a file of cases.
+
+/// A line of a file of cases.
+#[derive(Clone, Copy, Drop)]
+pub(crate) enum CaseLine<'t> {
+    /// Nothing, or a note.
+    Note,
+    /// The inputs of the expressions behind it.
+    Inputs(&'t str),
+    /// A whole request text.
+    Text(&'t str),
+    /// An expression over the last inputs.
+    Expr(&'t str),
+    /// The line that answers what stands before it.
+    Answer(&'t str),
+}
+
+impl<'t> CaseLine<'t> {
+    pub(crate) fn of(line: &'t str) -> CaseLine<'t> {
+        if line.is_empty() || line.starts_with('#') {
+            CaseLine::Note
+        } else if let Some(inputs) = line.strip_prefix("inputs ") {
+            CaseLine::Inputs(inputs)
+        } else if let Some(text) = line.strip_prefix("text ") {
+            CaseLine::Text(text)
+        } else if let Some(answer) = line.strip_prefix("= ") {
+            CaseLine::Answer(answer)
+        } else {
+            CaseLine::Expr(line)
+        }
+    }
+}

@@ -1,0 +1,167 @@
+//! The cases of a file, one after the other.
+
+use crate::answers::{answer, by_places, by_ranges};
+use crate::case_line::CaseLine;
+use std::alloc::{AllocError, Global};
+use std::sync::Wait;
+use std::thread::Threads;
+
+/// By how many workers each expression is worked out.
+const WORKERS: [u32; 4] = [1, 2, 3, 64];
+
+/// In blocks of how many places.
+const BLOCKS: [u32; 4] = [1, 2, 7, 1_048_576];
+
+/// What the next answer is of.
+#[derive(Drop)]
+enum Asked {
+    /// A whole request text.
+    Text(String),
+    /// An expression over the last inputs.
+    Expr(String),
+}
+
+/// What came of the cases so far.
+#[derive(Drop)]
+pub(crate) struct Cases {
+    /// How many there were.
+    pub(crate) count: u64,
+    /// A line for each answer that is another one.
+    pub(crate) report: String,
+    inputs: String,
+    asked: Asked,
+    alloc: Global,
+}
+
+impl Cases {
+    /// Before the first case.
+    pub(crate) fn new(alloc: Global) -> Cases {
+        Cases {
+            count: 0,
+            report: String::new(alloc),
+            inputs: String::new(alloc),
+            asked: Asked::Text(String::new(alloc)),
+            alloc,
+        }
+    }
+
+    /// Goes over the lines of a file.
+    pub(crate) fn take_all<RT: Threads + Wait + Sync>(
+        &mut self,
+        rt: &RT,
+        file: &str,
+    ) -> Result<(), AllocError> {
+        for line in file.lines() {
+            self.take(rt, CaseLine::of(line))?;
+        }
+        Ok(())
+    }
+
+    fn take<RT: Threads + Wait + Sync>(
+        &mut self,
+        rt: &RT,
+        line: CaseLine<'_>,
+    ) -> Result<(), AllocError> {
+        match line {
+            CaseLine::Note => {}
+            CaseLine::Inputs(inputs) => self.inputs = inputs.to_string(self.alloc)?,
+            CaseLine::Text(text) => self.asked = Asked::Text(text.to_string(self.alloc)?),
+            CaseLine::Expr(expr) => self.asked = Asked::Expr(expr.to_string(self.alloc)?),
+            CaseLine::Answer(line) => self.compare(rt, line)?,
+        }
+        Ok(())
+    }
+
+    /// Compares what answers the case with the line that is to answer it.
+    fn compare<RT: Threads + Wait + Sync>(
+        &mut self,
+        rt: &RT,
+        line: &str,
+    ) -> Result<(), AllocError> {
+        self.count = self.count.saturating_add(1);
+        let report = self.differences(rt, line)?;
+        self.report.push_str(report.as_str())
+    }
+
+    /// A line for each way in which the case is answered otherwise.
+    fn differences<RT: Threads + Wait + Sync>(
+        &self,
+        rt: &RT,
+        line: &str,
+    ) -> Result<String, AllocError> {
+        match &self.asked {
+            Asked::Text(text) => self.in_each_way(rt, text.as_str(), line),
+            Asked::Expr(expr) => self.on_all_workers(rt, expr.as_str(), line),
+        }
+    }
+
+    /// Those of an expression, on each number of workers and with each size of block.
+    fn on_all_workers<RT: Threads + Wait + Sync>(
+        &self,
+        rt: &RT,
+        expr: &str,
+        line: &str,
+    ) -> Result<String, AllocError> {
+        let text = self.request(expr, 2, 4)?;
+        let mut report = self.in_each_way(rt, text.as_str(), line)?;
+        for workers in WORKERS {
+            let wrong = self.on_workers(rt, expr, workers, line)?;
+            report.push_str(wrong.as_str())?;
+        }
+        Ok(report)
+    }
+
+    /// Those of a text: by a run, by single places and by ranges.
+    fn in_each_way<RT: Threads + Wait + Sync>(
+        &self,
+        rt: &RT,
+        text: &str,
+        line: &str,
+    ) -> Result<String, AllocError> {
+        let mut report = String::new(self.alloc);
+        let answers = [
+            answer(rt, self.alloc, text)?,
+            by_places(self.alloc, text)?,
+            by_ranges(self.alloc, text)?,
+        ];
+        for found in &answers {
+            let wrong = self.difference(text, found.as_str(), line)?;
+            report.push_str(wrong.as_str())?;
+        }
+        Ok(report)
+    }
+
+    /// Those of a run on so many workers.
+    fn on_workers<RT: Threads + Wait + Sync>(
+        &self,
+        rt: &RT,
+        expr: &str,
+        workers: u32,
+        line: &str,
+    ) -> Result<String, AllocError> {
+        let mut report = String::new(self.alloc);
+        for block in BLOCKS {
+            let text = self.request(expr, workers, block)?;
+            let found = answer(rt, self.alloc, text.as_str())?;
+            let wrong = self.difference(text.as_str(), found.as_str(), line)?;
+            report.push_str(wrong.as_str())?;
+        }
+        Ok(report)
+    }
+
+    /// The request for an expression over the inputs.
+    fn request(&self, expr: &str, workers: u32, block: u32) -> Result<String, AllocError> {
+        let inputs = self.inputs.as_str();
+        format!(in self.alloc;
+            "{{\"version\":1,\"workers\":{workers},\"block\":{block},\"inputs\":{inputs},\"expr\":{expr}}}"
+        )
+    }
+
+    /// A line where an answer is another one, and else nothing.
+    fn difference(&self, text: &str, found: &str, line: &str) -> Result<String, AllocError> {
+        if found == line {
+            return Ok(String::new(self.alloc));
+        }
+        format!(in self.alloc; "\n{text}\n  gave {found}\n  not {line}")
+    }
+}

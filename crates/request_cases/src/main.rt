@@ -1,0 +1,37 @@
+//! Runs the request texts of files of cases, and tells which are answered otherwise than the files
+//! say. A file has a line `inputs` JSON, then an expression a line, and behind each a line `=` and
+//! the line that answers it; `text` JSON is a whole request text, and `#` begins a note.
+#![tactic(auto)]
+
+mod answers;
+mod case_line;
+mod cases;
+
+use crate::cases::Cases;
+use std::{fs, io};
+
+/// The files of cases.
+const FILES: [&str; 12] = [
+    "arguments.cases",
+    "check_order.cases",
+    "contractions.cases",
+    "fault_order.cases",
+    "faults.cases",
+    "movements.cases",
+    "nested.cases",
+    "ranges.cases",
+    "ranks.cases",
+    "reductions.cases",
+    "tensors.cases",
+    "values.cases",
+];
+
+fn main(rt: HostRuntime) -> io::Result<()> {
+    for name in FILES {
+        let file = fs::read_to_string(&rt, name)?;
+        let mut cases = Cases::new(rt.alloc());
+        cases.take_all(&rt, file.as_str())?;
+        println!(rt; "{name}: {} cases{}", cases.count, cases.report)?;
+    }
+    Ok(())
+}

@@ -1,0 +1,55 @@
+-- What holds in every state that the rule of a table of rows allows.
+use Rattle.std.specs.Prelude.{◌≡◌, ◌==◌, ◌<◌, ℕ, if◌then◌else◌, List, [], ◌∷◌, ◌++◌, length}
+use Rattle.std.specs.Prelude.{Option, Some, option_to_list, slice_index_or}
+use Rattle.std.specs.List.{flat_map}
+use mathlib.Core.Option.{some, none}
+use mathlib.Core.Option as maybe
+use lib.ListN.{get_elem?}
+use Rattle.atomic_table.specs.Table.{State}
+use Rattle.run_queue.specs.declared.slot_rows.view.View.{View}
+use Rattle.run_queue.specs.Bag.{SameBag}
+use Rattle.run_queue.specs.Elements.{busy_word, ready_word}
+
+-- a rule for rows, by the number of their seats
+abbrev Rule : Type 0 → Type 1
+Rule J = ℕ → State (Option J) (View J) → Type 0
+
+module _ {J : Type 0} where
+  -- the job at home in a slot, where there is one
+  abbrev pub job_at_home : maybe.Option (Option J) → List J
+  job_at_home none = []
+  job_at_home (some slot) = option_to_list slot
+
+  -- the jobs of the elements whose words say that they are ready
+  abbrev pub ready_jobs : List ℕ → List (maybe.Option (Option J)) → List J
+  ready_jobs words [] = []
+  ready_jobs [] (home ∷ homes) = []
+  ready_jobs (word ∷ words) (home ∷ homes) =
+      (if word == ready_word then job_at_home home else []) ++ ready_jobs words homes
+
+  -- the view of the seat names the element
+  abbrev pub Names : List (View J) → ℕ → ℕ → Type 0
+  Names views seat element =
+      (view : View J) × (get_elem? views seat ≡ some view) × (view.busy ≡ Some element)
+
+  -- what was put is, as a bag, what was taken and what is ready
+  abbrev pub PutsAreTakesAndReady : Rule J → Type 0
+  PutsAreTakesAndReady holds =
+      (seats : ℕ) (s : State (Option J) (View J)) → holds seats s
+      → SameBag (flat_map (λ view. view.puts) s.views)
+      (flat_map (λ view. view.takes) s.views ++ ready_jobs s.words s.homes)
+
+  -- an element whose word says that it is busy is named in the view of one seat, and of no other
+  abbrev pub BusyElementsAreNamed : Rule J → Type 0
+  BusyElementsAreNamed holds =
+      (seats : ℕ) (s : State (Option J) (View J)) → holds seats s
+      → (element : ℕ) → element < length s.homes → slice_index_or s.words element 0 ≡ busy_word
+      → (seat : ℕ) × Names s.views seat element
+      × ((other : ℕ) → Names s.views other element → other ≡ seat)
+
+  -- an element that a view names is busy
+  abbrev pub NamedElementsAreBusy : Rule J → Type 0
+  NamedElementsAreBusy holds =
+      (seats : ℕ) (s : State (Option J) (View J)) → holds seats s
+      → (element seat : ℕ) → element < length s.homes → Names s.views seat element
+      → slice_index_or s.words element 0 ≡ busy_word

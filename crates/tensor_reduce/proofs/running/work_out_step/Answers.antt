@@ -1,0 +1,11 @@
+use Rattle.std.proofs.Common.{◌-◌, length, ap, ◌∙◌, arith}
+use Rattle.tensor_ops.proofs.Evaluated.{length-values_from}
+use Rattle.tensor_reduce.specs.Kernels.{kernel_term, kernel_tensors}
+use Rattle.tensor_reduce.proofs.running.work_out_step.Goals as goal
+
+pub new-requires : goal.new-requires
+new-requires g c =
+    let kernel = c.in_ok-kernel.kernel in
+    ap length c.in_ok-values.ensures.items
+    ∙ length-values_from (kernel_tensors kernel) (kernel_term kernel) 0 (c.size.result - 0)
+    ∙ omega (arith, c.size.ensures.value)

@@ -1,0 +1,57 @@
+//! The kernel of a step.
+
+ghost use Rattle.std.specs.Prelude.{◌≡◌, ◌++◌, IfOk};
+
+use crate::step::Step;
+use parallel_for::Kernel;
+use std::alloc::{AllocError, Allocator, Global};
+use tensor_ops::{Inputs, Tensor, TensorEvaluator};
+
+/// Works out the values of a step by ranges of places. It is made once for a step: all workers read
+/// the inputs and the tensors of earlier steps through it, and none of these is copied.
+#[derive(Drop)]
+pub struct StepKernel<'a> {
+    evaluator: TensorEvaluator<'a>,
+}
+
+impl<'a> StepKernel<'a> {
+    ghost use Rattle.tensor_reduce.specs.Kernels.{kernel_term, kernel_tensors};
+    ghost use Rattle.tensor_reduce.specs.Plan.{IsReady, term_of_step};
+
+    /// The kernel of a step over inputs and the tensors of the steps before it.
+    pub fn of(
+        alloc: Global,
+        step: &'a Step,
+        inputs: &'a Inputs,
+        earlier: &'a [Tensor],
+    ) -> Result<StepKernel<'a>, AllocError>
+        requires { IsReady step.now (inputs.now ++ earlier.now) }
+        ensures term { IfOk result (λ kernel. kernel_term kernel ≡ term_of_step step.now) }
+        ensures tensors { IfOk result (λ kernel.
+            kernel_tensors kernel ≡ inputs.now ++ earlier.now) }
+    {
+        let evaluator = TensorEvaluator::over(alloc, step.expr(), inputs, earlier)?;
+        Ok(StepKernel { evaluator })
+    }
+}
+
+// It has a place for each of the step's, and there the value of the step's expression.
+impl<'a> Kernel for StepKernel<'a> {
+    ghost use Rattle.tensor_ops.specs.Value.{value_of_place};
+    ghost use Rattle.tensor_reduce.specs.Kernels.{kernel_term, kernel_tensors, kernel_size};
+
+    type Item = i64;
+
+    ghost size = { kernel_size };
+
+    ghost item_at = { λ kernel. value_of_place (kernel_term kernel) (kernel_tensors kernel) };
+
+    fn fill<A: Allocator>(
+        &self,
+        alloc: A,
+        first: u64,
+        last: u64,
+    ) -> Result<Vec<i64, A>, AllocError> {
+        self.evaluator.values(alloc, first, last)
+    }
+}

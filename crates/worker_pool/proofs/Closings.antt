@@ -1,0 +1,207 @@
+-- How accounts add up to that of a closed pool.
+use Rattle.std.proofs.Common.{◌≡◌, ℕ, ◌+◌, List, [], ◌∷◌, ◌++◌, map, All, length}
+use Rattle.std.proofs.Common.{refl, sym, ap, ◌∙◌, arith, subst}
+use Rattle.std.specs.Prelude.{sum_by}
+use Rattle.std.specs.List.{flat_map}
+use Rattle.std.proofs.lemmas.List.{append-nil, flat_map_more}
+use Rattle.std.proofs.lemmas.List.Elements.{All-nil, All-cons, All-same}
+use Rattle.event_count.specs.declared.wait_point.WaitPoint as wait_point
+use Rattle.run_queue.specs.Account.{AccountsFor}
+use Rattle.run_queue.specs.Bag.{total}
+use Rattle.run_queue.specs.declared.rows.Rows as rows
+use Rattle.worker_pool.specs.declared.gathered.Gathered.{Gathered}
+use Rattle.worker_pool.specs.declared.ground.Ground.{Ground}
+use Rattle.worker_pool.specs.declared.job.Job as job
+use Rattle.worker_pool.specs.declared.job.Progress.{Progress}
+use Rattle.worker_pool.specs.declared.pool.Pool.{Pool}
+use Rattle.worker_pool.specs.declared.worker.Hands.{Hands}
+use Rattle.worker_pool.specs.Accounts.{Account, counted}
+use Rattle.worker_pool.specs.Gathered.{Adds, HasGathered, IsEmpty}
+use Rattle.worker_pool.specs.Nodes.{Node, Left, IsLawful, job_of, kids_of, outs_of}
+use Rattle.worker_pool.specs.Nodes.{left_of, refusals_of}
+use Rattle.worker_pool.specs.Ran.{Ran, RanToo, AreSettled}
+use Rattle.worker_pool.specs.Seats.{IsIdle}
+use Rattle.worker_pool.specs.Steps.{IsStep}
+use Rattle.worker_pool.specs.Works.{IsAtWork}
+use Rattle.worker_pool.proofs.Bags.{total-append}
+use Rattle.worker_pool.proofs.Growing.{All-snoc, length-snoc}
+use Rattle.worker_pool.proofs.Tallies.{account-append, account-none}
+
+-- a list that gets one item more at its end
+pub flat_map-snoc : {X Y : Type 0} (f : X → List Y) (xs : List X) (x : X) (ys : List X)
+    → ys ≡ xs ++ x ∷ [] → flat_map f ys ≡ flat_map f xs ++ f x
+flat_map-snoc f xs x ys is = ap (flat_map f) is ∙ sym (flat_map_more f [] xs x)
+
+-- jobs that are left
+abbrev lefts : {J : Type 0} → (O : Type 0) → List J → List (Node J O)
+lefts O jobs = map Left jobs
+
+module _ {J : Type 0} (O : Type 0) where
+  lefts-lawful : (steps : J → Progress J O → Type 0) (jobs : List J)
+      → All (IsLawful steps) (lefts O jobs)
+  lefts-lawful steps [] = All-nil _
+  lefts-lawful steps (job ∷ jobs) = All-cons (IsLawful steps) _ _ tt (lefts-lawful steps jobs)
+
+  jobs_of-lefts : (jobs : List J) → map job_of (lefts O jobs) ≡ jobs
+  jobs_of-lefts [] = refl
+  jobs_of-lefts (job ∷ jobs) = ap (λ x. job ∷ x) (jobs_of-lefts jobs)
+
+  kids_of-lefts : (jobs : List J) → flat_map kids_of (lefts O jobs) ≡ []
+  kids_of-lefts [] = refl
+  kids_of-lefts (job ∷ jobs) = kids_of-lefts jobs
+
+  outs_of-lefts : (jobs : List J) → flat_map outs_of (lefts O jobs) ≡ []
+  outs_of-lefts [] = refl
+  outs_of-lefts (job ∷ jobs) = outs_of-lefts jobs
+
+  left_of-lefts : (jobs : List J) → flat_map left_of (lefts O jobs) ≡ jobs
+  left_of-lefts [] = refl
+  left_of-lefts (job ∷ jobs) = ap (λ x. job ∷ x) (left_of-lefts jobs)
+
+  refusals_of-lefts : (jobs : List J) → sum_by refusals_of (lefts O jobs) ≡ 0
+  refusals_of-lefts [] = refl
+  refusals_of-lefts (job ∷ jobs) = refusals_of-lefts jobs
+
+module _ {J O : Type 0} (keeps : Type 0) (steps : J → Progress J O → Type 0) where
+  -- jobs that came in and are left
+  account-lefts : (jobs : List J) → Account keeps steps jobs [] [] jobs 0
+  account-lefts jobs = record {
+    nodes = lefts O jobs;
+    lawful = lefts-lawful O steps jobs;
+    outs_are = sym (outs_of-lefts O jobs);
+    left_are = sym (left_of-lefts O jobs);
+    refused_are = let none = refusals_of-lefts O jobs in omega arith;
+    balance = λ on weight.
+        let nodes = lefts O jobs in
+        let here = total-append weight (map job_of nodes) [] in
+        let there = total-append weight jobs (flat_map kids_of nodes) in
+        let all = ap (total weight) (jobs_of-lefts O jobs) in
+        let none = ap (total weight) (kids_of-lefts O jobs) in
+        omega arith;
+  }
+
+  -- more jobs came in, and are left
+  pub settled-left : (jobs : List J) (outs : List O) (n : ℕ)
+      → AreSettled keeps steps jobs outs outs jobs n n
+  settled-left jobs outs n = record {
+    account = λ came passed start.
+        let is = start.refused_are in
+        account-append keeps steps came jobs (came ++ jobs) passed [] passed outs [] outs [] jobs
+        jobs n 0 n start (account-lefts jobs) (λ on. refl) (λ on. sym (append-nil passed))
+        (sym (append-nil outs)) refl (omega arith);
+  }
+
+  -- more jobs came in and ran, and none is left
+  pub settled-ran : (jobs : List J) (k l : List O) (left : List J) (a b : ℕ)
+      → RanToo keeps steps jobs k l a b → left ≡ [] → AreSettled keeps steps jobs k l left a b
+  settled-ran jobs k l left a b ran none = record {
+    account = λ came passed start.
+        subst (λ x. Account keeps steps (came ++ jobs) passed l x b) (sym none)
+        (ran.account came passed start);
+  }
+
+  -- one that passes nothing on leaves all that was passed on before as it is
+  pub ran-alone : (job : J) (p : List J) (l m : List O) (n : ℕ) → Ran keeps steps job [] [] l m n
+      → Ran keeps steps job p p l m n
+  ran-alone job p l m n ran = record {
+    others = ran.others;
+    kids = ran.kids;
+    out = ran.out;
+    passed = ran.passed;
+    main = ran.main;
+    lawful = ran.lawful;
+    none_left = ran.none_left;
+    outs_are = ran.outs_are;
+    puts_are = λ on. sym (append-nil p) ∙ ap (λ x. p ++ x) (ran.puts_are on);
+    refused_are = ran.refused_are;
+    balance = ran.balance;
+  }
+
+  -- What was put in through all seats was taken out through them or is left. So where one account is
+  -- of what was taken, and the other of the roots and of what was left, nothing is passed on any more.
+  pub account-closed : {S : Type 0} (puts takes : S → List J) (roots drained : List J)
+      (seats : List S) (seat : S) (all : List S) (k l m : List O) (t left : List J) (a b n : ℕ)
+      → Account keeps steps (flat_map takes seats) (flat_map puts seats) k [] a
+      → Account keeps steps (roots ++ drained) (puts seat) l t b
+      → (keeps → takes seat ≡ []) → all ≡ seats ++ seat ∷ []
+      → (keeps → AccountsFor puts takes all drained)
+      → m ≡ k ++ l → left ≡ t → n ≡ counted (a + b) → Account keeps steps roots [] m left n
+  account-closed puts takes roots drained seats seat all k l m t left a b n first second none are
+      kept outs same_left is =
+      let put = flat_map puts seats in
+      let taken = flat_map takes seats in
+      let both = account-append keeps steps taken (roots ++ drained) (taken ++ (roots ++ drained))
+      put (puts seat) (put ++ puts seat) k l m [] t t a b n first second (λ on. refl)
+      (λ on. refl) outs refl is in
+      record {
+        nodes = both.nodes;
+        lawful = both.lawful;
+        outs_are = both.outs_are;
+        left_are = same_left ∙ both.left_are;
+        refused_are = both.refused_are;
+        balance = λ on weight.
+            let jobs = map job_of both.nodes in
+            let kids = flat_map kids_of both.nodes in
+            let balance = both.balance on weight in
+            let settled = kept on weight in
+            let put_all = ap (total weight) (flat_map-snoc puts seats seat all are) in
+            let taken_all = ap (total weight) (flat_map-snoc takes seats seat all are) in
+            let no_more = ap (total weight) (none on) in
+            let a1 = total-append weight jobs (put ++ puts seat) in
+            let a2 = total-append weight put (puts seat) in
+            let b1 = total-append weight (taken ++ (roots ++ drained)) kids in
+            let b2 = total-append weight taken (roots ++ drained) in
+            let b3 = total-append weight roots drained in
+            let c1 = total-append weight (flat_map takes all) drained in
+            let c2 = total-append weight taken (takes seat) in
+            let d1 = total-append weight jobs [] in
+            let d2 = total-append weight roots kids in
+            omega arith;
+      }
+
+-- one more has come home
+pub gathers-more : {J A W R C O T S : Type 0} (row : rows.Ghosts R J A S)
+    (point : wait_point.Ghosts W A T) (law : job.Ghosts J A C O) (pool : Pool J A W R) (ctx : C)
+    (hands : Hands J A W R C O T S) (before after : Gathered J A W R C O T S)
+    → IsAtWork row point law pool ctx hands → Adds hands before after
+    → HasGathered row point law pool.ground ctx before
+    → HasGathered row point law pool.ground ctx after
+gathers-more row point law pool ctx hands before after at_work adds home =
+    let rows_long = length-snoc before.rows.items hands.owner.row after.rows.items adds.rows in
+    let wakers_long =
+    length-snoc before.wakers.items hands.owner.waker after.wakers.items adds.wakers in
+    let lists_long = length-snoc before.lists.items hands.outs after.lists.items adds.lists in
+    let wakers_many = home.wakers_many in
+    let lists_many = home.lists_many in
+    record {
+      ours = All-snoc (λ seat. row.rows_of seat ≡ row.identity_of pool.ground.rows) _ _ _ adds.rows
+          home.ours at_work.owner.owns.ours;
+      idle = All-snoc (IsIdle point pool.ground.point) _ _ _ adds.wakers home.idle
+          at_work.owner.waits.idle;
+      wakers_many = omega arith;
+      lists_many = omega arith;
+      account = account-append _ _ _ _ _ _ _ _ _ _ _ [] [] [] _ _ _ home.account at_work.account
+          (λ on. flat_map-snoc row.takes_of _ _ _ adds.rows)
+          (λ on. flat_map-snoc row.puts_of _ _ _ adds.rows)
+          (flat_map-snoc (λ list. list.items) _ _ _ adds.lists) refl adds.refused;
+    }
+
+-- nobody has come home yet
+pub gathers-none : {J A W R C O T S : Type 0} (row : rows.Ghosts R J A S)
+    (point : wait_point.Ghosts W A T) (law : job.Ghosts J A C O) (ground : Ground W R) (ctx : C)
+    (gathered : Gathered J A W R C O T S) → IsEmpty gathered
+    → HasGathered row point law ground ctx gathered
+gathers-none row point law ground ctx gathered none = record {
+  ours = All-same (λ seat. row.rows_of seat ≡ row.identity_of ground.rows) _ _ none.no_rows
+      (All-nil _);
+  idle = All-same (IsIdle point ground.point) _ _ none.no_wakers (All-nil _);
+  wakers_many = ap length none.no_wakers ∙ sym (ap length none.no_rows);
+  lists_many = ap length none.no_lists ∙ sym (ap length none.no_rows);
+  account = subst (λ n. Account row.keeps_accounts (IsStep law.weight_of law.allows ctx)
+      (flat_map row.takes_of gathered.rows.items) (flat_map row.puts_of gathered.rows.items)
+      (flat_map (λ list. list.items) gathered.lists.items) [] n)
+      (sym none.none_refused)
+      (account-none _ _ _ _ _ (λ on. ap (flat_map row.takes_of) none.no_rows)
+      (λ on. ap (flat_map row.puts_of) none.no_rows)
+      (ap (flat_map (λ list. list.items)) none.no_lists));
+}

@@ -1,0 +1,15 @@
+use Rattle.worker_pool.proofs.Tallies.{account-none}
+use Rattle.worker_pool.proofs.desk.caller_of.Goals as goal
+
+pub returns-clause-caller : goal.returns-clause-caller
+returns-clause-caller g c =
+    let fresh = c.requires.fresh in
+    record {
+      opener = fresh.opener;
+      scheduled = fresh.stop_seat;
+      few = c.requires.few;
+      stop = fresh.stored_none;
+      took_none = fresh.took_none;
+      account = rw fresh.none_refused (account-none _ _ _ _ _ (λ on. fresh.no_roots)
+          fresh.put_none fresh.no_outs);
+    }

@@ -1,0 +1,31 @@
+use Rattle.std.proofs.Common.{◌≡◌, ◌+◌, length, map, All, vec_capacity}
+use Rattle.std.specs.List.{range_with_len}
+use Rattle.std.specs.Iterator.Adapters.{zip_first, zip_second}
+use Rattle.std.specs.Vec.Iter.{into_iter_items}
+use Rattle.worker_pool.specs.Openings.{AreRowSeats, AreWakers, IsByNumber}
+use Rattle.worker_pool.specs.Stops.{IsStopSeatOf, jobs_of, stored_of}
+use Rattle.worker_pool.specs.Works.{IsAtWork}
+use Rattle.worker_pool.proofs.open.deal.Given as goal
+
+-- the hands so far are by number, and the seats that are left go on from there
+abbrev pub invariant-loop-row : goal.invariant-loop-row
+invariant-loop-row g l = record {
+  can : (goal.iterator-loop-row g).can_next l.row-iterator;
+  finite : (goal.iterator-loop-row g).is_finite l.row-iterator;
+  stop : IsStopSeatOf l.pool.stop.shared l.scheduled;
+  same : jobs_of l.scheduled ≡ jobs_of l.fn.scheduled;
+  stored : stored_of l.scheduled ≡ stored_of l.fn.scheduled;
+  rows : AreRowSeats g.R.Rows l.pool.ground.rows (length l.hands.items)
+      (into_iter_items (zip_first l.row-iterator));
+  wakers : AreWakers g.W.WaitPoint l.pool.ground.point (length l.hands.items)
+      (into_iter_items (zip_second l.row-iterator));
+  rows_many : length (into_iter_items (zip_first l.row-iterator)) + length l.hands.items
+      ≡ l.pool.ground.workers;
+  wakers_many : length (into_iter_items (zip_second l.row-iterator)) + length l.hands.items
+      ≡ l.pool.ground.workers;
+  room : vec_capacity l.hands ≡ l.pool.ground.workers;
+  at_work : (ctx : _) → All (IsAtWork g.R.Rows g.W.WaitPoint g.J.Job l.pool ctx) l.hands.items;
+  numbers : map (λ hand. hand.number) l.hands.items ≡ range_with_len 0 (length l.hands.items);
+  by_number : All (IsByNumber g.R.Rows g.W.WaitPoint l.setup.partitions.items l.setup.workers)
+      l.hands.items;
+}

@@ -1,0 +1,71 @@
+use Rattle.std.proofs.Common.{rules, arith, ◌∙◌}
+use Rattle.worker_pool.proofs.Growing.{All-front, All-last, All-snoc}
+use Rattle.worker_pool.proofs.start.+start_all.Goals as goal
+
+pub push_reserved-requires : goal.push_reserved-requires
+push_reserved-requires g t c =
+    let all = c.start_all-ended.ensures.all in let capacity = c.start_all-ended.ensures.capacity in
+    let room = c.requires.room in let len = c.in-Some.ensures.len in
+    omega arith
+
+pub start_all-ended-requires-in-Err-after_bounds : goal.start_all-ended-requires-in-Err-after_bounds
+start_all-ended-requires-in-Err-after_bounds g t c κs within =
+    let few = c.requires.few in let room = c.requires.room in
+    let len = c.in-Some.ensures.len in
+    record {
+      at_work = All-front (g.S.Site.is_at_work c.args.site.now) _ _ _ c.in-Some.ensures.items
+          c.requires.at_work;
+      ended_at_work = c.requires.ended_at_work;
+      few = omega arith;
+      room = omega arith;
+      begins = λ count most. c.requires.begins count (omega arith);
+    }
+
+pub spawn_with-requires-in-Err : goal.spawn_with-requires-in-Err
+spawn_with-requires-in-Err g t c κs within =
+    let few = c.requires.few in let len = c.in-Some.ensures.len in
+    let number = c.len-worker.ensures in
+    let next = All-last (g.S.Site.is_at_work c.args.site.now) _ _ _ c.in-Some.ensures.items
+    c.requires.at_work in (
+      search rules,
+      (
+        search rules,
+        (
+          search rules,
+          (rw c.in-Err.ensures.err next, rw c.in-Err.ensures.err (omega arith)),
+        ),
+      ),
+    )
+
+pub push_reserved-requires-in-Err : goal.push_reserved-requires-in-Err
+push_reserved-requires-in-Err g t c =
+    let ran = c.start_all-ended-in-Err.ensures in
+    let all = ran.all in let capacity = ran.capacity in
+    let room = c.requires.room in let len = c.in-Some.ensures.len in
+    omega arith
+
+pub returns-in-Ok : goal.returns-in-Ok
+returns-in-Ok g t c =
+    let ran = c.start_all-ended.ensures in
+    let all = ran.all in let more = c.push_reserved.ensures.len in
+    let len = c.in-Some.ensures.len in
+    record {
+      all = omega arith;
+      capacity = c.push_reserved.ensures.capacity ∙ ran.capacity;
+      at_work = All-snoc (g.S.Site.is_at_work c.args.site.now) _ _ _ c.push_reserved.ensures.items
+          ran.at_work (search rules);
+      left = ran.left;
+    }
+
+pub returns-in-Err : goal.returns-in-Err
+returns-in-Err g t c =
+    let ran = c.start_all-ended-in-Err.ensures in
+    let all = ran.all in let more = c.push_reserved-in-Err.ensures.len in
+    let len = c.in-Some.ensures.len in
+    record {
+      all = omega arith;
+      capacity = c.push_reserved-in-Err.ensures.capacity ∙ ran.capacity;
+      at_work = All-snoc (g.S.Site.is_at_work c.args.site.now) _ _ _
+          c.push_reserved-in-Err.ensures.items ran.at_work (search rules);
+      left = c.leave_out.ensures _ ran.left;
+    }

@@ -1,0 +1,63 @@
+-- What a pool begins with.
+use Rattle.std.specs.Prelude.{◌≡◌, ℕ, ◌+◌, ◌≤◌, ◌↔◌, List, [], length, map, All, IsNone, IfSome}
+use Rattle.std.specs.Prelude.{vec_capacity}
+use Rattle.std.specs.List.{range_with_len}
+use Rattle.rand_core.specs.Pcg32Seed.{pcg32_seed}
+use Rattle.rand_pcg.specs.Lcg.{Lcg}
+use Rattle.rand_pcg.specs.Pcg.{pcg32_of_seed}
+use Rattle.event_count.specs.declared.wait_point.WaitPoint as wait_point
+use Rattle.run_queue.specs.declared.rows.Rows as rows
+use Rattle.steal_walk.specs.Partition.{RowRange}
+use Rattle.worker_pool.specs.declared.job.Job as job
+use Rattle.worker_pool.specs.declared.lists.Lists as lists
+use Rattle.worker_pool.specs.declared.open.Opened.{Opened}
+use Rattle.worker_pool.specs.declared.worker.Hands.{Hands}
+use Rattle.worker_pool.specs.Desks.{IsFresh}
+use Rattle.worker_pool.specs.Gathered.{IsEmpty, HasRoom}
+use Rattle.worker_pool.specs.Seats.{IsIdle}
+use Rattle.worker_pool.specs.Setup.{home_of, whole}
+use Rattle.worker_pool.specs.Works.{IsAtWork}
+
+-- the generator of random words that a number seeds
+abbrev pub seeded_by : ℕ → Lcg
+seeded_by number = pcg32_of_seed (pcg32_seed 16 number)
+
+-- seats of these rows, numbered one after the other, through which no job went
+pub record AreRowSeats {R J A S : Type 0} (row : rows.Ghosts R J A S) (at : R) (first : ℕ)
+    (seats : List S) : Type 0 where
+  pub ours : All (λ seat. row.rows_of seat ≡ row.identity_of at) seats
+  pub numbers : map row.number_of seats ≡ range_with_len first (length seats)
+  pub untouched : row.keeps_accounts
+      → All (λ seat. (row.puts_of seat ≡ []) × (row.takes_of seat ≡ [])) seats
+
+-- idle seats of this point, numbered one after the other
+pub record AreWakers {W A T : Type 0} (point : wait_point.Ghosts W A T) (at : W) (first : ℕ)
+    (seats : List T) : Type 0 where
+  pub idle : All (IsIdle point at) seats
+  pub numbers : map point.number_of seats ≡ range_with_len first (length seats)
+
+module _ {J A W R C O T S : Type 0} (row : rows.Ghosts R J A S) (point : wait_point.Ghosts W A T)
+    (ranges : List RowRange) where
+  -- The worker's seats have its number, which also seeds its random words, and it looks first where
+  -- a worker of this number does.
+  pub record IsByNumber (count : ℕ) (hands : Hands J A W R C O T S) : Type 0 where
+    pub row_number : row.number_of hands.owner.row ≡ hands.number
+    pub waker_number : point.number_of hands.owner.waker ≡ hands.number
+    pub words : hands.words ≡ seeded_by hands.number
+    pub no_near : IsNone hands.near ↔ (home_of count ranges hands.number ≡ whole count)
+    pub near : IfSome hands.near (λ n. n.rows ≡ home_of count ranges hands.number)
+
+  -- A pool of so many workers in which nothing was done: there are hands for each worker, by number,
+  -- and room for all that comes home.
+  pub record IsOpened {L K : Type 0} (law : job.Ghosts J A C O) (list : lists.Ghosts L O A K)
+      (count : ℕ) (opened : Opened J A W R L C O T S K) : Type 0 where
+    pub workers : opened.pool.ground.workers ≡ count
+    pub desk : IsFresh row point list opened.pool opened.desk
+    pub desk_words : opened.desk.opener.words ≡ seeded_by count
+    pub at_work : (ctx : C) → All (IsAtWork row point law opened.pool ctx) opened.hands.items
+    pub numbers : map (λ hands. hands.number) opened.hands.items ≡ range_with_len 0 count
+    pub by_number : All (IsByNumber count) opened.hands.items
+    pub none_ended : opened.ended.items ≡ []
+    pub room_for_ended : count ≤ vec_capacity opened.ended
+    pub none_gathered : IsEmpty opened.gathered
+    pub room_to_gather : HasRoom (count + 1) opened.gathered

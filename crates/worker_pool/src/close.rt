@@ -1,0 +1,178 @@
+//! Closing a pool whose workers have all ended.
+ghost use Rattle.std.specs.Prelude.{◌≡◌, ◌+◌, List, [], All, false, length, vec_len};
+ghost use Rattle.std.specs.List.{flat_map};
+ghost use Rattle.worker_pool.specs.Accounts.{Account};
+ghost use Rattle.worker_pool.specs.Gathered.{HasGathered, HasRoom, IsEmpty, count_of};
+ghost use Rattle.worker_pool.specs.Ran.{RanToo, AreSettled};
+ghost use Rattle.worker_pool.specs.Seats.{IsOpener};
+ghost use Rattle.worker_pool.specs.Steps.{IsStep};
+ghost use Rattle.worker_pool.specs.Works.{IsAtWork};
+
+use crate::closed::Closed;
+use crate::closer::Closer;
+use crate::desk::Desk;
+use crate::gathered::Gathered;
+use crate::job::Job;
+use crate::lists::Lists;
+use crate::pool::Pool;
+use crate::run::begin;
+use crate::worker::Hands;
+use event_count::WaitPoint;
+use run_queue::Rows;
+use std::alloc::Allocator;
+use std::marker::PhantomData;
+use std::sync::Wait;
+
+/// Ends a pool, and runs the jobs that are left in its rows, or hands them back where it was
+/// cancelled. From here on nothing grows but the list of the caller's outs.
+pub(crate) fn close<RT, J, A, W, R, L>(
+    rt: &RT,
+    pool: Pool<J, A, W, R>,
+    ctx: &J::Ctx,
+    desk: Desk<J, A, W, R, L>,
+    hands: Vec<Hands<J, A, W, R>, A>,
+    gathered: Gathered<J, A, W, R>,
+) -> Closed<J, A>
+where
+    RT: Wait,
+    J: Job<A> + Drop,
+    J::Out: Drop,
+    A: Allocator + Clone,
+    W: WaitPoint<A>,
+    R: Rows<J, A>,
+    L: Lists<J::Out, A>,
+    requires opener { IsOpener R.Rows W.WaitPoint pool.ground desk.opener.row desk.opener.waker }
+    requires took_none { R.keeps_accounts → R.takes_of desk.opener.row ≡ [] }
+    requires at_work { All (IsAtWork R.Rows W.WaitPoint J.Job pool ctx.now) hands.items }
+    requires every_worker { length hands.items ≡ pool.ground.workers }
+    requires none_gathered { IsEmpty gathered }
+    requires room { HasRoom (pool.ground.workers + 1) gathered }
+    ensures lists { vec_len result.outs ≡ pool.ground.workers + 1 }
+    ensures none_left { desk.cancelled ≡ false → result.left.items ≡ [] }
+
+    // The jobs that came to the opener came in, and none is passed on any more.
+    ensures account { (roots : List J) → Account R.keeps_accounts
+        (IsStep J.weight_of J.allows ctx.now) roots (R.puts_of desk.opener.row)
+        (L.items_of desk.outs) [] desk.refused
+        → Account R.keeps_accounts (IsStep J.weight_of J.allows ctx.now) roots []
+        (flat_map (λ list. list.items) result.outs.items) result.left.items result.refused }
+{
+    let Gathered {
+        mut rows,
+        mut wakers,
+        mut lists,
+        refused: workers_refused,
+    } = gather(hands, gathered);
+    let Desk {
+        opener,
+        mut outs,
+        refused,
+        cancelled,
+        ..
+    } = desk;
+    rows.push_reserved(opener.row);
+    wakers.push_reserved(opener.waker);
+    let Pool { ground, alloc, .. } = pool;
+    let left = ground.rows.drain_all(rows);
+    ground.point.shut(wakers);
+    let (unrun, refused) = settle::<RT, J, A, R, L>(
+        rt, alloc, ctx, cancelled, left, &mut outs, refused,
+    );
+    lists.push_reserved(L::into_vec(outs));
+    Closed {
+        outs: lists,
+        left: unrun,
+        refused: workers_refused.saturating_add(refused),
+    }
+}
+
+// All workers come home, by number.
+fn gather<J, A, W, R>(
+    hands: Vec<Hands<J, A, W, R>, A>,
+    mut gathered: Gathered<J, A, W, R>,
+) -> Gathered<J, A, W, R>
+where
+    J: Job<A> + Drop,
+    J::Out: Drop,
+    A: Allocator + Clone,
+    W: WaitPoint<A>,
+    R: Rows<J, A>,
+    requires none { IsEmpty gathered }
+    requires room { HasRoom (length hands.items + 1) gathered }
+    ensures many { count_of result ≡ length hands.items }
+    ensures room { HasRoom 1 result }
+    ensures home { (pool : _) → (ctx : _)
+        → All (IsAtWork R.Rows W.WaitPoint J.Job pool ctx) hands.items
+        → HasGathered R.Rows W.WaitPoint J.Job pool.ground ctx result }
+{
+    for hand in hands {
+        gathered.add(hand);
+    }
+    gathered
+}
+
+// Hands the jobs back where the pool was cancelled, and else runs them. So many were refused before,
+// and the answer counts those too.
+fn settle<RT, J, A, R, L>(
+    rt: &RT,
+    alloc: A,
+    ctx: &J::Ctx,
+    cancelled: bool,
+    left: Vec<J, A>,
+    outs: &mut L::List,
+    before: u64,
+) -> (Vec<J, A>, u64)
+where
+    RT: Wait,
+    J: Job<A> + Drop,
+    J::Out: Drop,
+    A: Allocator + Clone,
+    R: Rows<J, A>,
+    L: Lists<J::Out, A>,
+    ensures none_left { cancelled ≡ false → result.0.items ≡ [] }
+    ensures settled { AreSettled R.keeps_accounts (IsStep J.weight_of J.allows ctx.now) left.items
+        (L.items_of outs.old) (L.items_of outs.new) result.0.items before result.1 }
+{
+    if cancelled {
+        return (left, before);
+    }
+    let refused = run_left::<RT, J, A, R, L>(rt, &alloc, ctx, left, outs, before);
+    (Vec::new(alloc), refused)
+}
+
+// Runs the jobs one after the other, each with all its kids. So many were refused before, and the
+// answer counts those too.
+fn run_left<RT, J, A, R, L>(
+    rt: &RT,
+    alloc: &A,
+    ctx: &J::Ctx,
+    left: Vec<J, A>,
+    outs: &mut L::List,
+    before: u64,
+) -> u64
+where
+    RT: Wait,
+    J: Job<A> + Drop,
+    J::Out: Drop,
+    A: Allocator + Clone,
+    R: Rows<J, A>,
+    L: Lists<J::Out, A>,
+    ensures { RanToo R.keeps_accounts (IsStep J.weight_of J.allows ctx.now) left.items
+        (L.items_of outs.old) (L.items_of outs.new) before result }
+{
+    let mut closer: Closer<J, A, R> = Closer(PhantomData);
+    let mut refused = before;
+    for job in left {
+        let more = begin::<RT, J, A, L, Closer<J, A, R>>(
+            rt,
+            alloc,
+            ctx,
+            &(),
+            &mut closer,
+            outs,
+            job,
+        );
+        refused = refused.saturating_add(more);
+    }
+    refused
+}

@@ -1,0 +1,144 @@
+//! Opening a pool, working in it, and closing it.
+ghost use Rattle.std.specs.Prelude.{◌≡◌, ◌+◌, ◌<◌, ◌↔◌, ◌⊎◌, List, [], ◌∷◌, vec_len, IfOk, IsErrOf};
+ghost use Rattle.std.specs.List.{flat_map};
+ghost use Rattle.std.specs.Fn.{FnOnceReturnsAtMut};
+ghost use Rattle.worker_pool.specs.Accounts.{Account};
+ghost use Rattle.worker_pool.specs.Callers.{IsCaller, StaysCaller, IsCancelled, roots_of};
+ghost use Rattle.worker_pool.specs.Callers.{workers_of};
+ghost use Rattle.worker_pool.specs.Setup.{IsPoolSize, IsNoPoolSize, AreNoPartitions};
+ghost use Rattle.worker_pool.specs.Steps.{IsStep};
+
+use crate::caller::Caller;
+use crate::close::close;
+use crate::closed::Closed;
+use crate::gate::Gate;
+use crate::job::Job;
+use crate::lists::Lists;
+use crate::open::{Opened, open};
+use crate::setup::{PoolFault, Setup};
+use crate::shop::{Lends, Plants, Shop};
+use crate::start::run_all;
+use event_count::WaitPoint;
+use run_queue::Rows;
+use std::alloc::Allocator;
+use std::sync::Wait;
+use std::thread::Threads;
+
+/// Opens a pool, and lends its caller to the body while workers run the jobs that it schedules, and
+/// their kids. Ends once all of them have run, or hands back those that nobody ran where the body
+/// cancelled the pool.
+pub fn with_pool<W, R, L, RT, J, A, G, F>(
+    rt: &RT,
+    alloc: A,
+    setup: &Setup<A>,
+    ctx: &J::Ctx,
+    gate: &G,
+    body: F,
+) -> Result<Closed<J, A>, PoolFault>
+where
+    RT: Threads + Wait + Sync,
+    J: Job<A> + Drop + Send,
+    J::Ctx: Sync,
+    J::Out: Drop + Send,
+    A: Allocator + Clone + Send + Sync,
+    W: WaitPoint<A> + Sync,
+    W::Seat: Send,
+    R: Rows<J, A> + Sync,
+    R::Seat: Send,
+    L: Lists<J::Out, A>,
+    G: Gate + Sync,
+    F: FnOnce(&mut Caller<'_, J, A, W, R, L>) + Drop,
+    requires body { (caller : _) → IsCaller R.Rows W.WaitPoint J.Job L.Lists caller.now
+        → F.pre body caller }
+    requires stays { (before : _) → (after : _)
+        → FnOnceReturnsAtMut F.FnOnce body before tt after
+        → IsCaller R.Rows W.WaitPoint J.Job L.Lists before
+        → StaysCaller R.Rows W.WaitPoint J.Job L.Lists before after }
+    ensures bad_workers { IsErrOf result PoolFault.BadWorkers ↔ IsNoPoolSize setup.now.workers }
+    ensures bad_partition { IsErrOf result PoolFault.BadPartition
+        ↔ (IsPoolSize setup.now.workers
+        × AreNoPartitions setup.now.workers setup.now.partitions.items) }
+    ensures lists { IfOk result (λ closed. vec_len closed.outs ≡ setup.now.workers + 1) }
+    ensures account { IfOk result (λ closed. (before : _) × (after : _)
+        × FnOnceReturnsAtMut F.FnOnce body before tt after
+        × (roots_of before ≡ [])
+        × (workers_of before ≡ setup.now.workers)
+        × (¬ IsCancelled after → closed.left.items ≡ [])
+        × Account R.keeps_accounts (IsStep J.weight_of J.allows ctx.now) (roots_of after) []
+        (flat_map (λ list. list.items) closed.outs.items) closed.left.items closed.refused) }
+{
+    setup.check()?;
+    let Opened {
+        pool,
+        desk,
+        hands,
+        ended,
+        gathered,
+    } = open::<J, A, W, R, L>(alloc, setup)?;
+    let shop = Shop {
+        pool: &pool,
+        ctx,
+        gate,
+    };
+    let opening = Lends { rt, desk, body };
+    let (hands, desk) = run_all(rt, &shop, hands, ended, opening);
+    Ok(close(rt, pool, ctx, desk, hands, gathered))
+}
+
+/// Opens a pool, schedules a root job in it, and calls what comes then, while workers run the job
+/// and its kids. Ends once all of them have run.
+pub fn with_root<W, R, L, RT, J, A, G, F>(
+    rt: &RT,
+    alloc: A,
+    setup: &Setup<A>,
+    ctx: &J::Ctx,
+    gate: &G,
+    root: J,
+    then: F,
+) -> Result<Closed<J, A>, PoolFault>
+where
+    RT: Threads + Wait + Sync,
+    J: Job<A> + Drop + Send,
+    J::Ctx: Sync,
+    J::Out: Drop + Send,
+    A: Allocator + Clone + Send + Sync,
+    W: WaitPoint<A> + Sync,
+    W::Seat: Send,
+    R: Rows<J, A> + Sync,
+    R::Seat: Send,
+    L: Lists<J::Out, A>,
+    G: Gate + Sync,
+    F: FnOnce() + Drop,
+    requires then { F.pre then }
+    ensures bad_workers { IsErrOf result PoolFault.BadWorkers ↔ IsNoPoolSize setup.now.workers }
+    ensures bad_partition { IsErrOf result PoolFault.BadPartition
+        ↔ (IsPoolSize setup.now.workers
+        × AreNoPartitions setup.now.workers setup.now.partitions.items) }
+    ensures lists { IfOk result (λ closed. vec_len closed.outs ≡ setup.now.workers + 1) }
+    ensures account { IfOk result (λ closed.
+        Account R.keeps_accounts (IsStep J.weight_of J.allows ctx.now) (root ∷ []) []
+        (flat_map (λ list. list.items) closed.outs.items) closed.left.items closed.refused) }
+    ensures none_left { IfOk result (λ closed. closed.left.items ≡ []) }
+{
+    setup.check()?;
+    let Opened {
+        pool,
+        desk,
+        hands,
+        ended,
+        gathered,
+    } = open::<J, A, W, R, L>(alloc, setup)?;
+    let shop = Shop {
+        pool: &pool,
+        ctx,
+        gate,
+    };
+    let opening = Plants {
+        rt,
+        desk,
+        root,
+        then,
+    };
+    let (hands, desk) = run_all(rt, &shop, hands, ended, opening);
+    Ok(close(rt, pool, ctx, desk, hands, gathered))
+}

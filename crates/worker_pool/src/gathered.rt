@@ -1,0 +1,66 @@
+//! What comes home from those that worked in a pool.
+ghost use Rattle.std.specs.Prelude.{ℕ, ◌+◌, IfOk};
+
+use crate::job::Job;
+use crate::worker::Hands;
+use event_count::WaitPoint;
+use run_queue::Rows;
+use std::alloc::{AllocError, Allocator};
+
+/// The seats of those that have come home, what their jobs left, and how many were refused.
+#[derive(Drop)]
+pub(crate) struct Gathered<J, A, W, R>
+where
+    J: Job<A> + Drop,
+    J::Out: Drop,
+    A: Allocator,
+    W: WaitPoint<A>,
+    R: Rows<J, A>,
+{
+    pub(crate) rows: Vec<R::Seat, A>,
+    pub(crate) wakers: Vec<W::Seat, A>,
+    pub(crate) lists: Vec<Vec<J::Out, A>, A>,
+    pub(crate) refused: u64,
+}
+
+impl<J, A, W, R> Gathered<J, A, W, R>
+where
+    J: Job<A> + Drop,
+    J::Out: Drop,
+    A: Allocator + Clone,
+    W: WaitPoint<A>,
+    R: Rows<J, A>,
+{
+    ghost use Rattle.worker_pool.specs.Gathered.{Adds, HasRoom, IsEmpty};
+
+    /// Nothing yet, with room for what so many bring.
+    pub(crate) fn with_room(alloc: &A, count: usize) -> Result<Self, AllocError>
+        ensures empty { IfOk result IsEmpty }
+        ensures room { IfOk result (HasRoom count) }
+    {
+        Ok(Gathered {
+            rows: Vec::with_capacity(alloc.clone()?, count)?,
+            wakers: Vec::with_capacity(alloc.clone()?, count)?,
+            lists: Vec::with_capacity(alloc.clone()?, count)?,
+            refused: 0,
+        })
+    }
+
+    /// One more comes home, with these hands.
+    pub(crate) fn add(&mut self, hands: Hands<J, A, W, R>)
+        requires room { HasRoom 1 self.old }
+        ensures adds { Adds hands self.old self.new }
+        ensures room { (more : ℕ) → HasRoom (more + 1) self.old → HasRoom more self.new }
+    {
+        let Hands {
+            owner,
+            outs,
+            refused,
+            ..
+        } = hands;
+        self.rows.push_reserved(owner.row);
+        self.wakers.push_reserved(owner.waker);
+        self.lists.push_reserved(outs);
+        self.refused = self.refused.saturating_add(refused);
+    }
+}

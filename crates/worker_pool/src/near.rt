@@ -1,0 +1,54 @@
+//! The rows in which a worker looks before it looks in all.
+ghost use Rattle.std.specs.Prelude.{◌≡◌, ◌-◌, ◌<◌, ◌≤◌, ◌↔◌, All, IfOk, IsNone, IfSome};
+ghost use Rattle.worker_pool.specs.Setup.{IsPoolSize, ArePartitions, home_of, whole};
+
+use crate::setup::Setup;
+use rand_core::utils::NextWord;
+use rand_pcg::Lcg64Xsh32;
+use std::alloc::{AllocError, Allocator};
+use steal_walk::{Coprimes, Partition, Walk};
+
+/// A worker's partition, and what it walks through it by.
+#[derive(Drop)]
+pub(crate) struct Near<A: Allocator> {
+    pub(crate) rows: Partition,
+    coprimes: Coprimes<A>,
+    ghost sized: { coprimes ≡ rows.limit - rows.start },
+}
+
+impl<A: Allocator> Near<A> {
+    /// The walk over the partition that the next random word picks.
+    pub(crate) fn walk(&self, words: &mut Lcg64Xsh32) -> Walk
+        ensures { All (λ row. row < self.now.rows.limit) result }
+    {
+        let (start, limit) = (self.rows.start(), self.rows.limit());
+        Walk::of(words.next_word(), start, limit, &self.coprimes)
+    }
+}
+
+/// The partition of the worker of this number, where it isn't the whole pool.
+pub(crate) fn near_of<A: Allocator>(
+    alloc: A,
+    setup: &Setup<A>,
+    number: u32,
+) -> Result<Option<Near<A>>, AllocError>
+    requires size { IsPoolSize setup.now.workers }
+    requires partitions { ArePartitions setup.now.workers setup.now.partitions.items }
+    requires number { number < setup.now.workers }
+    ensures none { IfOk result (λ near. IsNone near
+        ↔ (home_of setup.now.workers setup.now.partitions.items number
+        ≡ whole setup.now.workers)) }
+    ensures rows { IfOk result (λ near. IfSome near (λ n. n.rows
+        ≡ home_of setup.now.workers setup.now.partitions.items number)) }
+    ensures inside { IfOk result (λ near. IfSome near (λ n. n.rows.limit ≤ setup.now.workers)) }
+{
+    let Some(&rows) = setup.partitions.get(number as usize) else {
+        return Ok(None);
+    };
+    let size = rows.limit() - rows.start();
+    if size == setup.workers {
+        return Ok(None);
+    }
+    let coprimes = Coprimes::new(alloc, size)?;
+    Ok(Some(Near { rows, coprimes }))
+}
