@@ -2,6 +2,8 @@
 //!
 //! Where one is refused the call answers want of memory, and where it gets those that it takes, no
 //! more, it answers as it does with ample memory.
+//!
+//! A pool answers so only while it is opened. Later it counts the jobs that found no memory.
 #![tactic(auto)]
 
 #[cfg(test)]
@@ -11,10 +13,20 @@ mod coprimes;
 #[cfg(test)]
 mod counts;
 #[cfg(test)]
+mod halves;
+#[cfg(test)]
 mod leaves;
+#[cfg(test)]
+mod loops;
+#[cfg(test)]
+mod opened;
+#[cfg(test)]
+mod pools;
 #[cfg(test)]
 mod refusing;
 #[cfg(test)]
 mod rows;
+#[cfg(test)]
+mod splits;
 #[cfg(test)]
 mod worlds;

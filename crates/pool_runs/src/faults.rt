@@ -1,5 +1,4 @@
 //! Pools that aren't opened.
-use crate::forgetful::NoRows;
 use crate::opened::{planted, scheduled};
 use crate::tree::Tree;
 use event_count::LockedCount;
@@ -58,28 +57,4 @@ fn one_partition_for_two_workers(rt: HostRuntime) -> Result<(), Fail> {
     setup.partitions.push(Partition::new(0, 2, 2)?)?;
     expect_fault(&rt, rt.alloc(), &setup, Some(PoolFault::BadPartition));
     Ok(())
-}
-
-#[test]
-fn rows_without_memory(rt: HostRuntime) {
-    let setup = Setup {
-        workers: 2,
-        partitions: Vec::new(rt.alloc()),
-    };
-    let by_caller = scheduled::<LockedCount, NoRows, VecLists, _, Tree>(
-        &rt,
-        rt.alloc(),
-        &setup,
-        &(),
-        LEAF,
-    );
-    assert_eq!(rt; by_caller.err(), Some(PoolFault::NoMemory));
-    let by_root = planted::<LockedCount, NoRows, VecLists, _, Tree>(
-        &rt,
-        rt.alloc(),
-        &setup,
-        &(),
-        LEAF,
-    );
-    assert_eq!(rt; by_root.err(), Some(PoolFault::NoMemory));
 }

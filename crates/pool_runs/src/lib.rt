@@ -4,8 +4,6 @@
 #[cfg(test)]
 mod faults;
 #[cfg(test)]
-mod forgetful;
-#[cfg(test)]
 mod opened;
 #[cfg(test)]
 mod runs;

@@ -1,6 +1,7 @@
 //! Working out a plan.
 
 ghost use Rattle.std.specs.Prelude.{◌≡◌, ◌<◌, ◌↔◌, ◌++◌, IfOk, IfErr, IsErrOf};
+ghost use Rattle.tensor_ops.specs.Legal.{most_elements};
 ghost use Rattle.tensor_ops.specs.Value.{tensor_of};
 ghost use Rattle.parallel_for.specs.Setup.{IsPoolSize, IsNoPoolSize, AreNoPartitions};
 ghost use Rattle.tensor_reduce.specs.Plan.{steps_in, term_of_step, terms_in, worked_out};
@@ -42,6 +43,9 @@ pub fn run_plan<RT: Threads + Wait + Sync>(
         ↔ ((0 < block) × IsPoolSize setup.now.workers
         × AreNoPartitions setup.now.workers setup.now.partitions.items) }
     ensures no_other { IsErrOf result (ForFault.Pool PoolFault.NoMemory) → ⊥ }
+
+    // A step of one leaf isn't lost.
+    ensures lost { IsErrOf result ForFault.Lost → block < most_elements }
 {
     if block == 0 {
         return Err(ForFault::BadBlock);
@@ -67,7 +71,7 @@ fn work_out<RT: Threads + Wait + Sync>(
     requires partitions { AreNoPartitions setup.now.workers setup.now.partitions.items → ⊥ }
     ensures tensor { IfOk result (λ t.
         t ≡ last_tensor (worked_out (terms_in (steps_in plan.now)) inputs.now)) }
-    ensures faults { IfErr result IsFoundAtWork }
+    ensures faults { IfErr result (IsFoundAtWork block) }
 {
     let steps = plan.steps();
     let mut tensors = Vec::with_capacity(alloc, steps.len())?;
@@ -97,7 +101,7 @@ fn work_out_step<RT: Threads + Wait + Sync>(
     requires partitions { AreNoPartitions setup.now.workers setup.now.partitions.items → ⊥ }
     ensures tensor { IfOk result (λ t.
         t ≡ tensor_of (term_of_step step.now) (inputs.now ++ earlier.now)) }
-    ensures faults { IfErr result IsFoundAtWork }
+    ensures faults { IfErr result (IsFoundAtWork block) }
 {
     let kernel = StepKernel::of(alloc, step, inputs, earlier)?;
     let dims = step.dims().copied();

@@ -1,6 +1,6 @@
 -- The answer of a text, and its line.
-use Rattle.std.specs.Prelude.{◌≡◌, ◌⊎◌, ℕ, ℤ, pos, List, [], ◌∷◌, ◌++◌, map, codes, decimal}
-use Rattle.std.specs.Prelude.{Result, Ok, Err, Bool, true, false, IsTrue}
+use Rattle.std.specs.Prelude.{◌≡◌, ◌<◌, ◌⊎◌, ℕ, ℤ, pos, List, [], ◌∷◌, ◌++◌, map, codes, decimal}
+use Rattle.std.specs.Prelude.{Result, Ok, Err}
 use Rattle.std.specs.Fmt.{signed_decimal}
 use Rattle.std.specs.List.{join_with_byte}
 use Rattle.expr_reader.specs.Contents.{Contents}
@@ -9,6 +9,7 @@ use Rattle.expr_reader.specs.Request.{Asked, request_of}
 use Rattle.expr_reader.specs.Value.{tensor_of}
 use Rattle.expr_reader.specs.declared.fault.Fault.{Fault}
 use Rattle.expr_reader.specs.declared.fault.Fault.TheVariants.{NoMemory}
+use Rattle.tensor_ops.specs.Legal.{most_elements}
 use Rattle.tensor_runner.specs.declared.status.Status.{Status}
 use Rattle.tensor_runner.specs.declared.status.Status.TheVariants as status
 
@@ -56,13 +57,13 @@ status_of (tensor t) = status.Tensor
 status_of (fault f) = status.Fault
 status_of lost = status.Fault
 
--- whether an answer is a tensor
-abbrev pub is_tensor : Answer → Bool
-is_tensor (tensor t) = true
-is_tensor (fault f) = false
-is_tensor lost = false
+-- whether values of a request's tensor may be lost between the workers: one block may not hold it
+abbrev pub MayBeLost : Result Asked Fault → Type 0
+MayBeLost (Ok asked) = asked.block < most_elements
+MayBeLost (Err f) = ⊥
 
--- the answer of the text, or want of memory, or, where the text has a tensor, that values were lost
+-- the answer of the text, or want of memory, or, where the text has a tensor of more than one block,
+-- that values were lost
 abbrev pub IsAnswerTo : List ℕ → Answer → Type 0
 IsAnswerTo text a = (a ≡ answer_of text)
-    ⊎ ((a ≡ fault NoMemory) ⊎ (IsTrue (is_tensor (answer_of text)) × (a ≡ lost)))
+    ⊎ ((a ≡ fault NoMemory) ⊎ (MayBeLost (request_of text) × (a ≡ lost)))

@@ -1,7 +1,8 @@
 //! The tensor of a request.
 
-ghost use Rattle.std.specs.Prelude.{◌≡◌, IfOk};
+ghost use Rattle.std.specs.Prelude.{◌≡◌, ◌<◌, IfOk, IsErrOf};
 ghost use Rattle.expr_reader.specs.Asked.{asked_under};
+ghost use Rattle.tensor_ops.specs.Legal.{most_elements};
 ghost use Rattle.tensor_runner.specs.Answer.{asked_tensor};
 
 use crate::status::RunFault;
@@ -28,13 +29,14 @@ impl From<AllocError> for RunFault {
 /// # Errors
 ///
 /// [`RunFault::NoMemory`], where a growth of memory was refused. [`RunFault::Lost`], where values
-/// that workers had worked out didn't all come back.
+/// that workers had worked out didn't all come back, which can't be where one block holds them all.
 pub fn eval<RT: Threads + Wait + Sync>(
     rt: &RT,
     alloc: Global,
     request: &Request,
 ) -> Result<Tensor, RunFault>
-    ensures { IfOk result (λ t. t ≡ asked_tensor (asked_under request.now)) }
+    ensures tensor { IfOk result (λ t. t ≡ asked_tensor (asked_under request.now)) }
+    ensures lost { IsErrOf result RunFault.Lost → request.now.block < most_elements }
 {
     let plan = Plan::of(alloc, &request.expr, &request.inputs)?;
     let setup = Setup {

@@ -39,13 +39,13 @@ use types.Kit.{split, join, pick, fsplit, fjoin, feq_i, feq_l, check, updating, 
 use types.Kit.{now as at_once, done}
 use types.ByLocal.{alloc_all, pass_all, free_all, look_at, get, through, sets, lands_as, env}
 use denote.RawPtr.{block_ptr}
-use denote.Builtin.{u64, bool, usize, RefOf}
+use denote.Builtin.{bool, usize, RefOf}
 use denote.Triple.Call.{calls_at}
 use Rattle.std.proofs.alloc.Calls.{Al, α, seen, Answer, answer_val, Answer-typed, Answer-Ok}
 use Rattle.std.proofs.alloc.Calls.{Answer-err, takes_key}
 use Rattle.std.proofs.alloc.Calls.{Takes, at_takes, Answered, Takes-goes, Takes-gives, answers}
 use Rattle.std.proofs.alloc.Shapes.{after}
-use Rattle.std.specs.contracts.cell.Cell as CE
+use Rattle.std.specs.contracts.sync.atomic.AtomicU64 as Word
 use Rattle.memory_tests.specs.contracts.refusing.lets_through as LT
 use Rattle.memory_tests.proofs.refusing.lets_through.Symbol as c_sym
 use Rattle.memory_tests.proofs.refusing.lets_through.Met as c_met
@@ -56,7 +56,7 @@ use Rattle.memory_tests.proofs.refusing.SparingAllocator.allocate.Statement as s
 use Rattle.memory_tests.proofs.refusing.SparingAllocator.allocate.Code as code
 
 abbrev Left : RattleType
-Left = CE.the_row u64
+Left = Word.the_row
 
 module _ {M : Type 1} {𝓤 : Ura M} (𝓛 : Logic 𝓤) (at_mem : Memory → SProp 𝓤) (run : Routine → Fun 𝓤)
   where
@@ -69,7 +69,7 @@ module _ {M : Type 1} {𝓤 : Ura M} (𝓛 : Logic 𝓤) (at_mem : Memory → SP
         (κ, tt),
         (q, tt),
         tt,
-        (record { ref_ptr = c; now = record { value = tt } }, tt),
+        (record { ref_ptr = c; now = tt }, tt),
         (vptr c.0 c.1 ∷ [], tt),
       ),
       tt,
@@ -83,10 +83,10 @@ module _ {M : Type 1} {𝓤 : Ura M} (𝓛 : Logic 𝓤) (at_mem : Memory → SP
     (κ : Lft) (q : Share) (c : ℕ × ℕ) where
   open 𝓛 use {H, A}
 
-  Lets-goes : ent 𝓤 (sep 𝓤 (sem 𝓛 (hidden_shr Left κ (record { value = tt }) c.0 c.1)) (A.lft κ q))
+  Lets-goes : ent 𝓤 (sep 𝓤 (sem 𝓛 (hidden_shr Left κ tt c.0 c.1)) (A.lft κ q))
       ((Lets 𝓛 at_mem run).pre (at_lets 𝓛 at_mem run κ q c))
   Lets-goes =
-      qed 𝓛 (‵ (hidden_shr Left κ (record { value = tt }) c.0 c.1) ∷ ‵ (flft κ q) ∷ []) ∵ feq_i !
+      qed 𝓛 (‵ (hidden_shr Left κ tt c.0 c.1) ∷ ‵ (flft κ q) ∷ []) ∵ feq_i !
       (List Val) (vptr c.0 c.1 ∷ []) (vptr c.0 c.1 ∷ []) refl $
       fjoin ! $
       nothing ! $ move ! (1 ∷ []) $ fjoin ! $ nothing ! $ move ! (2 ∷ []) $ join ! $ join ! $

@@ -1,0 +1,10 @@
+-- Any thread may give a block back, where it may give it back to the inner allocator.
+use mir.Syntax.{Dict}
+use denote.RattleType.{RattleType}
+use denote.Param.Send.{Frees}
+use Rattle.std.specs.declared.alloc.Allocator.{Ghosts}
+use Rattle.memory_tests.specs.contracts.refusing.SparingAllocator.TheImpl.{ghosts}
+
+pub frees : (B : RattleType) (g : Ghosts B.Denot) (d e : Dict) → Frees g g.dealloc_token
+    → Frees (ghosts B g d e) (ghosts B g d e).dealloc_token
+frees B g d e f = record { frees = λ heap. f.frees heap.inner }

@@ -1,0 +1,102 @@
+//! Ranges that are evaluated on workers.
+use crate::halves::Halves;
+use crate::refusing::Sparing;
+use parallel_for::{ForFault, PoolFault, Setup, parallel_for};
+use std::alloc::Allocator;
+use std::process::Abort;
+use std::sync::Wait;
+use std::test::Fail;
+use std::thread::Threads;
+
+/// How many allocations a range is tried with at most.
+const MOST: u64 = 64;
+
+const PLACES: u64 = 22;
+
+/// So that there are six blocks.
+const BLOCK: u64 = 4;
+
+/// So that there are two.
+const HALF: u64 = 11;
+
+// Half the number of each place, worked out by so many workers.
+fn halves<RT, A>(rt: &RT, alloc: A, workers: u32, block: u64) -> Result<Vec<u64, A>, ForFault>
+where
+    RT: Threads + Wait + Sync,
+    A: Allocator + Clone + Send + Sync,
+{
+    let setup = Setup {
+        workers,
+        partitions: Vec::new(alloc.clone()?),
+    };
+    parallel_for(rt, alloc, &setup, &Halves, PLACES, block)
+}
+
+// The items are those of the kernel.
+fn expect_halves<R: Abort>(rt: &R, workers: u32, items: &[u64]) {
+    assert_eq!(rt; items.len() as u64, PLACES, "{workers} workers");
+    for (place, item) in (0..PLACES).zip(items.iter()) {
+        assert_eq!(rt; *item, place / 2, "{workers} workers");
+    }
+}
+
+// Two workers take one list of outs or two, so only of one is it sure that more suffices too. Of 64
+// as many are started as there are blocks.
+#[test]
+fn each_allocation_of_a_range(rt: HostRuntime) -> Result<(), Fail> {
+    for (workers, block) in [(1, BLOCK), (2, BLOCK), (64, HALF)] {
+        let mut sufficed = false;
+        for left in 0..MOST {
+            let heap = Sparing::new(rt.alloc(), left);
+            match halves(&rt, &heap, workers, block) {
+                Ok(items) => {
+                    expect_halves(&rt, workers, &items);
+                    sufficed = true;
+                }
+                Err(fault) => {
+                    assert_eq!(rt;
+                        fault,
+                        ForFault::NoMemory,
+                        "{workers} workers, after {left}"
+                    );
+                    assert!(rt; !sufficed || workers > 1, "{workers} workers, after {left}");
+                }
+            }
+        }
+        assert!(rt; sufficed, "{workers} workers");
+        expect_halves(&rt, workers, &halves(&rt, rt.alloc(), workers, block)?);
+    }
+    Ok(())
+}
+
+// A block that is as long as the range is worked out by the caller, in one allocation.
+#[test]
+fn each_allocation_of_one_block(rt: HostRuntime) -> Result<(), Fail> {
+    let none = Sparing::new(rt.alloc(), 0);
+    assert_eq!(rt;
+        halves(&rt, &none, 2, PLACES).err(),
+        Some(ForFault::NoMemory)
+    );
+    let one = Sparing::new(rt.alloc(), 1);
+    expect_halves(&rt, 2, &halves(&rt, &one, 2, PLACES)?);
+    Ok(())
+}
+
+#[test]
+fn faults_of_range_come_before_memory(rt: HostRuntime) {
+    let bad_workers = ForFault::Pool(PoolFault::BadWorkers);
+    for (workers, block, fault) in [
+        (1, 0, ForFault::BadBlock),
+        (0, 0, ForFault::BadBlock),
+        (0, BLOCK, bad_workers),
+        (65, BLOCK, bad_workers),
+    ] {
+        let none = Sparing::new(rt.alloc(), 0);
+        let answer = halves(&rt, &none, workers, block);
+        assert_eq!(rt;
+            answer.err(),
+            Some(fault),
+            "{workers} workers, block {block}"
+        );
+    }
+}

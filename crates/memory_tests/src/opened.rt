@@ -1,0 +1,135 @@
+//! Pools over any allocator.
+ghost use Rattle.worker_pool.specs.Callers.{IsCaller, StaysCaller};
+
+use crate::splits::Splits;
+use event_count::{LockedCount, WaitPoint};
+use run_queue::{LockedRows, Rows};
+use std::alloc::Allocator;
+use std::sync::Wait;
+use std::sync::atomic::{AtomicU64, Ordering};
+use std::thread::Threads;
+use worker_pool::{
+    Caller, Closed, Job, Lists, NoGate, PoolFault, Setup, VecLists, with_pool, with_root,
+};
+
+/// How a pool is opened.
+#[derive(Clone, Copy, Debug)]
+pub(crate) enum Entry {
+    /// With a body, which schedules the root.
+    Body,
+    /// For the root.
+    Root,
+}
+
+/// How often a pool called its body, or what comes after its root, and its jobs' steps.
+#[derive(Drop)]
+pub(crate) struct Counts {
+    calls: AtomicU64,
+    steps: AtomicU64,
+}
+
+impl Counts {
+    pub(crate) fn new() -> Counts {
+        Counts {
+            calls: AtomicU64::new(0),
+            steps: AtomicU64::new(0),
+        }
+    }
+
+    pub(crate) fn calls(&self) -> u64 {
+        self.calls.load(Ordering::SeqCst)
+    }
+
+    pub(crate) fn steps(&self) -> u64 {
+        self.steps.load(Ordering::SeqCst)
+    }
+}
+
+/// What a pool of so many workers leaves that runs the root.
+pub(crate) fn run_root<RT, A>(
+    rt: &RT,
+    alloc: A,
+    entry: Entry,
+    workers: u32,
+    counts: &Counts,
+    root: Splits,
+) -> Result<Closed<Splits, A>, PoolFault>
+where
+    RT: Threads + Wait + Sync,
+    A: Allocator + Clone + Send + Sync,
+{
+    let setup = Setup {
+        workers,
+        partitions: Vec::new(alloc.clone()?),
+    };
+    let Counts { calls, steps } = counts;
+    match entry {
+        Entry::Body => scheduled::<LockedCount<A>, LockedRows<Splits, A>, VecLists, RT, Splits, A>(
+            rt, alloc, &setup, steps, calls, root,
+        ),
+        Entry::Root => planted(rt, alloc, &setup, steps, calls, root),
+    }
+}
+
+// The root is scheduled by the body.
+fn scheduled<W, R, L, RT, J, A>(
+    rt: &RT,
+    alloc: A,
+    setup: &Setup<A>,
+    ctx: &J::Ctx,
+    calls: &AtomicU64,
+    root: J,
+) -> Result<Closed<J, A>, PoolFault>
+where
+    RT: Threads + Wait + Sync,
+    J: Job<A> + Drop + Send,
+    J::Ctx: Sync,
+    J::Out: Drop + Send,
+    A: Allocator + Clone + Send + Sync,
+    W: WaitPoint<A> + Sync,
+    W::Seat: Send,
+    R: Rows<J, A> + Sync,
+    R::Seat: Send,
+    L: Lists<J::Out, A>,
+{
+    with_pool::<W, R, L, RT, J, A, NoGate, _>(
+        rt,
+        alloc,
+        setup,
+        ctx,
+        &NoGate,
+        |caller: &mut Caller<'_, J, A, W, R, L>|
+            requires { IsCaller R.Rows W.WaitPoint J.Job L.Lists caller.old }
+            ensures { StaysCaller R.Rows W.WaitPoint J.Job L.Lists caller.old caller.new }
+        {
+            calls.fetch_add(1, Ordering::SeqCst);
+            caller.schedule(rt, root);
+        },
+    )
+}
+
+// The pool is opened for the root.
+fn planted<RT, A>(
+    rt: &RT,
+    alloc: A,
+    setup: &Setup<A>,
+    steps: &AtomicU64,
+    calls: &AtomicU64,
+    root: Splits,
+) -> Result<Closed<Splits, A>, PoolFault>
+where
+    RT: Threads + Wait + Sync,
+    A: Allocator + Clone + Send + Sync,
+{
+    with_root::<LockedCount<A>, LockedRows<Splits, A>, VecLists, RT, Splits, A, NoGate, _>(
+        rt,
+        alloc,
+        setup,
+        steps,
+        &NoGate,
+        root,
+        || {
+            calls.fetch_add(1, Ordering::SeqCst);
+        },
+    )
+}
