@@ -11,11 +11,13 @@ use Rattle.tensor_shape.specs.Wrap.{wrap}
 use Rattle.tensor_shape.proofs.Places.{index_of-place}
 use Rattle.tensor_ops.specs.Contents.{Contents}
 use Rattle.tensor_ops.specs.Contraction.{firsts, seconds, outer_dims, contracted, contracted_dims}
+use Rattle.tensor_ops.specs.Pairing.{IsPairing}
 use Rattle.tensor_ops.specs.Reduction.{combine, unit, reduced, reduced_dims, are_axes}
 use Rattle.tensor_ops.specs.Result.{dims_of, shape_of}
 use Rattle.tensor_ops.specs.Term.{Term, unary, binary, reduce, contract}
 use Rattle.tensor_ops.specs.Value.{value, value_of_place}
 use Rattle.tensor_ops.specs.Woven.{among, dims_at, other_dims, woven}
+use Rattle.tensor_ops.specs.declared.cursor.Pairing.{Pairing}
 use Rattle.tensor_ops.specs.declared.reducer.Reducer.{Reducer}
 use Rattle.tensor_ops.proofs.Dropped.{other_dims-among}
 use Rattle.tensor_ops.proofs.Combined.{along_dropped, product_at, fold-next, fold-last, wrap-next}
@@ -113,9 +115,10 @@ module _ (inputs : List Contents) where
         over.whole ∙ ap (λ ys. size_of (dims_at ys d)) over.dropped
         ∙ ap (λ e. size_of (dims_at (among axes (length e)) e)) over.dims
 
-    pub reduced-init : IsReduced → (d xs : List ℕ) (v : ℤ) (count p : ℕ) → ReducedOver d xs count
+    pub reduced-init : IsOk (dims_of (unary (reduce r axes) a) inputs)
+        → (d xs : List ℕ) (v : ℤ) (count p : ℕ) → ReducedOver d xs count
         → v ≡ unit r → ReducedFrom v 0 count p
-    reduced-init known d xs v count p over start =
+    reduced-init has_dims d xs v count p over start =
         let g : ℕ → ℤ = along_dropped axes (shape_of a inputs) (value a inputs) (index_of
         (other_dims axes (shape_of a inputs)) p) in
         let all : count - 0 ≡ size_of (dims_at (among axes (length (shape_of a inputs)))
@@ -123,15 +126,17 @@ module _ (inputs : List Contents) where
         omega (arith, reduced-count d xs count over) in
         ap (λ w. fold (combine r) w (map g (range_with_len 0 (count - 0)))) start
         ∙ ap (λ n. fold (combine r) (unit r) (map g (range_with_len 0 n))) all
-        ∙ sym (reduced-value known p)
+        ∙ sym (reduced-value (reduced-known has_dims) p)
 
-    pub reduced-next : IsReduced → (d xs : List ℕ) (v w x : ℤ) (k count p read : ℕ)
+    pub reduced-next : IsOk (dims_of (unary (reduce r axes) a) inputs)
+        → (d xs : List ℕ) (v w x : ℤ) (k count p read : ℕ)
         → ReducedOver d xs count → k < count
         → p < size_of (shape_of (unary (reduce r axes) a) inputs)
         → read ≡ place d (woven xs d (index_of (dims_at xs d) k) (index_of (other_dims xs d) p))
         → x ≡ value_of_place a inputs read → w ≡ combine r v x → ReducedFrom v k count p
         → ReducedFrom w (k + 1) count p
-    reduced-next known d xs v w x k count p read over below inside at is_x is_w so_far =
+    reduced-next has_dims d xs v w x k count p read over below inside at is_x is_w so_far =
+        let known = reduced-known has_dims in
         let ds : List ℕ = shape_of a inputs in
         let g : ℕ → ℤ = along_dropped axes ds (value a inputs) (index_of (other_dims axes ds) p) in
         let place_at : List ℕ → List ℕ → ℕ =
@@ -248,93 +253,88 @@ module _ (inputs : List Contents) where
         (range_with_len k (count - k))))
         ≡ value_of_place (binary (contract pairs) a b) inputs p
 
-    -- what it goes over
-    pub record SummedOver (d e xs ys : List ℕ) (count outer : ℕ) : Type 0 where
-      pub first : d ≡ shape_of a inputs
-      pub second : e ≡ shape_of b inputs
-      pub left : xs ≡ firsts pairs
-      pub right : ys ≡ seconds pairs
-      pub whole : count ≡ size_of (dims_at xs d)
-      pub apart : outer ≡ size_of (other_dims xs d)
-
-    summed-count : (d e xs ys : List ℕ) (count outer : ℕ) → SummedOver d e xs ys count outer
-        → count ≡ size_of (dims_at (firsts pairs) (shape_of a inputs))
-    summed-count d e xs ys count outer over =
-        over.whole ∙ ap (λ zs. size_of (dims_at zs d)) over.left
+    summed-count : (q : Pairing) → IsPairing inputs pairs a b q
+        → q.count ≡ size_of (dims_at (firsts pairs) (shape_of a inputs))
+    summed-count q over =
+        over.whole ∙ ap (λ zs. size_of (dims_at zs q.first)) over.left
         ∙ ap (λ f. size_of (dims_at (firsts pairs) f)) over.first
 
-    pub summed-outer : (d e xs ys : List ℕ) (count outer : ℕ) → SummedOver d e xs ys count outer
-        → outer ≡ size_of (other_dims (firsts pairs) (shape_of a inputs))
-    summed-outer d e xs ys count outer over =
-        over.apart ∙ ap (λ zs. size_of (other_dims zs d)) over.left
+    pub summed-outer : (q : Pairing) → IsPairing inputs pairs a b q
+        → q.outer ≡ size_of (other_dims (firsts pairs) (shape_of a inputs))
+    summed-outer q over =
+        over.apart ∙ ap (λ zs. size_of (other_dims zs q.first)) over.left
         ∙ ap (λ f. size_of (other_dims (firsts pairs) f)) over.first
 
     -- what is asked of the places that it reads
-    pub record SummedInside (d e xs ys : List ℕ) (k outer p : ℕ) : Type 0 where
-      pub some : 0 < outer
-      pub axes_left : are_axes (length d) xs ≡ true
-      pub axes_right : are_axes (length e) ys ≡ true
-      pub inner_right : k < size_of (dims_at ys e)
-      pub outer_left : p % outer < size_of (other_dims xs d)
-      pub outer_right : p / outer < size_of (other_dims ys e)
+    pub record SummedInside (q : Pairing) (k p : ℕ) : Type 0 where
+      pub some : 0 < q.outer
+      pub axes_left : are_axes (length q.first) q.firsts.items ≡ true
+      pub axes_right : are_axes (length q.second) q.seconds.items ≡ true
+      pub inner_left : k < size_of (dims_at q.firsts.items q.first)
+      pub inner_right : k < size_of (dims_at q.seconds.items q.second)
+      pub outer_left : p % q.outer < size_of (other_dims q.firsts.items q.first)
+      pub outer_right : p / q.outer < size_of (other_dims q.seconds.items q.second)
 
-    pub summed-inside : IsContracted → (d e xs ys : List ℕ) (k count outer p : ℕ)
-        → SummedOver d e xs ys count outer → k < count
-        → p < size_of (shape_of (binary (contract pairs) a b) inputs)
-        → SummedInside d e xs ys k outer p
-    summed-inside is d e xs ys k count outer p over below inside =
-        let ds : List ℕ = shape_of a inputs in
-        let es : List ℕ = shape_of b inputs in
+    pub summed-inside : IsOk (dims_of (binary (contract pairs) a b) inputs)
+        → (q : Pairing) (k p : ℕ) → IsPairing inputs pairs a b q → k < q.count
+        → p < size_of (shape_of (binary (contract pairs) a b) inputs) → SummedInside q k p
+    summed-inside has_dims q k p over below inside =
+        let is = contracted-known has_dims in
         let parts = contracted-parts is p inside in
-        let at_outer = summed-outer d e xs ys count outer over in
-        let some : 0 < outer = omega (arith, parts.inner) in
+        let at_outer = summed-outer q over in
+        let some : 0 < q.outer = omega (arith, parts.inner) in
         record {
           some = some;
-          axes_left = ap (λ zs. are_axes (length d) zs) over.left
+          axes_left = ap (λ zs. are_axes (length q.first) zs) over.left
               ∙ ap (λ f. are_axes (length f) (firsts pairs)) over.first ∙ is.known.first;
-          axes_right = ap (λ zs. are_axes (length e) zs) over.right
+          axes_right = ap (λ zs. are_axes (length q.second) zs) over.right
               ∙ ap (λ f. are_axes (length f) (seconds pairs)) over.second ∙ is.known.second;
+          inner_left = omega (arith, over.whole);
           inner_right = omega (
             arith,
-            summed-count d e xs ys count outer over,
+            summed-count q over,
             ap size_of is.known.paired,
-            ap (λ zs. size_of (dims_at zs e)) over.right,
+            ap (λ zs. size_of (dims_at zs q.second)) over.right,
             ap (λ f. size_of (dims_at (seconds pairs) f)) over.second,
           );
-          outer_left = subst (λ n. p % n < size_of (other_dims xs d)) (sym at_outer)
-              (omega (arith, parts.inner, at_outer, over.apart));
-          outer_right = subst (λ n. p / n < size_of (other_dims ys e)) (sym at_outer)
+          outer_left = subst (λ n. p % n < size_of (other_dims q.firsts.items q.first))
+              (sym at_outer) (omega (arith, parts.inner, at_outer, over.apart));
+          outer_right = subst (λ n. p / n < size_of (other_dims q.seconds.items q.second))
+              (sym at_outer)
               (omega (
                 arith,
                 parts.outer,
-                ap (λ zs. size_of (other_dims zs e)) over.right,
+                ap (λ zs. size_of (other_dims zs q.second)) over.right,
                 ap (λ f. size_of (other_dims (seconds pairs) f)) over.second,
               ));
         }
 
-    pub summed-init : IsContracted → (d e xs ys : List ℕ) (count outer p : ℕ)
-        → SummedOver d e xs ys count outer → SummedFrom (pos 0) 0 count p
-    summed-init is d e xs ys count outer p over =
-        let all : count - 0 ≡ size_of (dims_at (firsts pairs) (shape_of a inputs)) =
-        omega (arith, summed-count d e xs ys count outer over) in
+    pub summed-init : IsOk (dims_of (binary (contract pairs) a b) inputs)
+        → (q : Pairing) (p : ℕ) → IsPairing inputs pairs a b q
+        → SummedFrom (pos 0) 0 q.count p
+    summed-init has_dims q p over =
+        let all : q.count - 0 ≡ size_of (dims_at (firsts pairs) (shape_of a inputs)) =
+        omega (arith, summed-count q over) in
         ap (λ n. wrap (fold ◌+ℤ◌ (pos 0) (map (product_at pairs (shape_of a inputs)
         (shape_of b inputs) (value a inputs) (value b inputs)
         (index_of (outer_dims pairs (shape_of a inputs) (shape_of b inputs)) p))
         (range_with_len 0 n)))) all
-        ∙ sym (contracted-value is p)
+        ∙ sym (contracted-value (contracted-known has_dims) p)
 
-    pub summed-next : IsContracted → (d e xs ys : List ℕ) (v w x y : ℤ)
-        (k count outer p left right : ℕ) → SummedOver d e xs ys count outer
-        → k < count → p < size_of (shape_of (binary (contract pairs) a b) inputs)
-        → left ≡ place d (woven xs d (index_of (dims_at xs d) k) (index_of (other_dims xs d)
-        (p % outer)))
-        → right ≡ place e (woven ys e (index_of (dims_at ys e) k) (index_of (other_dims ys e)
-        (p / outer)))
+    pub summed-next : IsOk (dims_of (binary (contract pairs) a b) inputs)
+        → (q : Pairing) (v w x y : ℤ) (k p left right : ℕ) → IsPairing inputs pairs a b q
+        → k < q.count → p < size_of (shape_of (binary (contract pairs) a b) inputs)
+        → left ≡ place q.first (woven q.firsts.items q.first
+        (index_of (dims_at q.firsts.items q.first) k)
+        (index_of (other_dims q.firsts.items q.first) (p % q.outer)))
+        → right ≡ place q.second (woven q.seconds.items q.second
+        (index_of (dims_at q.seconds.items q.second) k)
+        (index_of (other_dims q.seconds.items q.second) (p / q.outer)))
         → x ≡ value_of_place a inputs left → y ≡ value_of_place b inputs right
         → w ≡ wrap (v +ℤ wrap (x *ℤ y))
-        → SummedFrom v k count p → SummedFrom w (k + 1) count p
-    summed-next is d e xs ys v w x y k count outer p left right over below inside at_left at_right
-        is_x is_y is_w so_far =
+        → SummedFrom v k q.count p → SummedFrom w (k + 1) q.count p
+    summed-next has_dims q v w x y k p left right over below inside at_left at_right is_x is_y is_w
+        so_far =
         let ds : List ℕ = shape_of a inputs in
         let es : List ℕ = shape_of b inputs in
         let g : ℕ → ℤ = product_at pairs ds es (value a inputs) (value b inputs) (index_of
@@ -342,27 +342,27 @@ module _ (inputs : List Contents) where
         let place_at : List ℕ → List ℕ → ℕ
         → ℕ = λ zs f i. place f (woven zs f (index_of (dims_at zs f) k) (index_of
         (other_dims zs f) i)) in
-        let at_outer = summed-outer d e xs ys count outer over in
+        let at_outer = summed-outer q over in
         let there_left : left ≡ place_at (firsts pairs) ds (p % size_of (other_dims
         (firsts pairs) ds)) =
-        at_left ∙ ap (λ zs. place_at zs d (p % outer)) over.left
-        ∙ ap (λ f. place_at (firsts pairs) f (p % outer)) over.first
+        at_left ∙ ap (λ zs. place_at zs q.first (p % q.outer)) over.left
+        ∙ ap (λ f. place_at (firsts pairs) f (p % q.outer)) over.first
         ∙ ap (λ n. place_at (firsts pairs) ds (p % n)) at_outer in
         let there_right : right ≡ place_at (seconds pairs) es (p / size_of (other_dims
         (firsts pairs) ds)) =
-        at_right ∙ ap (λ zs. place_at zs e (p / outer)) over.right
-        ∙ ap (λ f. place_at (seconds pairs) f (p / outer)) over.second
+        at_right ∙ ap (λ zs. place_at zs q.second (p / q.outer)) over.right
+        ∙ ap (λ f. place_at (seconds pairs) f (p / q.outer)) over.second
         ∙ ap (λ n. place_at (seconds pairs) es (p / n)) at_outer in
         let step : x *ℤ y ≡ g k =
         ap (λ z. z *ℤ y) is_x ∙ ap (λ z. value_of_place a inputs left *ℤ z) is_y
-        ∙ contracted-step is k p left right (omega (
+        ∙ contracted-step (contracted-known has_dims) k p left right (omega (
           arith,
-          summed-count d e xs ys count outer over,
+          summed-count q over,
         )) inside there_left there_right in
-        let rest : List ℤ = map g (range_with_len (k + 1) (count - (k + 1))) in
+        let rest : List ℤ = map g (range_with_len (k + 1) (q.count - (k + 1))) in
         ap (λ u. wrap (fold ◌+ℤ◌ u rest)) (is_w ∙ ap (λ z. wrap (v +ℤ wrap z)) step)
         ∙ wrap-next rest v (g k)
-        ∙ ap wrap (sym (fold-next ◌+ℤ◌ g v k count below))
+        ∙ ap wrap (sym (fold-next ◌+ℤ◌ g v k q.count below))
         ∙ so_far
 
     pub summed-last : (v : ℤ) (k count p : ℕ) → FitsSigned w64 v → count ≡ k

@@ -14,6 +14,7 @@ pub mod Loops
 pub mod Meaning
 pub mod Movement
 pub mod Offsets
+pub mod Pairing
 pub mod Panels
 pub mod Places
 pub mod Placing

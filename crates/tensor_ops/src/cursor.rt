@@ -15,7 +15,7 @@ use crate::moved_index::moved_place;
 use crate::node::{Binary, Node, Ternary, Unary};
 use crate::operations::{BinaryScalar, applied, combined, is_true};
 use crate::reducer::Reducer;
-use tensor_shape::Dims;
+use tensor_shape::{Dims, PerAxis};
 
 /// An expression that has result dims, over its inputs. It gives one value at a time and takes no
 /// memory.
@@ -120,22 +120,60 @@ fn contracted_at(pairs: &[(u64, u64)], a: &Expr, b: &Expr, inputs: &Inputs, plac
     ensures { result ≡ value_of_place
         (binary (contract pairs.now) (term_of a.now) (term_of b.now)) inputs.now place }
 {
-    let first = known_dims(a, inputs);
-    let second = known_dims(b, inputs);
-    let Some((firsts, seconds)) = paired_axes(pairs, &first) else {
-        unreachable!()
-    };
-    let count = dims_at(firsts.as_slice(), &first).size();
-    let outer = other_dims(firsts.as_slice(), &first).size();
+    let pairing = Pairing::of(pairs, a, b, inputs);
+    let firsts = pairing.firsts.as_slice();
+    let seconds = pairing.seconds.as_slice();
     let mut value = 0;
-    for inner in 0..count {
-        let left = woven_place(firsts.as_slice(), &first, inner, place % outer);
-        let right = woven_place(seconds.as_slice(), &second, inner, place / outer);
+    for inner in 0..pairing.count {
+        let left = woven_place(firsts, &pairing.first, inner, place % pairing.outer);
+        let right = woven_place(seconds, &pairing.second, inner, place / pairing.outer);
         let x = value_at(a, inputs, left);
         let y = value_at(b, inputs, right);
         value = combined(BinaryScalar::Add, value, combined(BinaryScalar::Mul, x, y));
     }
     value
+}
+
+/// What a contraction adds up over: both operands' dims and their paired axes.
+#[derive(Drop)]
+struct Pairing {
+    first: Dims,
+    second: Dims,
+    firsts: PerAxis,
+    seconds: PerAxis,
+    /// How many index lists there are along the paired axes.
+    count: u64,
+    /// How many there are along the first operand's others.
+    outer: u64,
+}
+
+impl Pairing {
+    ghost use Rattle.tensor_ops.specs.Pairing.{IsPairing};
+
+    /// Of a contraction that has result dims.
+    fn of(pairs: &[(u64, u64)], a: &Expr, b: &Expr, inputs: &Inputs) -> Pairing
+        requires inputs_a { IsTrue (has_inputs (term_of a.now) (length inputs.now)) }
+        requires inputs_b { IsTrue (has_inputs (term_of b.now) (length inputs.now)) }
+        requires dims { IsOk (dims_of (binary (contract pairs.now) (term_of a.now) (term_of b.now))
+            inputs.now) }
+        ensures { IsPairing inputs.now pairs.now (term_of a.now) (term_of b.now) result }
+    {
+        let first = known_dims(a, inputs);
+        let second = known_dims(b, inputs);
+        let Some((firsts, seconds)) = paired_axes(pairs, &first) else {
+            unreachable!()
+        };
+        let count = dims_at(firsts.as_slice(), &first).size();
+        let outer = other_dims(firsts.as_slice(), &first).size();
+        Pairing {
+            first,
+            second,
+            firsts,
+            seconds,
+            count,
+            outer,
+        }
+    }
 }
 
 /// The dims of an expression that has some.

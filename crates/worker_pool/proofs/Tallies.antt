@@ -1,7 +1,6 @@
 -- How accounts of jobs add up.
-use Rattle.std.proofs.Common.{◌≡◌, ℕ, ◌+◌, List, [], ◌∷◌, ◌++◌, map, All}
+use Rattle.std.proofs.Common.{◌≡◌, ℕ, ◌+◌, List, [], ◌∷◌, ◌++◌, map}
 use Rattle.std.proofs.Common.{refl, sym, ap, ◌∙◌, arith}
-use Rattle.std.specs.Prelude.{sum_by}
 use Rattle.std.specs.List.{flat_map}
 use Rattle.std.proofs.lemmas.List.{append-nil}
 use Rattle.std.proofs.lemmas.List.Elements.{All-append, All-nil}
@@ -10,7 +9,7 @@ use Rattle.std.proofs.lemmas.Grind.{flat_map-append}
 use Rattle.run_queue.specs.Bag.{total}
 use Rattle.worker_pool.specs.declared.job.Progress.{Progress}
 use Rattle.worker_pool.specs.Accounts.{Account, counted}
-use Rattle.worker_pool.specs.Nodes.{Node, IsLawful, job_of, kids_of, outs_of, left_of}
+use Rattle.worker_pool.specs.Nodes.{IsLawful, job_of, kids_of, outs_of, left_of}
 use Rattle.worker_pool.specs.Nodes.{refusals_of}
 use Rattle.worker_pool.specs.Ran.{Ran, Went}
 use Rattle.worker_pool.proofs.Bags.{total-append, total-map-append, total-flat_map-append}

@@ -1,6 +1,5 @@
 -- What became of single jobs.
-use Rattle.std.specs.Prelude.{◌≡◌, ℕ, ◌+◌, List, [], ◌∷◌, map, Option, Some, None}
-use Rattle.std.specs.List.{flat_map}
+use Rattle.std.specs.Prelude.{ℕ, List, [], ◌∷◌, Option, Some, None}
 use Rattle.worker_pool.specs.declared.job.Progress.{Progress}
 use Rattle.worker_pool.specs.declared.job.Progress.TheVariants as progress
 

@@ -1,12 +1,13 @@
 -- What a pool begins with.
 use Rattle.std.specs.Prelude.{◌≡◌, ℕ, ◌+◌, ◌≤◌, ◌↔◌, List, [], length, map, All, IsNone, IfSome}
-use Rattle.std.specs.Prelude.{vec_capacity}
+use Rattle.std.specs.Prelude.{vec_len, vec_capacity}
 use Rattle.std.specs.List.{range_with_len}
 use Rattle.rand_core.specs.Pcg32Seed.{pcg32_seed}
 use Rattle.rand_pcg.specs.Lcg.{Lcg}
 use Rattle.rand_pcg.specs.Pcg.{pcg32_of_seed}
 use Rattle.event_count.specs.declared.wait_point.WaitPoint as wait_point
 use Rattle.run_queue.specs.declared.rows.Rows as rows
+use Rattle.run_queue.specs.Limits.{most_rows}
 use Rattle.steal_walk.specs.Partition.{RowRange}
 use Rattle.worker_pool.specs.declared.job.Job as job
 use Rattle.worker_pool.specs.declared.lists.Lists as lists
@@ -56,8 +57,10 @@ module _ {J A W R C O T S : Type 0} (row : rows.Ghosts R J A S) (point : wait_po
     pub desk_words : opened.desk.opener.words ≡ seeded_by count
     pub at_work : (ctx : C) → All (IsAtWork row point law opened.pool ctx) opened.hands.items
     pub numbers : map (λ hands. hands.number) opened.hands.items ≡ range_with_len 0 count
+    pub many : vec_len opened.hands ≡ opened.pool.ground.workers
+    pub few : vec_len opened.hands ≤ most_rows
     pub by_number : All (IsByNumber count) opened.hands.items
     pub none_ended : opened.ended.items ≡ []
-    pub room_for_ended : count ≤ vec_capacity opened.ended
+    pub room_for_ended : vec_len opened.hands ≤ vec_capacity opened.ended
     pub none_gathered : IsEmpty opened.gathered
     pub room_to_gather : HasRoom (count + 1) opened.gathered

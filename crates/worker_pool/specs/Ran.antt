@@ -4,7 +4,7 @@ use Rattle.std.specs.Prelude.{option_to_list}
 use Rattle.std.specs.List.{flat_map}
 use Rattle.run_queue.specs.Bag.{total}
 use Rattle.worker_pool.specs.declared.job.Progress.{Progress}
-use Rattle.worker_pool.specs.Nodes.{Runs, Node, Done, Refused, IsLawful, job_of, kids_of, outs_of}
+use Rattle.worker_pool.specs.Nodes.{Runs, Node, IsLawful, job_of, kids_of, outs_of}
 use Rattle.worker_pool.specs.Nodes.{left_of, refusals_of}
 use Rattle.worker_pool.specs.Accounts.{Account, counted}
 

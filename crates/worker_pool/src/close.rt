@@ -44,7 +44,7 @@ where
     requires opener { IsOpener R.Rows W.WaitPoint pool.ground desk.opener.row desk.opener.waker }
     requires took_none { R.keeps_accounts → R.takes_of desk.opener.row ≡ [] }
     requires at_work { All (IsAtWork R.Rows W.WaitPoint J.Job pool ctx.now) hands.items }
-    requires every_worker { length hands.items ≡ pool.ground.workers }
+    requires every_worker { vec_len hands ≡ pool.ground.workers }
     requires none_gathered { IsEmpty gathered }
     requires room { HasRoom (pool.ground.workers + 1) gathered }
     ensures lists { vec_len result.outs ≡ pool.ground.workers + 1 }

@@ -14,7 +14,7 @@ use crate::closed::Closed;
 use crate::gate::Gate;
 use crate::job::Job;
 use crate::lists::Lists;
-use crate::open::{Opened, open};
+use crate::open::open;
 use crate::setup::{PoolFault, Setup};
 use crate::shop::{Lends, Plants, Shop};
 use crate::start::run_all;
@@ -67,22 +67,20 @@ where
         × Account R.keeps_accounts (IsStep J.weight_of J.allows ctx.now) (roots_of after) []
         (flat_map (λ list. list.items) closed.outs.items) closed.left.items closed.refused) }
 {
-    setup.check()?;
-    let Opened {
-        pool,
-        desk,
-        hands,
-        ended,
-        gathered,
-    } = open::<J, A, W, R, L>(alloc, setup)?;
+    let opened = open::<J, A, W, R, L>(alloc, setup)?;
+    let pool = opened.pool;
     let shop = Shop {
         pool: &pool,
         ctx,
         gate,
     };
-    let opening = Lends { rt, desk, body };
-    let (hands, desk) = run_all(rt, &shop, hands, ended, opening);
-    Ok(close(rt, pool, ctx, desk, hands, gathered))
+    let opening = Lends {
+        rt,
+        desk: opened.desk,
+        body,
+    };
+    let (hands, desk) = run_all(rt, &shop, opened.hands, opened.ended, opening);
+    Ok(close(rt, pool, ctx, desk, hands, opened.gathered))
 }
 
 /// Opens a pool, schedules a root job in it, and calls what comes then, while workers run the job
@@ -120,14 +118,8 @@ where
         (flat_map (λ list. list.items) closed.outs.items) closed.left.items closed.refused) }
     ensures none_left { IfOk result (λ closed. closed.left.items ≡ []) }
 {
-    setup.check()?;
-    let Opened {
-        pool,
-        desk,
-        hands,
-        ended,
-        gathered,
-    } = open::<J, A, W, R, L>(alloc, setup)?;
+    let opened = open::<J, A, W, R, L>(alloc, setup)?;
+    let pool = opened.pool;
     let shop = Shop {
         pool: &pool,
         ctx,
@@ -135,10 +127,10 @@ where
     };
     let opening = Plants {
         rt,
-        desk,
+        desk: opened.desk,
         root,
         then,
     };
-    let (hands, desk) = run_all(rt, &shop, hands, ended, opening);
-    Ok(close(rt, pool, ctx, desk, hands, gathered))
+    let (hands, desk) = run_all(rt, &shop, opened.hands, opened.ended, opening);
+    Ok(close(rt, pool, ctx, desk, hands, opened.gathered))
 }

@@ -1,9 +1,11 @@
 //! Opening a pool. All memory is taken here that its starting, ending and closing need.
-ghost use Rattle.std.specs.Prelude.{◌≡◌, ◌+◌, ◌<◌, [], ◌∷◌, ◌++◌, map, All, IfOk, length};
+ghost use Rattle.std.specs.Prelude.{◌≡◌, ◌+◌, ◌<◌, ◌↔◌, [], ◌∷◌, ◌++◌, map, All, IfOk};
+ghost use Rattle.std.specs.Prelude.{IsErrOf, length};
 ghost use Rattle.std.specs.List.{range_with_len};
 ghost use Rattle.worker_pool.specs.Openings.{AreRowSeats, AreWakers, IsByNumber, IsOpened};
 ghost use Rattle.worker_pool.specs.Seats.{IsGround};
-ghost use Rattle.worker_pool.specs.Setup.{IsPoolSize, ArePartitions};
+ghost use Rattle.worker_pool.specs.Setup.{IsPoolSize, IsNoPoolSize, ArePartitions};
+ghost use Rattle.worker_pool.specs.Setup.{AreNoPartitions};
 ghost use Rattle.worker_pool.specs.Stops.{IsStopSeatOf, jobs_of, stored_of};
 ghost use Rattle.worker_pool.specs.Works.{IsAtWork};
 
@@ -16,7 +18,7 @@ use crate::near::near_of;
 use crate::opener::Opener;
 use crate::owner::Owner;
 use crate::pool::Pool;
-use crate::setup::Setup;
+use crate::setup::{PoolFault, Setup};
 use crate::stop;
 use crate::stop::StopSeat;
 use crate::worker::Hands;
@@ -49,8 +51,31 @@ where
     pub(crate) gathered: Gathered<J, A, W, R>,
 }
 
-/// A pool that is so set up, in which nothing was done yet.
+/// A pool that is so set up, in which nothing was done yet, or the setup's fault.
 pub(crate) fn open<J, A, W, R, L>(
+    alloc: A,
+    setup: &Setup<A>,
+) -> Result<Opened<J, A, W, R, L>, PoolFault>
+where
+    J: Job<A> + Drop,
+    J::Out: Drop,
+    A: Allocator + Clone,
+    W: WaitPoint<A>,
+    R: Rows<J, A>,
+    L: Lists<J::Out, A>,
+    ensures bad_workers { IsErrOf result PoolFault.BadWorkers ↔ IsNoPoolSize setup.now.workers }
+    ensures bad_partition { IsErrOf result PoolFault.BadPartition
+        ↔ (IsPoolSize setup.now.workers
+        × AreNoPartitions setup.now.workers setup.now.partitions.items) }
+    ensures opened { IfOk result (IsOpened R.Rows W.WaitPoint setup.now.partitions.items J.Job
+        L.Lists setup.now.workers) }
+{
+    setup.check()?;
+    Ok(open_checked(alloc, setup)?)
+}
+
+// A pool, of a setup that passed the check.
+fn open_checked<J, A, W, R, L>(
     alloc: A,
     setup: &Setup<A>,
 ) -> Result<Opened<J, A, W, R, L>, AllocError>

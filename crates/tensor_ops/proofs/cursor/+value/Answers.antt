@@ -1,24 +1,22 @@
-use Rattle.std.proofs.Common.{◌≡◌, ◌<◌, ◌≤◌, pos, get_or, length, List, ℕ, ℤ, ◌+ℤ◌, IsOk, ap, subst}
+use Rattle.std.proofs.Common.{◌≡◌, ◌<◌, pos, get_or, length, ◌+ℤ◌, IsOk, ap, subst}
 use Rattle.std.proofs.Common.{sym, ◌∙◌, rules, arith}
 use Rattle.std.proofs.lemmas.Int.{to_z-of_z}
-use Rattle.std.proofs.lemmas.List.{length-map}
 use Rattle.std.specs.Int.{w64}
 use Rattle.std.specs.Prelude.{FitsSigned}
-use mir.Val.{SFits, to_z, of_z}
+use mir.Val.{SFits, to_z}
 use Rattle.tensor_shape.specs.Index.{size_of}
 use Rattle.tensor_shape.specs.Wrap.{wrap}
-use Rattle.tensor_ops.specs.Contraction.{firsts}
 use Rattle.tensor_ops.specs.Result.{dims_of, shape_of}
 use Rattle.tensor_ops.specs.Term.{Term, unary, binary, Movement, movement, contract}
 use Rattle.tensor_ops.specs.Tree.{term_of, movement_at, unary_at, binary_at}
 use Rattle.tensor_ops.specs.Value.{value_of_place}
-use Rattle.tensor_ops.specs.Woven.{among, dims_at, other_dims}
-use Rattle.tensor_ops.proofs.Dropped.{length-axes, other_dims-among}
+use Rattle.tensor_ops.specs.Woven.{other_dims}
+use Rattle.tensor_ops.proofs.Dropped.{other_dims-among}
 use Rattle.tensor_ops.proofs.Others.{are_axes-among}
 use Rattle.tensor_ops.proofs.Shapes.{place_read, value_of_place-input, value_of_place-movement}
-use Rattle.tensor_ops.proofs.Terms.{reduced-known, reduced-init, reduced-next, reduced-last}
-use Rattle.tensor_ops.proofs.Terms.{contracted-known, SummedOver, summed-inside, summed-init}
-use Rattle.tensor_ops.proofs.Terms.{summed-next, summed-last}
+use Rattle.tensor_ops.proofs.Terms.{reduced-known, ReducedOver, reduced-init, reduced-next}
+use Rattle.tensor_ops.proofs.Terms.{reduced-last}
+use Rattle.tensor_ops.proofs.Terms.{summed-inside, summed-init, summed-next, summed-last}
 use Rattle.tensor_ops.proofs.cursor.+value.Goals as goal
 
 pub value_at-returns-in-Input : goal.value_at-returns-in-Input
@@ -91,37 +89,19 @@ reduced_at-woven_place-read-requires-clause-outer t c =
 
 pub reduced_at-loop-inner-init : goal.reduced_at-loop-inner-init
 reduced_at-loop-inner-init t c =
-    let known = reduced-known c.args.inputs.now c.args.reducer c.args.axes.now
-    (term_of c.args.a.now) c.requires.dims in
     let fits : SFits w64 c.unit-value.result = search rules in
-    reduced-init c.args.inputs.now c.args.reducer c.args.axes.now (term_of c.args.a.now) known
-    c.known_dims-dims.result c.all_among-dropped.result.items (to_z w64
-    (of_z w64 c.unit-value.result)) c.size-count.result c.args.place
-    (record {
-      dims = c.known_dims-dims.ensures;
-      dropped = c.all_among-dropped.ensures ∙ ap (among c.args.axes.now) c.rank.ensures.value;
-      whole = c.size-count.ensures.value ∙ ap size_of (c.dims_at.ensures
-          ∙ ap (λ xs. dims_at xs c.known_dims-dims.result) c.as_slice.ensures.value);
-    })
+    let over : ReducedOver c.args.inputs.now c.args.reducer c.args.axes.now (term_of c.args.a.now)
+    c.known_dims-dims.result c.all_among-dropped.result.items c.size-count.result = search rules in
+    reduced-init _ _ _ _ c.requires.dims _ _ _ _ c.args.place over
     (to_z-of_z w64 c.unit-value.result fits ∙ c.unit-value.ensures)
 
 pub reduced_at-loop-inner-preserved : goal.reduced_at-loop-inner-preserved
 reduced_at-loop-inner-preserved t c =
-    let known = reduced-known c.args.inputs.now c.args.reducer c.args.axes.now
-    (term_of c.args.a.now) c.requires.dims in
     let fits : SFits w64 c.combine-value.result = search rules in
     let fits_read : SFits w64 c.value_at.result = search rules in
-    reduced-next c.args.inputs.now c.args.reducer c.args.axes.now (term_of c.args.a.now) known
-    c.known_dims-dims.result c.all_among-dropped.result.items (to_z w64 c.loop-inner.value-bits)
-    (to_z w64 (of_z w64 c.combine-value.result))
-    (to_z w64 (of_z w64 c.value_at.result)) c.loop-inner.inner c.size-count.result c.args.place
-    c.woven_place-read.result
-    (record {
-      dims = c.known_dims-dims.ensures;
-      dropped = c.all_among-dropped.ensures ∙ ap (among c.args.axes.now) c.rank.ensures.value;
-      whole = c.size-count.ensures.value ∙ ap size_of (c.dims_at.ensures
-          ∙ ap (λ xs. dims_at xs c.known_dims-dims.result) c.as_slice.ensures.value);
-    })
+    let over : ReducedOver c.args.inputs.now c.args.reducer c.args.axes.now (term_of c.args.a.now)
+    c.known_dims-dims.result c.all_among-dropped.result.items c.size-count.result = search rules in
+    reduced-next _ _ _ _ c.requires.dims _ _ _ _ _ _ _ _ _ over
     c.loop-inner-test.true c.requires.below
     (rw c.as_slice-in-loop-inner.ensures.value at c.woven_place-read.ensures.value)
     (to_z-of_z w64 c.value_at.result fits_read ∙ c.value_at.ensures)
@@ -134,190 +114,44 @@ reduced_at-returns t c =
     (to_z w64 c.loop-inner.value-bits)
     c.loop-inner.inner c.size-count.result c.args.place (omega arith) c.loop-inner.invariant
 
-pub contracted_at-unreachable-requires : goal.contracted_at-unreachable-requires
-contracted_at-unreachable-requires t c =
-    let known = contracted-known c.args.inputs.now c.args.pairs.now (term_of c.args.a.now)
-    (term_of c.args.b.now) c.requires.dims in
-    let ds : List ℕ = shape_of (term_of c.args.a.now) c.args.inputs.now in
-    let few : length c.args.pairs.now ≤ length c.known_dims-first.result =
-    omega (
-      arith,
-      length-axes (length ds) (firsts c.args.pairs.now) known.known.first,
-      length-map c.args.pairs.now (λ pair. pair.0),
-      ap length c.known_dims-first.ensures,
-    ) in
-    let bad = c.in_default.ensures.some.1 few in
-    (cc)
-
 pub contracted_at-nonzero_rem-place : goal.contracted_at-nonzero_rem-place
 contracted_at-nonzero_rem-place t c =
-    let known = contracted-known c.args.inputs.now c.args.pairs.now (term_of c.args.a.now)
-    (term_of c.args.b.now) c.requires.dims in
-    let over : SummedOver c.args.inputs.now c.args.pairs.now (term_of c.args.a.now)
-    (term_of c.args.b.now)
-    c.known_dims-first.result c.known_dims-second.result c.in-Some.firsts.items
-    c.in-Some.seconds.items c.size-count.result c.size-outer.result =
-    record {
-      first = c.known_dims-first.ensures;
-      second = c.known_dims-second.ensures;
-      left = c.in-Some.ensures.first;
-      right = c.in-Some.ensures.second;
-      whole = c.size-count.ensures.value ∙ ap size_of (c.dims_at.ensures
-          ∙ ap (λ xs. dims_at xs c.known_dims-first.result) c.as_slice.ensures.value);
-      apart = c.size-outer.ensures.value ∙ ap size_of (c.other_dims.ensures
-          ∙ ap (λ xs. other_dims xs c.known_dims-first.result) c.as_slice-2.ensures.value);
-    } in
-    let inside = summed-inside c.args.inputs.now c.args.pairs.now (term_of c.args.a.now)
-    (term_of c.args.b.now) known
-    c.known_dims-first.result c.known_dims-second.result c.in-Some.firsts.items
-    c.in-Some.seconds.items
-    c.loop-inner.inner c.size-count.result c.size-outer.result c.args.place over
-    c.loop-inner-test.true c.requires.below in
-    inside.some
+    (summed-inside _ _ _ _ c.requires.dims _ _ _ c.of-pairing.ensures c.loop-inner-test.true
+    c.requires.below).some
 
 pub contracted_at-nonzero_div-place : goal.contracted_at-nonzero_div-place
 contracted_at-nonzero_div-place t c =
-    let known = contracted-known c.args.inputs.now c.args.pairs.now (term_of c.args.a.now)
-    (term_of c.args.b.now) c.requires.dims in
-    let over : SummedOver c.args.inputs.now c.args.pairs.now (term_of c.args.a.now)
-    (term_of c.args.b.now)
-    c.known_dims-first.result c.known_dims-second.result c.in-Some.firsts.items
-    c.in-Some.seconds.items c.size-count.result c.size-outer.result =
-    record {
-      first = c.known_dims-first.ensures;
-      second = c.known_dims-second.ensures;
-      left = c.in-Some.ensures.first;
-      right = c.in-Some.ensures.second;
-      whole = c.size-count.ensures.value ∙ ap size_of (c.dims_at.ensures
-          ∙ ap (λ xs. dims_at xs c.known_dims-first.result) c.as_slice.ensures.value);
-      apart = c.size-outer.ensures.value ∙ ap size_of (c.other_dims.ensures
-          ∙ ap (λ xs. other_dims xs c.known_dims-first.result) c.as_slice-2.ensures.value);
-    } in
-    let inside = summed-inside c.args.inputs.now c.args.pairs.now (term_of c.args.a.now)
-    (term_of c.args.b.now) known
-    c.known_dims-first.result c.known_dims-second.result c.in-Some.firsts.items
-    c.in-Some.seconds.items
-    c.loop-inner.inner c.size-count.result c.size-outer.result c.args.place over
-    c.loop-inner-test.true c.requires.below in
-    inside.some
+    (summed-inside _ _ _ _ c.requires.dims _ _ _ c.of-pairing.ensures c.loop-inner-test.true
+    c.requires.below).some
 
 pub contracted_at-woven_place-left-requires : goal.contracted_at-woven_place-left-requires
 contracted_at-woven_place-left-requires t c =
-    let known = contracted-known c.args.inputs.now c.args.pairs.now (term_of c.args.a.now)
-    (term_of c.args.b.now) c.requires.dims in
-    let over : SummedOver c.args.inputs.now c.args.pairs.now (term_of c.args.a.now)
-    (term_of c.args.b.now)
-    c.known_dims-first.result c.known_dims-second.result c.in-Some.firsts.items
-    c.in-Some.seconds.items c.size-count.result c.size-outer.result =
-    record {
-      first = c.known_dims-first.ensures;
-      second = c.known_dims-second.ensures;
-      left = c.in-Some.ensures.first;
-      right = c.in-Some.ensures.second;
-      whole = c.size-count.ensures.value ∙ ap size_of (c.dims_at.ensures
-          ∙ ap (λ xs. dims_at xs c.known_dims-first.result) c.as_slice.ensures.value);
-      apart = c.size-outer.ensures.value ∙ ap size_of (c.other_dims.ensures
-          ∙ ap (λ xs. other_dims xs c.known_dims-first.result) c.as_slice-2.ensures.value);
-    } in
-    let inside = summed-inside c.args.inputs.now c.args.pairs.now (term_of c.args.a.now)
-    (term_of c.args.b.now) known
-    c.known_dims-first.result c.known_dims-second.result c.in-Some.firsts.items
-    c.in-Some.seconds.items
-    c.loop-inner.inner c.size-count.result c.size-outer.result c.args.place over
+    let inside = summed-inside _ _ _ _ c.requires.dims _ _ _ c.of-pairing.ensures
     c.loop-inner-test.true c.requires.below in
-    rw c.as_slice-in-loop-inner.ensures.value
-    (record {
-      axes = inside.axes_left;
-      inner =
-          omega (arith, over.whole, c.loop-inner-test.true);
-      outer = inside.outer_left;
-    })
+    rw c.as_slice-firsts.ensures.value
+    (record { axes = inside.axes_left; inner = inside.inner_left; outer = inside.outer_left })
 
 pub contracted_at-woven_place-right-requires : goal.contracted_at-woven_place-right-requires
 contracted_at-woven_place-right-requires t c =
-    let known = contracted-known c.args.inputs.now c.args.pairs.now (term_of c.args.a.now)
-    (term_of c.args.b.now) c.requires.dims in
-    let over : SummedOver c.args.inputs.now c.args.pairs.now (term_of c.args.a.now)
-    (term_of c.args.b.now)
-    c.known_dims-first.result c.known_dims-second.result c.in-Some.firsts.items
-    c.in-Some.seconds.items c.size-count.result c.size-outer.result =
-    record {
-      first = c.known_dims-first.ensures;
-      second = c.known_dims-second.ensures;
-      left = c.in-Some.ensures.first;
-      right = c.in-Some.ensures.second;
-      whole = c.size-count.ensures.value ∙ ap size_of (c.dims_at.ensures
-          ∙ ap (λ xs. dims_at xs c.known_dims-first.result) c.as_slice.ensures.value);
-      apart = c.size-outer.ensures.value ∙ ap size_of (c.other_dims.ensures
-          ∙ ap (λ xs. other_dims xs c.known_dims-first.result) c.as_slice-2.ensures.value);
-    } in
-    let inside = summed-inside c.args.inputs.now c.args.pairs.now (term_of c.args.a.now)
-    (term_of c.args.b.now) known
-    c.known_dims-first.result c.known_dims-second.result c.in-Some.firsts.items
-    c.in-Some.seconds.items
-    c.loop-inner.inner c.size-count.result c.size-outer.result c.args.place over
+    let inside = summed-inside _ _ _ _ c.requires.dims _ _ _ c.of-pairing.ensures
     c.loop-inner-test.true c.requires.below in
-    rw c.as_slice-in-loop-inner-2.ensures.value
+    rw c.as_slice-seconds.ensures.value
     (record { axes = inside.axes_right; inner = inside.inner_right; outer = inside.outer_right })
 
 pub contracted_at-loop-inner-init : goal.contracted_at-loop-inner-init
 contracted_at-loop-inner-init t c =
-    let known = contracted-known c.args.inputs.now c.args.pairs.now (term_of c.args.a.now)
-    (term_of c.args.b.now) c.requires.dims in
-    let over : SummedOver c.args.inputs.now c.args.pairs.now (term_of c.args.a.now)
-    (term_of c.args.b.now)
-    c.known_dims-first.result c.known_dims-second.result c.in-Some.firsts.items
-    c.in-Some.seconds.items c.size-count.result c.size-outer.result =
-    record {
-      first = c.known_dims-first.ensures;
-      second = c.known_dims-second.ensures;
-      left = c.in-Some.ensures.first;
-      right = c.in-Some.ensures.second;
-      whole = c.size-count.ensures.value ∙ ap size_of (c.dims_at.ensures
-          ∙ ap (λ xs. dims_at xs c.known_dims-first.result) c.as_slice.ensures.value);
-      apart = c.size-outer.ensures.value ∙ ap size_of (c.other_dims.ensures
-          ∙ ap (λ xs. other_dims xs c.known_dims-first.result) c.as_slice-2.ensures.value);
-    } in
-    summed-init c.args.inputs.now c.args.pairs.now (term_of c.args.a.now)
-    (term_of c.args.b.now) known
-    c.known_dims-first.result c.known_dims-second.result c.in-Some.firsts.items
-    c.in-Some.seconds.items
-    c.size-count.result c.size-outer.result c.args.place over
+    summed-init _ _ _ _ c.requires.dims _ c.args.place c.of-pairing.ensures
 
 pub contracted_at-loop-inner-preserved : goal.contracted_at-loop-inner-preserved
 contracted_at-loop-inner-preserved t c =
-    let known = contracted-known c.args.inputs.now c.args.pairs.now (term_of c.args.a.now)
-    (term_of c.args.b.now) c.requires.dims in
-    let over : SummedOver c.args.inputs.now c.args.pairs.now (term_of c.args.a.now)
-    (term_of c.args.b.now)
-    c.known_dims-first.result c.known_dims-second.result c.in-Some.firsts.items
-    c.in-Some.seconds.items c.size-count.result c.size-outer.result =
-    record {
-      first = c.known_dims-first.ensures;
-      second = c.known_dims-second.ensures;
-      left = c.in-Some.ensures.first;
-      right = c.in-Some.ensures.second;
-      whole = c.size-count.ensures.value ∙ ap size_of (c.dims_at.ensures
-          ∙ ap (λ xs. dims_at xs c.known_dims-first.result) c.as_slice.ensures.value);
-      apart = c.size-outer.ensures.value ∙ ap size_of (c.other_dims.ensures
-          ∙ ap (λ xs. other_dims xs c.known_dims-first.result) c.as_slice-2.ensures.value);
-    } in
-    let x : ℤ = to_z w64 (of_z w64 c.value_at-x.result) in
-    let y : ℤ = to_z w64 (of_z w64 c.value_at-y.result) in
     let fits_x : SFits w64 c.value_at-x.result = search rules in
     let fits_y : SFits w64 c.value_at-y.result = search rules in
     let fits_product : SFits w64 c.combined.result = search rules in
     let fits : SFits w64 c.combined-value.result = search rules in
-    summed-next c.args.inputs.now c.args.pairs.now (term_of c.args.a.now)
-    (term_of c.args.b.now) known
-    c.known_dims-first.result c.known_dims-second.result c.in-Some.firsts.items
-    c.in-Some.seconds.items
-    (to_z w64 c.loop-inner.value-bits) (to_z w64 (of_z w64 c.combined-value.result)) x y
-    c.loop-inner.inner c.size-count.result c.size-outer.result c.args.place
-    c.woven_place-left.result c.woven_place-right.result
-    over c.loop-inner-test.true c.requires.below
-    (rw c.as_slice-in-loop-inner.ensures.value at c.woven_place-left.ensures.value)
-    (rw c.as_slice-in-loop-inner-2.ensures.value at c.woven_place-right.ensures.value)
+    summed-next _ _ _ _ c.requires.dims _ _ _ _ _ _ _ _ _ c.of-pairing.ensures
+    c.loop-inner-test.true c.requires.below
+    (rw c.as_slice-firsts.ensures.value at c.woven_place-left.ensures.value)
+    (rw c.as_slice-seconds.ensures.value at c.woven_place-right.ensures.value)
     (to_z-of_z w64 c.value_at-x.result fits_x ∙ c.value_at-x.ensures)
     (to_z-of_z w64 c.value_at-y.result fits_y ∙ c.value_at-y.ensures)
     (to_z-of_z w64 c.combined-value.result fits ∙ c.combined-value.ensures
@@ -330,4 +164,4 @@ contracted_at-returns t c =
     let fits : FitsSigned w64 (to_z w64 c.loop-inner.value-bits) = search rules in
     summed-last c.args.inputs.now c.args.pairs.now (term_of c.args.a.now) (term_of c.args.b.now)
     (to_z w64 c.loop-inner.value-bits)
-    c.loop-inner.inner c.size-count.result c.args.place fits (omega arith) c.loop-inner.invariant
+    c.loop-inner.inner _ c.args.place fits (omega arith) c.loop-inner.invariant

@@ -20,4 +20,4 @@ invariant-reduced_at-loop-inner l =
 
 abbrev pub invariant-contracted_at-loop-inner : goal.invariant-contracted_at-loop-inner
 invariant-contracted_at-loop-inner l =
-    SummedFrom l.inputs l.pairs (term_of l.a) (term_of l.b) l.value l.inner l.count l.place
+    SummedFrom l.inputs l.pairs (term_of l.a) (term_of l.b) l.value l.inner l.inner-end l.place

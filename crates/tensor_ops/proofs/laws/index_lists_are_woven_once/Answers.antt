@@ -1,6 +1,6 @@
-use Rattle.std.proofs.Common.{◌≡◌, length, refl, ap, sym, ◌∙◌, subst}
+use Rattle.std.proofs.Common.{◌≡◌, length, refl, ap, ◌∙◌}
 use Rattle.tensor_shape.proofs.Places.{length-IsIndexOf}
-use Rattle.tensor_ops.specs.Woven.{others, dims_at, other_dims, woven}
+use Rattle.tensor_ops.specs.Woven.{others, dims_at, other_dims}
 use Rattle.tensor_ops.proofs.Others.{are_axes-others}
 use Rattle.tensor_ops.proofs.Weaving.{IsIndexOf-dims_at, woven-parts, parts-woven}
 use Rattle.tensor_ops.proofs.laws.index_lists_are_woven_once.Goals as goal
