@@ -32,7 +32,7 @@ fn expect_fault<R: Threads + Wait + Abort + Sync>(
         LEAF,
     );
     assert_eq!(rt; by_caller.err(), fault);
-    let by_root = planted::<LockedCount, Locked, VecLists, R, Tree>(rt, alloc, setup, &(), LEAF);
+    let by_root = planted(rt, alloc, setup, LEAF);
     assert_eq!(rt; by_root.err(), fault);
 }
 

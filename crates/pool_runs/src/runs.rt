@@ -80,13 +80,7 @@ fn a_tree_that_a_pool_is_opened_for(rt: HostRuntime) -> Result<(), Fail> {
             height: HEIGHT,
         };
         let setup = setup_of(rt.alloc(), workers);
-        let closed = planted::<LockedCount, LockedRows<Tree>, VecLists, _, Tree>(
-            &rt,
-            rt.alloc(),
-            &setup,
-            &(),
-            root,
-        )?;
+        let closed = planted(&rt, rt.alloc(), &setup, root)?;
         expect_leaves(&rt, rt.alloc(), workers, closed)?;
     }
     Ok(())
