@@ -1,4 +1,4 @@
-//! Expressions. Only this module lists the operations.
+//! Expressions: a variant for each operation.
 
 ghost use Rattle.std.specs.Prelude.{◌≡◌};
 ghost use Rattle.tensor_ops.specs.Term.{unary, binary, each, movement, reduce, pairwise};

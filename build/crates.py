@@ -1,0 +1,94 @@
+"""The repository's crates: what they are made of, and copies of them to work in."""
+
+import hashlib
+import os
+import re
+import shutil
+import subprocess
+
+TOP = os.path.dirname(os.path.dirname(os.path.abspath(__file__)))
+CRATES = os.path.join(TOP, "crates")
+# What a check holds: the toolchain's own proofs, and what it makes of each line of the crate.
+BYTES = 1_000_000_000
+BYTES_OF_A_LINE = 200_000
+
+
+class Crate:
+    """A crate: its name and its line of crates.txt, and the libraries right below it."""
+
+    def __init__(self, name, line, below, of_kit):
+        self.name, self.line, self.below, self.of_kit = name, line, below, of_kit
+        self.folder = os.path.join(CRATES, name)
+        self.sources = [it for part in ("src", "specs", "proofs") for it in files_in(self.folder, part)]
+        texts = [it.read() for it in map(opened, self.sources)]
+        self.lines = sum(it.count(b"\n") for it in texts)
+        self.memory = BYTES + BYTES_OF_A_LINE * self.lines
+        self.stamp = self.stamp_of(texts)
+
+    def stamp_of(self, texts):
+        """A sum of all that a proof of the crate reads, but for the kit."""
+        names = [os.path.relpath(it, self.folder) for it in self.sources]
+        below = [it.stamp for it in self.below]
+        return hashlib.sha256(repr((self.line, below, names, texts)).encode()).hexdigest()
+
+    def all_below(self):
+        """The crates of the repository that this one stands on, each behind its own."""
+        found = {}
+        for it in self.below:
+            found |= it.all_below()
+            found[it.name] = it
+        return found
+
+
+def opened(path):
+    return open(path, "rb")
+
+
+def files_in(folder, part):
+    walked = [
+        os.path.join(at, it)
+        for at, _, names in os.walk(os.path.join(folder, part))
+        for it in names
+        if it.endswith((".rt", ".antt"))
+    ]
+    return sorted(walked)
+
+
+def crates():
+    """All crates by name, each behind those that it stands on."""
+    with open(os.path.join(TOP, "crates.txt"), encoding="utf-8") as file:
+        lines = re.findall(r"(?m)^((\w+)[^:#\n]*:(.*))", file.read())
+    listed, found = {name: (line, words.split()) for line, name, words in lines}, {}
+
+    def add(name):
+        if name not in found:
+            line, words = listed[name]
+            below = [add(it) for it in words if it in listed]
+            found[name] = Crate(name, line, below, [it for it in words if it not in listed])
+        return found[name]
+
+    for name in listed:
+        add(name)
+    return found
+
+
+def kit():
+    """The folder of the kit, whose first page `rt doc` names."""
+    said = subprocess.run(["rt", "doc"], capture_output=True, text=True, check=True).stdout
+    return os.path.dirname(said.strip())
+
+
+def free_memory():
+    with open("/proc/meminfo", encoding="ascii") as file:
+        return 1024 * int(re.search(r"MemAvailable:\s+(\d+)", file.read())[1])
+
+
+def clock(seconds):
+    return f"{int(seconds) // 60} min {int(seconds) % 60} s"
+
+
+def remove(path):
+    """Takes a file or a folder away, where there is one."""
+    shutil.rmtree(path, ignore_errors=True)
+    if os.path.lexists(path):
+        os.remove(path)
