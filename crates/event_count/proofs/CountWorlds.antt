@@ -8,8 +8,8 @@ use Rattle.event_word.specs.declared.event.Event.{Event}
 use Rattle.event_word.specs.declared.event.Event.TheVariants.{Unpark}
 use Rattle.event_word.specs.Lists.{times}
 use Rattle.event_word.specs.World.{World, owed_by}
-use Rattle.event_word.specs.Step.{effect, unpark}
-use Rattle.event_word.specs.Play.{MayStep, IsStep}
+use Rattle.event_word.specs.Step.{Possible, effect, unpark}
+use Rattle.event_word.specs.Play.{IsStep}
 use Rattle.event_word.specs.Lawful.{sleeps, Lawful, HasSizes}
 use Rattle.event_word.specs.Shown.{top_of}
 use Rattle.event_word.proofs.Lists.{one_if-same}
@@ -27,6 +27,7 @@ of_sizes workers actors w lawful s few = record {
     phases = refl;
     flags = s.flags ∙ sym s.phases;
     passed = s.passed ∙ sym s.phases;
+    passed_rows = λ seat h. let same = s.phases in s.passed_rows seat (omega arith);
     owed = refl;
     announcing = s.announcing ∙ sym s.owed;
     tokens = s.tokens ∙ sym s.phases;
@@ -40,7 +41,7 @@ pub IsCountWorld-step : (w : World) (e : Event) (b : Bool) (u : World) → IsCou
     → IsStep w e b u → IsCountWorld u
 IsCountWorld-step w e true u c p = subst IsCountWorld (sym p.1)
     (of_sizes (length w.phases) (length w.owed) (effect w e)
-    (lawful_effect w e c.sizes.tokens c.lawful p.0.1)
+    (lawful_effect w e c.sizes.tokens c.lawful p.0)
     ((frames_effect w e).sizes (length w.phases) (length w.owed) 0 c.sizes) c.few)
 IsCountWorld-step w e false u c p = subst IsCountWorld (sym p.1) c
 
@@ -65,7 +66,7 @@ module _ (w : World) (actor : ℕ) where
   module _ (u : World) where
     settled-by : (owed : List ℕ) → owed_by w actor ≡ owed → IsStep w (Unpark actor) true u
         → settled u actor ≡ settled w actor
-    settled-by [] is p = let none = ap length is in let some = p.0.1 in absurd (omega arith)
+    settled-by [] is p = let none = ap length is in let some = p.0 in absurd (omega arith)
     settled-by (seat ∷ rest) is p =
         ap (λ x. settled x actor) p.1 ∙ settled-unpark seat rest is
 
@@ -75,7 +76,7 @@ module _ (w : World) (actor : ℕ) where
 
     fewer-by : (owed : List ℕ) → owed_by w actor ≡ owed → IsStep w (Unpark actor) true u
         → length (owed_by u actor) < length (owed_by w actor)
-    fewer-by [] is p = let none = ap length is in let some = p.0.1 in absurd (omega arith)
+    fewer-by [] is p = let none = ap length is in let some = p.0 in absurd (omega arith)
     fewer-by (seat ∷ rest) is p =
         let before = ap length is in
         let after = ap (λ x. length (owed_by x actor)) p.1 ∙ ap length (owed-unpark seat rest is) in
@@ -86,13 +87,13 @@ module _ (w : World) (actor : ℕ) where
         → length (owed_by u actor) < length (owed_by w actor)
     length-owed-step = fewer-by (owed_by w actor) refl
 
-  none-by : (owed : List ℕ) → owed_by w actor ≡ owed → (MayStep w (Unpark actor) → ⊥)
+  none-by : (owed : List ℕ) → owed_by w actor ≡ owed → (Possible w (Unpark actor) → ⊥)
       → unparked w actor owed ≡ w
   none-by [] is none = refl
-  none-by (seat ∷ rest) is none = let some = ap length is in absurd (none (tt, omega arith))
+  none-by (seat ∷ rest) is none = let some = ap length is in absurd (none (omega arith))
 
   -- where no unpark is possible, all is done
-  pub settled-none : (MayStep w (Unpark actor) → ⊥) → settled w actor ≡ w
+  pub settled-none : (Possible w (Unpark actor) → ⊥) → settled w actor ≡ w
   settled-none = none-by (owed_by w actor) refl
 
 module _ (w : World) (c : IsCountWorld w) where

@@ -19,19 +19,14 @@ use Rattle.event_word.proofs.Balancing.{balance}
 use Rattle.event_count.specs.declared.rule.Sizes.{Sizes}
 use Rattle.event_count.specs.declared.view.Card.{Card}
 use Rattle.event_count.specs.Known.{first_world, events_of, Agrees}
-use Rattle.event_count.specs.Shown.{ShowsWorld}
 use Rattle.event_count.specs.Counts.{wakes_in, CardCounts}
 use Rattle.event_count.specs.Laws.{SeatsStandOnce, PushesFoundNoSignal, CountsFollow}
 use Rattle.event_count.proofs.Closing.{is_lawful, sleeps-cases}
 
-pub stand_once : SeatsStandOnce ShowsWorld
-stand_once k s shows = (
-  shows.0,
-  shows.1,
-  shows.2,
-  λ seat. let stands = (is_lawful k s shows).0.standing seat in
-      let few = (sleeps-cases (phase_of shows.1 seat)).0 in omega arith,
-)
+pub stand_once : SeatsStandOnce
+stand_once k s history w r seat =
+    let stands = (is_lawful k s (history, w, r)).0.standing seat in
+    let few = (sleeps-cases (phase_of w seat)).0 in omega arith
 
 -- what a run leads to is possible next, if the run goes on so
 Runs-next : (w : World) (before after : List Event) (e : Event) (u last : World)
@@ -52,15 +47,10 @@ pushed_by_none u seat may stacked = ⊎_elim
     (λ none. omega arith)
     (cases_lt 0 u.signals)
 
-pub found_no_signal : PushesFoundNoSignal ShowsWorld
-found_no_signal k s shows = (
-  shows.0,
-  shows.1,
-  shows.2,
-  λ before after seat u is r stacked. pushed_by_none u seat
-      (Runs-next (first_world k) before after (Commit seat) u shows.1 r
-      (subst (λ h. Runs (first_world k) h shows.1) is shows.2.runs)) stacked,
-)
+pub found_no_signal : PushesFoundNoSignal
+found_no_signal k s history w r before after seat u is runs stacked = pushed_by_none u seat
+    (Runs-next (first_world k) before after (Commit seat) u w runs
+    (subst (λ h. Runs (first_world k) h w) is r.runs)) stacked
 
 -- the wakes of a seat are those of its own events
 module _ (n : ℕ) where
@@ -107,12 +97,9 @@ card_counts k history w c agrees = record {
   wakes = ap wakes_in agrees.events ∙ wakes_in-events_of c.number (first_world k) history;
 }
 
-pub counts_follow : CountsFollow ShowsWorld
-counts_follow k s shows = (
-  shows.0,
-  shows.1,
-  shows.2,
-  λ seat _. balance k.waiters k.notifiers 0 shows.0 shows.1 shows.2.runs seat,
-  λ id v at. All-weaker (Agrees k shows.0 shows.1) (CardCounts k shows.0)
-      (card_counts k shows.0 shows.1) v.cards (shows.2.known id v at),
+pub counts_follow : CountsFollow
+counts_follow k s history w r = (
+  λ seat _. balance k.waiters k.notifiers 0 history w r.runs seat,
+  λ id v at. All-weaker (Agrees k history w) (CardCounts k history)
+      (card_counts k history w) v.cards (r.known id v at),
 )

@@ -4,33 +4,18 @@ use Rattle.event_word.specs.Fields.{fields_of}
 use Rattle.event_word.specs.Word.{popped, IsNotify}
 use Rattle.event_count.specs.declared.view.Card.{Card}
 use Rattle.event_count.specs.Gains.{storing}
-use Rattle.event_count.specs.Tries.{OffersConsume, OffersPush, OffersSpent, IsTryCommit, Misses}
-use Rattle.event_count.specs.Tries.{IsTryNotify}
+use Rattle.event_count.specs.Tries.{OffersPush, IsTryCommit, IsTryNotify, Misses}
 use Rattle.event_word.specs.declared.after.AfterNotify.TheVariants as after_notify
 use Rattle.event_count.specs.declared.answers.TryCommit.TheVariants as commit
 use Rattle.event_count.specs.declared.answers.TryNotify.TheVariants as notify
 
-module _ (c d : Card) (o : Option ℕ) (word offered : ℕ) (looked : o ≡ Some word) where
-  is_lost : IsTryCommit c word commit.Contended d
-      → IfSome o (λ m. IsTryCommit c m commit.Contended d)
-  is_lost lost =
-      subst (λ x. IfSome x (λ m. IsTryCommit c m commit.Contended d)) (sym looked) lost
-
-  pub lost_consume : (b : Card) → b ≡ c → OffersConsume c word offered → Misses b word offered d
-      → IfSome o (λ m. IsTryCommit c m commit.Contended d)
-  lost_consume b same offers misses =
-      is_lost (offered, 0, inl (offers, subst (λ x. Misses x word offered d) same misses))
-
+module _ (c d : Card) (word offered : ℕ) where
   pub lost_push : (next : ℕ) (b : Card) → b ≡ storing c next → OffersPush c word offered next
-      → Misses b word offered d → IfSome o (λ m. IsTryCommit c m commit.Contended d)
-  lost_push next b same offers misses = is_lost
+      → Misses b word offered d → IsTryCommit c word commit.Contended d
+  lost_push next b same offers misses =
       (offered, next, inr (inl (offers, subst (λ x. Misses x word offered d) same misses)))
 
-  pub lost_spent : (b : Card) → b ≡ c → OffersSpent c word offered → Misses b word offered d
-      → IfSome o (λ m. IsTryCommit c m commit.Contended d)
-  lost_spent b same offers misses = is_lost
-      (offered, 0, inr (inr (offers, subst (λ x. Misses x word offered d) same misses)))
-
+module _ (c d : Card) (o : Option ℕ) (word offered : ℕ) (looked : o ≡ Some word) where
   pub lost_pop : (seat next : ℕ) (b : Card) → b ≡ c
       → IsNotify (fields_of word) (after_notify.Pop seat) → c.next ≡ Some next
       → fields_of offered ≡ popped (fields_of word) (fields_of next) → Misses b word offered d

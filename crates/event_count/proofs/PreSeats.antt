@@ -17,7 +17,6 @@ use Rattle.event_count.specs.declared.rule.Sizes.{Sizes}
 use Rattle.event_count.specs.declared.view.Card.{Card}
 use Rattle.event_count.specs.declared.view.View.{View}
 use Rattle.event_count.specs.Known.{numbers_in}
-use Rattle.event_count.specs.Shown.{ShowsWorld}
 use Rattle.event_count.specs.Laws.{is_pre, pre_numbers_in, PreSeatsWait}
 use Rattle.event_count.proofs.Cards.{numbers}
 use Rattle.event_count.proofs.Closing.{is_lawful, waits-cases}
@@ -83,24 +82,19 @@ waits-card k w c n waiter notifier phases is = ⊎_elim
     ∙ sym (ap waits (get_or_past w.phases n Ended (omega arith))))
     (cases_lt c.number k.waiters)
 
-pub pre_seats : PreSeatsWait ShowsWorld
-pre_seats k s shows = (
-  shows.0,
-  shows.1,
-  shows.2,
-  λ n.
-      let w = shows.1 in let r = shows.2 in let law = is_lawful k s shows in
-      let waiting = law.0.waiting n in let p = waits-cases (phase_of w n) in
-      let sum = pre_total n (waits (phase_of w n)) s.views p.0 (λ id v at i d less.
-      waits-card k w (get_or v.cards i d) n (r.known id v at i d less).waits
-      (r.known id v at i d less).notifies law.1.phases) in (
-        omega arith,
-        ⊎_elim
-            (λ none. let none_there = sum.0 none in omega arith)
-            (λ ne. let one : waits (phase_of w n) ≡ 1 = let few = p.0 in omega arith in
-            let all = sum.1 one in let once = r.dealt.once n in
-            let known = pre_known w n (p.1 (omega arith)) in let phases = law.1.phases in
-            let here = ap one_if (lt-ltb n (k.waiters + k.notifiers) (omega arith)) in omega arith)
-            (cases_eq (waits (phase_of w n)) 0),
-      ),
-)
+pub pre_seats : PreSeatsWait
+pre_seats k s history w r n =
+    let law = is_lawful k s (history, w, r) in
+    let waiting = law.0.waiting n in let p = waits-cases (phase_of w n) in
+    let sum = pre_total n (waits (phase_of w n)) s.views p.0 (λ id v at i d less.
+    waits-card k w (get_or v.cards i d) n (r.known id v at i d less).waits
+    (r.known id v at i d less).notifies law.1.phases) in (
+      omega arith,
+      ⊎_elim
+          (λ none. let none_there = sum.0 none in omega arith)
+          (λ ne. let one : waits (phase_of w n) ≡ 1 = let few = p.0 in omega arith in
+          let all = sum.1 one in let once = r.dealt.once n in
+          let known = pre_known w n (p.1 (omega arith)) in let phases = law.1.phases in
+          let here = ap one_if (lt-ltb n (k.waiters + k.notifiers) (omega arith)) in omega arith)
+          (cases_eq (waits (phase_of w n)) 0),
+    )

@@ -15,6 +15,10 @@ use Rattle.event_count.specs.declared.view.Card.{Card}
 abbrev pub looking : Card → ℕ → Card
 looking c word = record c { loads = c.loads + 1; looked = word; next = None }
 
+-- a load that gave this word
+abbrev pub IsLoad : Card → ℕ → Card → Type 0
+IsLoad c word d = d ≡ looking c word
+
 -- after a load of the next word of its top
 abbrev pub reading : Card → ℕ → Card
 reading c word = record c { next = Some word }

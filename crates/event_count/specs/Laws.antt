@@ -1,4 +1,6 @@
--- What holds in every state that a count's rule allows.
+-- What holds in every state that a count's rule allows. The rule gives a lawful World and its
+-- history; what is said of pre-waiters, stack, pushes and counts holds of every World and history
+-- that the table shows, and so of that one, all together.
 use Rattle.std.specs.Prelude.{◌≡◌, ℕ, ◌+◌, ◌<◌, ◌≤◌, Bool, true, false, List, ◌∷◌, ◌++◌, map}
 use Rattle.std.specs.Prelude.{filter}
 use Rattle.event_word.specs.declared.event.Event.{Event}
@@ -47,35 +49,31 @@ abbrev pub pre_numbers_in : View → List ℕ
 pre_numbers_in v = map (λ c. c.number) (filter (λ c. is_pre c.phase) v.cards)
 
 -- the World's pre-waiters are the seats whose phase says so, each once
-abbrev pub PreSeatsWait : Rule → Type 0
-PreSeatsWait holds =
-    (k : Sizes) (s : CountState) → holds k s
-    → (history : List Event) × (w : World) × Shows k s history w
-    × ((n : ℕ) → (times n w.pre ≤ 1)
-    × (times n w.pre ≡ total (λ v. times n (pre_numbers_in v)) s.views))
+abbrev pub PreSeatsWait : Type 0
+PreSeatsWait =
+    (k : Sizes) (s : CountState) (history : List Event) (w : World) → Shows k s history w
+    → (n : ℕ) → (times n w.pre ≤ 1)
+    × (times n w.pre ≡ total (λ v. times n (pre_numbers_in v)) s.views)
 
 -- each seat stands on the stack once at most
-abbrev pub SeatsStandOnce : Rule → Type 0
-SeatsStandOnce holds =
-    (k : Sizes) (s : CountState) → holds k s
-    → (history : List Event) × (w : World) × Shows k s history w
-    × ((seat : ℕ) → times seat w.stack ≤ 1)
+abbrev pub SeatsStandOnce : Type 0
+SeatsStandOnce =
+    (k : Sizes) (s : CountState) (history : List Event) (w : World) → Shows k s history w
+    → (seat : ℕ) → times seat w.stack ≤ 1
 
 -- wherever a commit in the history pushed its seat, there was no signal before it
-abbrev pub PushesFoundNoSignal : Rule → Type 0
-PushesFoundNoSignal holds =
-    (k : Sizes) (s : CountState) → holds k s
-    → (history : List Event) × (w : World) × Shows k s history w
-    × ((before after : List Event) (seat : ℕ) (u : World) → history ≡ before ++ Commit seat ∷ after
+abbrev pub PushesFoundNoSignal : Type 0
+PushesFoundNoSignal =
+    (k : Sizes) (s : CountState) (history : List Event) (w : World) → Shows k s history w
+    → (before after : List Event) (seat : ℕ) (u : World) → history ≡ before ++ Commit seat ∷ after
     → Runs (first_world k) before u → phase_of (effect u (Commit seat)) seat ≡ Stacked
-    → u.signals ≡ 0)
+    → u.signals ≡ 0
 
 -- Each waiter was taken off the stack as often as it was pushed, but for once where it is on it;
 -- unparked as often as it was taken, but for once where it is owed; woken as often as it was
 -- unparked, but for once where it has a token. Its card tells its pushes and its wakes.
-abbrev pub CountsFollow : Rule → Type 0
-CountsFollow holds =
-    (k : Sizes) (s : CountState) → holds k s
-    → (history : List Event) × (w : World) × Shows k s history w
-    × ((seat : ℕ) → seat < k.waiters → Balance (first_world k) history w seat)
+abbrev pub CountsFollow : Type 0
+CountsFollow =
+    (k : Sizes) (s : CountState) (history : List Event) (w : World) → Shows k s history w
+    → ((seat : ℕ) → seat < k.waiters → Balance (first_world k) history w seat)
     × Each (CardCounts k history) s.views

@@ -4,8 +4,7 @@ use Rattle.event_word.specs.declared.event.Event.{Event}
 use Rattle.event_word.specs.declared.event.Event.TheVariants.{Unpark}
 use Rattle.event_word.specs.Fields.{fields_of}
 use Rattle.event_word.specs.World.{World, owed_by}
-use Rattle.event_word.specs.Step.{effect, actor_of}
-use Rattle.event_word.specs.Play.{MayStep}
+use Rattle.event_word.specs.Step.{Possible, effect, actor_of}
 use Rattle.event_word.specs.Lawful.{Lawful, HasSizes}
 use Rattle.event_word.specs.Shown.{shown}
 use Rattle.event_count.specs.Limits.{most_waiters}
@@ -20,8 +19,8 @@ pub record IsCountWorld (w : World) : Type 0 where
 abbrev pub TakesSteps : World → List Event → Bool → World → Type 0
 TakesSteps w [] all u = (all ≡ true) × (u ≡ w)
 TakesSteps w (e ∷ es) all u =
-    (MayStep w e × TakesSteps (effect w e) es all u) ⊎
-    ((MayStep w e → ⊥) × (all ≡ false) × (u ≡ w))
+    (Possible w e × TakesSteps (effect w e) es all u) ⊎
+    ((Possible w e → ⊥) × (all ≡ false) × (u ≡ w))
 
 -- the World once the actor has unparked these seats, which it owes
 abbrev pub unparked : World → ℕ → List ℕ → World
@@ -35,7 +34,7 @@ settled w actor = unparked w actor (owed_by w actor)
 -- the event happens, and its actor unparks all that it owes then; or it may not, and nothing does
 abbrev pub Settles : World → Event → World → Type 0
 Settles w e u =
-    (MayStep w e × (u ≡ settled (effect w e) (actor_of e))) ⊎ ((MayStep w e → ⊥) × (u ≡ w))
+    (Possible w e × (u ≡ settled (effect w e) (actor_of e))) ⊎ ((Possible w e → ⊥) × (u ≡ w))
 
 -- a last word: that of such a World, at epoch 0
 abbrev pub IsLast : ℕ → Type 0

@@ -9,7 +9,7 @@ use Rattle.event_count.specs.declared.answers.TryNotifyAll.TheVariants as notify
 use Rattle.event_count.specs.declared.answers.Committed.{Committed}
 use Rattle.event_count.specs.declared.answers.Committed.TheVariants as committed
 use Rattle.event_count.specs.declared.view.Card.{Card}
-use Rattle.event_count.specs.Gains.{IsLook, unparking, settling, waking}
+use Rattle.event_count.specs.Gains.{IsLoad, IsLook, unparking, settling, waking}
 use Rattle.event_count.specs.Tries.{IsTryCommit, IsTryCancel, IsTryNotify, IsTryNotifyAll}
 
 -- the same seat after looks, exchanges that found another word, and stores in its own next word
@@ -24,11 +24,12 @@ pub record IsLater (c d : Card) : Type 0 where
   pub loads : c.loads ≤ d.loads
   pub exchanges : c.exchanges ≤ d.exchanges
 
--- an answer to a word that was looked at during the call, before which there were only looks and
+-- an answer to a word that was so seen during the call, before which there were only looks and
 -- exchanges that found another word
-abbrev pub Rests : (Card → ℕ → Card → Type 0) → Card → Card → Type 0
-Rests IsAnswer c d = (before after : Card) × IsLater c before
-    × ((word : ℕ) × IsLook before word after × IsAnswer after word d)
+abbrev pub Rests
+    : (Card → ℕ → Card → Type 0) → (Card → ℕ → Card → Type 0) → Card → Card → Type 0
+Rests IsSeen IsAnswer c d = (before after : Card) × IsLater c before
+    × ((word : ℕ) × IsSeen before word after × IsAnswer after word d)
 
 -- the same seat, once it has swapped its parker word so often
 abbrev pub polled : Card → ℕ → Card
@@ -41,16 +42,16 @@ Sleeps c d = (polls : ℕ) × (c.polls < polls) × (d ≡ waking (polled c polls
 -- a commit that has ended rests on one try that did; one that pushed the seat has slept since
 abbrev pub RestsOnCommit : Card → Committed → Card → Type 0
 RestsOnCommit c committed.Consumed d =
-    Rests (λ before word. IsTryCommit before word commit.Consumed) c d
-RestsOnCommit c committed.Unparked d = Rests
+    Rests IsLoad (λ before word. IsTryCommit before word commit.Consumed) c d
+RestsOnCommit c committed.Unparked d = Rests IsLoad
     (λ before word after. (tried : Card) × IsTryCommit before word commit.Pushed tried
     × Sleeps tried after) c d
 RestsOnCommit c committed.Spent d =
-    Rests (λ before word. IsTryCommit before word commit.Spent) c d
+    Rests IsLoad (λ before word. IsTryCommit before word commit.Spent) c d
 
 -- a cancel that has ended rests on one try that did
 abbrev pub RestsOnCancel : Card → Card → Type 0
-RestsOnCancel c d = Rests (λ before word. IsTryCancel before word cancel.Done) c d
+RestsOnCancel c d = Rests IsLoad (λ before word. IsTryCancel before word cancel.Done) c d
 
 -- a notification that found nothing to do, or gave a signal, is done; one that popped a seat has
 -- unparked it
@@ -62,7 +63,7 @@ EndsNotify notify.Contended c d = ⊥
 
 -- a notification that has ended rests on one try that did
 abbrev pub RestsOnNotify : Card → Card → Type 0
-RestsOnNotify c d = Rests
+RestsOnNotify c d = Rests IsLook
     (λ before word after. (answer : TryNotify) × (tried : Card)
     × IsTryNotify before word answer tried × EndsNotify answer tried after) c d
 
@@ -74,6 +75,6 @@ EndsNotifyAll notify_all.Contended c d = ⊥
 
 -- a notification of all that has ended rests on one try that did
 abbrev pub RestsOnNotifyAll : Card → Card → Type 0
-RestsOnNotifyAll c d = Rests
+RestsOnNotifyAll c d = Rests IsLoad
     (λ before word after. (answer : TryNotifyAll) × (tried : Card)
     × IsTryNotifyAll before word answer tried × EndsNotifyAll answer tried after) c d

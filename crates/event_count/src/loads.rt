@@ -1,4 +1,4 @@
-//! A look: the loads that the tries rest on.
+//! The loads that the tries rest on: of the state word, and in a look of the top's next word too.
 ghost use Rattle.std.specs.Prelude.{◌≡◌, ◌≢◌, Some, None, IsSome};
 ghost use Rattle.std.specs.Option.{ForSome};
 
@@ -31,8 +31,8 @@ impl<A: Allocator> EventCount<A> {
         word
     }
 
-    // Loads the state word.
-    fn load_state(&self, seat: &mut Seat) -> u64
+    // Loads the state word. A step that pops nobody needs no more.
+    pub(crate) fn load_state(&self, seat: &mut Seat) -> u64
         requires { IsSeatOf self.now seat.old }
         ensures of { IsSeatOf self.now seat.new }
         ensures card { card_of seat.new ≡ looking (card_of seat.old) result }

@@ -14,7 +14,7 @@ use event_word::{
 use std::alloc::Allocator;
 
 impl<A: Allocator> EventCount<A> {
-    ghost use Rattle.event_count.specs.Gains.{prewaiting};
+    ghost use Rattle.event_count.specs.Gains.{prewaiting, Fits};
     ghost use Rattle.event_count.specs.Seats.{card_of, looked_of, sizes_of, IsSeatOf};
     ghost use Rattle.event_count.specs.Tries.{IsTryCommit, IsTryCancel};
     ghost use Rattle.event_count.specs.Tries.{IsTryNotify, IsTryNotifyAll};
@@ -49,6 +49,19 @@ impl<A: Allocator> EventCount<A> {
             IsTryCommit (card_of seat.old) word result (card_of seat.new)) }
     {
         let word = seat.take_look();
+        self.commit_at(seat, word)
+    }
+
+    // The same against a loaded word.
+    pub(crate) fn commit_at(&self, seat: &mut Seat, word: u64) -> TryCommit
+        requires of { IsSeatOf self.now seat.old }
+        requires pre { (card_of seat.old).phase ≡ Pre }
+        requires used { looked_of seat.old ≡ None }
+        requires fits { Fits (card_of seat.old) word }
+        ensures of { IsSeatOf self.now seat.new }
+        ensures used { looked_of seat.new ≡ None }
+        ensures answer { IsTryCommit (card_of seat.old) word result (card_of seat.new) }
+    {
         if seat.epoch == EPOCHS {
             return if self.leave(seat, word, after_cancel(word)) {
                 TryCommit::Spent
@@ -89,6 +102,19 @@ impl<A: Allocator> EventCount<A> {
             IsTryCancel (card_of seat.old) word result (card_of seat.new)) }
     {
         let word = seat.take_look();
+        self.cancel_at(seat, word)
+    }
+
+    // The same against a loaded word.
+    pub(crate) fn cancel_at(&self, seat: &mut Seat, word: u64) -> TryCancel
+        requires of { IsSeatOf self.now seat.old }
+        requires pre { (card_of seat.old).phase ≡ Pre }
+        requires used { looked_of seat.old ≡ None }
+        requires fits { Fits (card_of seat.old) word }
+        ensures of { IsSeatOf self.now seat.new }
+        ensures used { looked_of seat.new ≡ None }
+        ensures answer { IsTryCancel (card_of seat.old) word result (card_of seat.new) }
+    {
         if self.leave(seat, word, after_cancel(word)) {
             TryCancel::Done
         } else {
@@ -146,6 +172,20 @@ impl<A: Allocator> EventCount<A> {
             IsTryNotifyAll (card_of seat.old) word result (card_of seat.new)) }
     {
         let word = seat.take_look();
+        self.notify_all_at(seat, word)
+    }
+
+    // The same against a loaded word.
+    pub(crate) fn notify_all_at(&self, seat: &mut Seat, word: u64) -> TryNotifyAll
+        requires of { IsSeatOf self.now seat.old }
+        requires running { (card_of seat.old).phase ≡ Running }
+        requires owes_none { (card_of seat.old).owing ≡ [] }
+        requires used { looked_of seat.old ≡ None }
+        requires fits { Fits (card_of seat.old) word }
+        ensures of { IsSeatOf self.now seat.new }
+        ensures used { looked_of seat.new ≡ None }
+        ensures answer { IsTryNotifyAll (card_of seat.old) word result (card_of seat.new) }
+    {
         match after_notify_all(word) {
             AfterNotifyAll::Nothing => TryNotifyAll::Nothing,
             AfterNotifyAll::Taken { word: offered, .. } => {

@@ -1,6 +1,6 @@
 //! What a pool waits on.
 ghost use Rattle.std.specs.Prelude.{◌≡◌, ℕ, ◌+◌, ◌<◌, ◌↔◌, List, [], length, map, All};
-ghost use Rattle.std.specs.Prelude.{IfOk, IsErrOf};
+ghost use Rattle.std.specs.Prelude.{IfOk, IsErrOf, vec_len};
 ghost use Rattle.std.specs.List.{range_with_len};
 ghost use Rattle.atomic_table.specs.Seated.{TableId};
 ghost use Rattle.event_word.specs.declared.phase.Phase.{Phase};
@@ -135,9 +135,11 @@ pub trait WaitPoint<A: Allocator>: Sized + Drop {
 
 // Each call is the count's own, and says of the seat what that one does.
 impl<A: Allocator + Clone> WaitPoint<A> for EventCount<A> {
+    ghost use Rattle.event_count.specs.Cards.{fresh_cards};
+    ghost use Rattle.event_count.specs.Counts.{Ends};
     ghost use Rattle.event_count.specs.Gains.{prewaiting};
     ghost use Rattle.event_count.specs.Seats.{card_of, sizes_of, seats_of, count_id, seat_id};
-    ghost use Rattle.event_count.specs.Seats.{IsSeatOf};
+    ghost use Rattle.event_count.specs.Seats.{IsSeatOf, HasNoLook};
     ghost use Rattle.event_count.specs.Waits.{RestsOnCommit, RestsOnCancel, RestsOnNotify};
     ghost use Rattle.event_count.specs.Waits.{RestsOnNotifyAll};
 
@@ -161,8 +163,25 @@ impl<A: Allocator + Clone> WaitPoint<A> for EventCount<A> {
 
     ghost is_last = { λ word. word ≡ 0x3FFF };
 
-    fn open(alloc: A, waiters: u16, notifiers: u16) -> Result<(Self, Vec<Seat, A>), CountFault> {
-        EventCount::new(alloc, waiters, notifiers)
+    fn open(alloc: A, waiters: u16, notifiers: u16) -> Result<(Self, Vec<Seat, A>), CountFault>
+        requires { 0 < waiters }
+        ensures too_many { IsErrOf result CountFault.TooManyWaiters ↔ (most_waiters < waiters) }
+        ensures waiters { IfOk result (λ made. (sizes_of made.0).waiters ≡ waiters) }
+        ensures seats { IfOk result (λ made. seats_of made.0 ≡ waiters + notifiers) }
+        ensures all { IfOk result (λ made. length made.1.items ≡ seats_of made.0) }
+        ensures numbers { IfOk result (λ made.
+            map (λ s. (card_of s).number) made.1.items ≡ range_with_len 0 (waiters + notifiers)) }
+        ensures running { IfOk result (λ made.
+            All (λ s. (card_of s).phase ≡ Running) made.1.items) }
+        ensures owe_none { IfOk result (λ made. All (λ s. (card_of s).owing ≡ []) made.1.items) }
+        ensures ours { IfOk result (λ made. All (IsSeatOf made.0) made.1.items) }
+        ensures sizes { IfOk result (λ made.
+            sizes_of made.0 ≡ record { waiters = waiters; notifiers = notifiers; first = 0 }) }
+        ensures cards { IfOk result (λ made.
+            map card_of made.1.items ≡ fresh_cards (sizes_of made.0)) }
+        ensures unlooked { IfOk result (λ made. All HasNoLook made.1.items) }
+    {
+        EventCount::new_at(alloc, waiters, notifiers, 0)
     }
 
     fn enter<R: Wait>(&self, _rt: &R, seat: &mut Seat)
@@ -226,7 +245,14 @@ impl<A: Allocator + Clone> WaitPoint<A> for EventCount<A> {
         self.notify_all(rt, seat);
     }
 
-    fn shut_with(self, seats: &mut Vec<Seat, A>) -> u64 {
+    fn shut_with(self, seats: &mut Vec<Seat, A>) -> u64
+        requires ours { All (IsSeatOf self) seats.old.items }
+        requires all { vec_len seats.old ≡ seats_of self }
+        requires running { All (λ s. (card_of s).phase ≡ Running) seats.old.items }
+        requires owe_none { All (λ s. (card_of s).owing ≡ []) seats.old.items }
+        ensures word { result ≡ 0x3FFF }
+        ensures ends { Ends (sizes_of self) (map card_of seats.old.items) }
+    {
         self.close_with(seats)
     }
 }

@@ -1,4 +1,5 @@
-//! The calls that may wait: each looks and tries until no other step comes between the two.
+//! The calls that may wait: each looks and tries until no other step comes between the two. Only a
+//! notification may pop, and so it alone looks at the top's next word too.
 ghost use Rattle.std.specs.Prelude.{◌≡◌, [], None};
 ghost use Rattle.event_word.specs.declared.phase.Phase.TheVariants.{Running, Pre, Stacked};
 
@@ -25,8 +26,8 @@ impl<A: Allocator> EventCount<A> {
         ensures answer { RestsOnCommit (card_of seat.old) result (card_of seat.new) }
     {
         for _ in rt.forever() {
-            self.look(seat);
-            match self.try_commit(seat) {
+            let word = self.load_state(seat);
+            match self.commit_at(seat, word) {
                 TryCommit::Consumed => return Committed::Consumed,
                 TryCommit::Spent => return Committed::Spent,
                 TryCommit::Pushed => {
@@ -65,8 +66,8 @@ impl<A: Allocator> EventCount<A> {
         ensures answer { RestsOnCancel (card_of seat.old) (card_of seat.new) }
     {
         for _ in rt.forever() {
-            self.look(seat);
-            match self.try_cancel(seat) {
+            let word = self.load_state(seat);
+            match self.cancel_at(seat, word) {
                 TryCancel::Done => return,
                 TryCancel::Contended => {}
             }
@@ -101,7 +102,7 @@ impl<A: Allocator> EventCount<A> {
         }
     }
 
-    /// Notifies all waiters of the word of a look that it makes, and unparks those that were on the
+    /// Notifies all waiters of the state word that it loads, and unparks those that were on the
     /// stack, the top first.
     pub fn notify_all<R: Wait>(&self, rt: &R, seat: &mut Seat)
         requires of { IsSeatOf self.now seat.old }
@@ -112,8 +113,8 @@ impl<A: Allocator> EventCount<A> {
         ensures answer { RestsOnNotifyAll (card_of seat.old) (card_of seat.new) }
     {
         for _ in rt.forever() {
-            self.look(seat);
-            match self.try_notify_all(seat) {
+            let word = self.load_state(seat);
+            match self.notify_all_at(seat, word) {
                 TryNotifyAll::Nothing => return,
                 TryNotifyAll::Taken => {
                     self.unpark_all(rt, seat);

@@ -1,9 +1,9 @@
 -- Each event keeps the balance of a seat's pushes, takings, unparks and wakes.
 use Rattle.std.proofs.Common.{◌≡◌, ◌≢◌, ℕ, ◌+◌, ◌-◌, ◌<◌, ◌==◌, if◌then◌else◌, nat_lt, Bool, false}
-use Rattle.std.proofs.Common.{true, List, [], ◌∷◌, ◌++◌, get_or, set, sym, ap, refl, ◌∙◌, subst}
-use Rattle.std.proofs.Common.{⊎_elim, arith, get_or-set_same, get_or-set_other, length}
-use Rattle.std.proofs.lemmas.Bool.{cases_eq, cases_lt, cond_both}
-use Rattle.event_word.specs.declared.phase.Phase.TheVariants.{Running, Stacked}
+use Rattle.std.proofs.Common.{true, List, [], ◌∷◌, ◌++◌, get_or, set, sym, ap, refl, ◌∙◌}
+use Rattle.std.proofs.Common.{⊎_elim, arith, length}
+use Rattle.std.proofs.lemmas.Bool.{cases_eq, cond_both}
+use Rattle.event_word.specs.declared.phase.Phase.TheVariants.{Running}
 use Rattle.event_word.specs.declared.event.Event.{Event}
 use Rattle.event_word.specs.declared.event.Event.TheVariants.{Publish, Prewait, Pass, PassFlag}
 use Rattle.event_word.specs.declared.event.Event.TheVariants.{Cancel, Commit, Notify}
@@ -15,7 +15,7 @@ use Rattle.event_word.specs.Step.{Possible, effect, leave, park, announced, pop,
 use Rattle.event_word.specs.Step.{actor_of}
 use Rattle.event_word.specs.Lawful.{Lawful, HasSizes}
 use Rattle.event_word.specs.Runs.{Runs}
-use Rattle.event_word.specs.Balance.{heads, push_of, taking_of, unpark_of, wake_of, over, Balance}
+use Rattle.event_word.specs.Balance.{heads, push_of, taking_of, unpark_of, wake_of, over}
 use Rattle.event_word.specs.Balance.{RunsBalance}
 use Rattle.event_word.proofs.Lists.{times-append, total-set, one_if-same, one_if-other}
 use Rattle.event_word.proofs.Keeps.{lawful_effect, owed_is_stacked, stacked_known, token-set}

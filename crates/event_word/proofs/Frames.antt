@@ -1,7 +1,7 @@
 -- An event leaves alone what is not its actor's.
 use Rattle.std.proofs.Common.{◌≡◌, ◌≢◌, ℕ, ◌+◌, ◌-◌, ◌==◌, if◌then◌else◌, nat_lt, Bool, true, false}
 use Rattle.std.proofs.Common.{List, [], ◌∷◌, ◌++◌, length, get_or, set, sym, ap, refl, ◌∙◌, ⊎_elim}
-use Rattle.std.proofs.Common.{arith, get_or-set_other, get_or-set_same}
+use Rattle.std.proofs.Common.{arith, get_or-set_other, get_or-set_same, replicate}
 use Rattle.std.proofs.lemmas.Bool.{cases_eq, cases_lt, cond_both}
 use Rattle.std.proofs.lemmas.List.{set_past}
 use Rattle.event_word.specs.declared.phase.Phase.{Phase}
@@ -123,7 +123,7 @@ module _ (n : ℕ) where
   alone_effect w (Prewait seat) ne = record {
     phase = get_or-set_other w.phases seat n Pre Ended ne;
     flag = get_or-set_other w.flags seat n false false ne;
-    rows = get_or-set_other w.passed seat n [] [] ne;
+    rows = get_or-set_other w.passed seat n (replicate (length w.lengths) false) [] ne;
     waiting = let a = times-append n w.pre (seat ∷ []) in
         let b = times-one_other n seat (λ e. ne (sym e)) in omega arith;
     owed = refl;
@@ -133,7 +133,7 @@ module _ (n : ℕ) where
   alone_effect w (Pass seat row) ne = record {
     phase = refl;
     flag = refl;
-    rows = get_or-set_other w.passed seat n (row ∷ rows_passed_by w seat) [] ne;
+    rows = get_or-set_other w.passed seat n (set (rows_passed_by w seat) row true) [] ne;
     waiting = refl;
     owed = refl;
     announcing = refl;

@@ -64,6 +64,12 @@ sleeps-le-one Pre = omega arith
 sleeps-le-one Stacked = omega arith
 sleeps-le-one Ended = omega arith
 
+pub waits-is_pre : (p : Phase) → 0 < waits p → p ≡ Pre
+waits-is_pre Running h = absurd (omega arith)
+waits-is_pre Pre h = refl
+waits-is_pre Stacked h = absurd (omega arith)
+waits-is_pre Ended h = absurd (omega arith)
+
 -- no more pre-waiters have found no stop than there are
 unstopped-le : (w : World) → unstopped w ≤ length w.pre
 unstopped-le w = total-le-length (λ n. one_if (has_passed_flag w n)) w.pre
@@ -242,7 +248,7 @@ module _ (w : World) (r : Lawful w) where
       let a = total-without (λ m. one_if (has_passed_flag w m)) n w.pre (omega arith) in
       omega arith))
 
-  lawful_announced : (actor : ℕ) → Lawful (announced w actor)
+  pub lawful_announced : (actor : ℕ) → Lawful (announced w actor)
   lawful_announced actor = record {
     answered = r.answered;
     waiting = r.waiting;

@@ -2,6 +2,8 @@ pub mod Lists
 pub mod Keeps
 pub mod Sizes
 pub mod Histories
+pub mod Waking
+pub mod Stopping
 pub mod Frames
 pub mod Owing
 pub mod Rooms

@@ -2,7 +2,7 @@
 use Rattle.std.proofs.Common.{◌≡◌, ◌≢◌, ℕ, zero, suc, ◌+◌, ◌≤◌, ◌<◌, ◌==◌, Bool, true, false, List}
 use Rattle.std.proofs.Common.{[], ◌∷◌, ◌++◌, length, get_or, set, sym, ap, refl, ◌∙◌, subst, ⊎_elim}
 use Rattle.std.proofs.Common.{eq-eqb, ne_eqb, arith, length-set, get_or-set_same, get_or-set_other}
-use Rattle.std.proofs.Common.{replicate}
+use Rattle.std.proofs.Common.{replicate, Contains}
 use Rattle.std.specs.List.{remove}
 use Rattle.std.proofs.lemmas.Bool.{cases_eq, cases_lt, cond-true, cond-false}
 use Rattle.std.proofs.lemmas.List.{get_or_past}
@@ -11,6 +11,10 @@ use Rattle.event_word.specs.Lists.{one_if, total, times, without}
 pub one_if-le-one : (b : Bool) → one_if b ≤ 1
 one_if-le-one true = omega arith
 one_if-le-one false = omega arith
+
+pub one_if-true : (b : Bool) → 0 < one_if b → b ≡ true
+one_if-true true h = refl
+one_if-true false h = absurd (omega arith)
 
 pub one_if-same : (x n : ℕ) → x ≡ n → one_if (x == n) ≡ 1
 one_if-same x n e = ap one_if (eq-eqb x n e)
@@ -32,6 +36,33 @@ pub times-le-length : (n : ℕ) (xs : List ℕ) → times n xs ≤ length xs
 times-le-length n [] = omega arith
 times-le-length n (x ∷ xs) = let r = times-le-length n xs in let o = one_if-le-one (x == n) in
     omega arith
+
+-- what stands somewhere in the list is counted, and the other way round
+pub times-at : (n : ℕ) (xs : List ℕ) (k d : ℕ) → k < length xs → get_or xs k d ≡ n
+    → 0 < times n xs
+times-at n [] k d h e = absurd (omega arith)
+times-at n (x ∷ xs) zero d h e = let s = one_if-same x n e in omega arith
+times-at n (x ∷ xs) (suc k) d h e = let r = times-at n xs k d (omega arith) e in omega arith
+
+pub times-Contains : (n : ℕ) (xs : List ℕ) → Contains xs n → 0 < times n xs
+times-Contains n xs c = times-at n xs c.0 n c.1 c.2
+
+pub Contains-times : (n : ℕ) (xs : List ℕ) → 0 < times n xs → Contains xs n
+Contains-times n [] h = absurd (omega arith)
+Contains-times n (x ∷ xs) h = ⊎_elim
+    (λ e. (0, omega arith, e))
+    (λ ne. let o = one_if-other x n ne in let r = Contains-times n xs (omega arith) in
+    (suc r.0, omega (arith, r.1), r.2))
+    (cases_eq x n)
+
+-- a seat that is owed is owed by somebody
+pub owed_somewhere : (n : ℕ) (xss : List (List ℕ)) → 0 < total (times n) xss
+    → (actor : ℕ) × (0 < times n (get_or xss actor []))
+owed_somewhere n [] h = absurd (omega arith)
+owed_somewhere n (xs ∷ xss) h = ⊎_elim
+    (λ some. (0, some))
+    (λ none. let r = owed_somewhere n xss (omega arith) in (suc r.0, r.1))
+    (cases_lt 0 (times n xs))
 
 pub without-same : (n x : ℕ) (xs : List ℕ) → x ≡ n → without n (x ∷ xs) ≡ xs
 without-same n x xs e = cond-true (x == n) xs (x ∷ without n xs) (eq-eqb x n e)

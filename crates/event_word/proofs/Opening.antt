@@ -26,44 +26,45 @@ owed_lists-nil workers notifiers = nothing_owed (workers + notifiers) 0
     nothing_owed (suc n) from = ap (λ xs. [] ∷ xs) (nothing_owed n (from + 1))
 
 -- the lists of a new World
-pub opening_view : (workers notifiers rows : ℕ) (phases : List Phase) (flags tokens : List Bool)
-    (pre stack : List ℕ) (debts : List Debt) (lengths : List ℕ)
+pub opening_view : (workers notifiers rows : ℕ) (phases : List Phase) (flags : List Bool)
+    (passed : List (List Bool)) (tokens : List Bool) (pre stack : List ℕ) (debts : List Debt)
+    (announcing : List Bool) (lengths : List ℕ)
     → phases ≡ replicate workers Running → flags ≡ replicate workers false
+    → passed ≡ replicate workers (replicate rows false)
     → tokens ≡ replicate workers false → pre ≡ [] → stack ≡ [] → debts ≡ []
-    → lengths ≡ replicate rows 0
-    → view_of phases flags tokens pre 0 stack debts lengths notifiers 0 ≡ opening_world workers
-    notifiers rows
-opening_view workers notifiers rows phases flags tokens pre stack debts lengths a b c d e f h =
+    → announcing ≡ replicate (workers + notifiers) false → lengths ≡ replicate rows 0
+    → view_of phases flags passed tokens pre 0 stack debts announcing lengths notifiers 0
+    ≡ opening_world workers notifiers rows
+opening_view workers notifiers rows phases flags passed tokens pre stack debts announcing lengths a
+    b g c d e f m h =
     let l = ap length a ∙ length-replicate workers Running in
-    let m = ap (λ n. replicate {A = List ℕ} n []) l in
-    let k = ap (λ n. replicate (n + notifiers) false) l in
     let q = ap (λ ds. owed_lists (length phases + notifiers) ds) f in
     let r = ap (λ n. owed_lists (n + notifiers) []) l in
     let t = owed_lists-nil workers notifiers in cc
 
 module _ {A : Type 0} where
-  pub opening_stored : (i : Inside A) (workers notifiers : ℕ)
-      → world_view i ≡ opening_world workers notifiers 0 → length i.phases.items ≡ workers
-      → i.notifiers ≡ notifiers → workers ≤ 16382 → i.owed.items ≡ []
-      → vec_capacity i.pre ≡ workers → vec_capacity i.stack ≡ workers
-      → vec_capacity i.owed ≡ workers → i.stop ≡ 0 → IsStored i
-  opening_stored i workers notifiers is l m few none pre stack owed going =
-      let t = subst (HasSizes workers (workers + notifiers) 0) (sym is)
-      (sizes_opening workers notifiers 0) in record {
-        lawful = subst Lawful (sym is) (lawful_opening workers notifiers 0);
+  pub opening_stored : (i : Inside A) (workers notifiers rows : ℕ)
+      → world_view i ≡ opening_world workers notifiers rows → length i.phases.items ≡ workers
+      → i.notifiers ≡ notifiers → length i.lengths.items ≡ rows → workers ≤ 16382
+      → i.owed.items ≡ [] → vec_capacity i.pre ≡ workers → vec_capacity i.stack ≡ workers
+      → vec_capacity i.owed ≡ workers → IsStored i
+  opening_stored i workers notifiers rows is l m n few none pre stack owed =
+      let t = subst (HasSizes workers (workers + notifiers) rows) (sym is)
+      (sizes_opening workers notifiers rows) in record {
+        lawful = subst Lawful (sym is) (lawful_opening workers notifiers rows);
         sizes = record {
           phases = refl;
           flags = t.flags ∙ sym l;
           passed = t.passed ∙ sym l;
+          passed_rows = λ seat h. t.passed_rows seat (omega arith) ∙ sym n;
           owed = let o = t.owed in omega arith;
           announcing = let o = t.announcing in omega arith;
           tokens = t.tokens ∙ sym l;
-          lengths = t.lengths;
+          lengths = refl;
         };
         few = omega arith;
         known = subst (AreKnown (length i.phases.items + i.notifiers)) (sym none) tt;
         room_to_wait = omega arith;
         room_to_park = omega arith;
         room_to_owe = omega arith;
-        going = going;
       }

@@ -5,14 +5,14 @@ use Rattle.std.proofs.lemmas.List.{take_more}
 use Rattle.event_word.specs.declared.event.Event.{Event}
 use Rattle.event_word.specs.Lists.{one_if}
 use Rattle.event_word.specs.World.{World}
-use Rattle.event_word.specs.Step.{effect}
-use Rattle.event_word.specs.Play.{MayStep, IsStep, Plays}
+use Rattle.event_word.specs.Step.{Possible, effect}
+use Rattle.event_word.specs.Play.{IsStep, Plays}
 
 -- one event more
 pub Plays-push : (w : World) (es : List Event) (n : ℕ) (u : World) (e : Event) (b : Bool)
     (v : World) → Plays w es n u → IsStep u e b v → Plays w (es ++ e ∷ []) (n + one_if b) v
 Plays-push w [] n u e true v p q = inl (
-  subst (λ x. MayStep x e) p.1 q.0,
+  subst (λ x. Possible x e) p.1 q.0,
   (
     0,
     let z = p.0 in
@@ -21,7 +21,7 @@ Plays-push w [] n u e true v p q = inl (
   ),
 )
 Plays-push w [] n u e false v p q = inr (
-  (λ m. q.0 (subst (λ x. MayStep x e) (sym p.1) m)),
+  (λ m. q.0 (subst (λ x. Possible x e) (sym p.1) m)),
   (let z = p.0 in omega arith, q.1 ∙ p.1),
 )
 Plays-push w (x ∷ xs) n u e b v p q = ⊎_elim

@@ -1,8 +1,9 @@
 -- No event adds or drops an entry of a worker, an actor or a row.
-use Rattle.std.proofs.Common.{ℕ, ◌+◌, ◌-◌, ◌==◌, if◌then◌else◌, nat_lt, true, false, List, [], ◌∷◌}
-use Rattle.std.proofs.Common.{◌++◌, length, ◌∙◌, length-set}
-use Rattle.std.proofs.lemmas.Bool.{cond_both}
-use Rattle.std.proofs.lemmas.List.{length-replicate}
+use Rattle.std.proofs.Common.{ℕ, ◌+◌, ◌-◌, ◌==◌, if◌then◌else◌, nat_lt, Bool, true, false, List, []}
+use Rattle.std.proofs.Common.{◌∷◌, ◌≡◌, ◌<◌, ◌++◌, length, get_or, set, replicate, ap, ◌∙◌, ⊎_elim}
+use Rattle.std.proofs.Common.{arith, length-set, get_or-set_same, get_or-set_other}
+use Rattle.std.proofs.lemmas.Bool.{cases_eq, cond_both}
+use Rattle.std.proofs.lemmas.List.{length-replicate, get_or-replicate}
 use Rattle.event_word.specs.declared.phase.Phase.{Phase}
 use Rattle.event_word.specs.declared.phase.Phase.TheVariants.{Running, Pre, Stacked, Ended}
 use Rattle.event_word.specs.declared.event.Event.{Event}
@@ -14,12 +15,24 @@ use Rattle.event_word.specs.World.{World, rows_passed_by, owed_by, length_of, op
 use Rattle.event_word.specs.Step.{effect, leave, announced, pop, unpark}
 use Rattle.event_word.specs.Lawful.{HasSizes}
 
+-- where each entry is so long, and so is a new one
+each_long : (xss : List (List Bool)) (i : ℕ) (ys : List Bool) (m n : ℕ) → length xss ≡ m
+    → (i < m → length ys ≡ n) → ((j : ℕ) → j < m → length (get_or xss j []) ≡ n) → (j : ℕ) → j < m
+    → length (get_or (set xss i ys) j []) ≡ n
+each_long xss i ys m n all here others j h = ⊎_elim
+    (λ e. ap (λ k. length (get_or (set xss i ys) k [])) e
+    ∙ (ap length (get_or-set_same xss i ys [] (omega arith)) ∙ here (omega arith)))
+    (λ ne. ap length (get_or-set_other xss i j ys [] ne) ∙ others j h)
+    (cases_eq j i)
+
 pub sizes_opening : (workers notifiers rows : ℕ)
     → HasSizes workers (workers + notifiers) rows (opening_world workers notifiers rows)
 sizes_opening workers notifiers rows = record {
   phases = length-replicate workers Running;
   flags = length-replicate workers false;
-  passed = length-replicate workers [];
+  passed = length-replicate workers (replicate rows false);
+  passed_rows = λ seat h. ap length (get_or-replicate workers seat (replicate rows false) [] h)
+      ∙ length-replicate rows false;
   owed = length-replicate (workers + notifiers) [];
   announcing = length-replicate (workers + notifiers) false;
   tokens = length-replicate workers false;
@@ -33,6 +46,7 @@ module _ (workers actors rows : ℕ) where
     phases = length-set w.phases n p ∙ s.phases;
     flags = s.flags;
     passed = s.passed;
+    passed_rows = s.passed_rows;
     owed = s.owed;
     announcing = s.announcing;
     tokens = s.tokens;
@@ -45,6 +59,7 @@ module _ (workers actors rows : ℕ) where
     phases = length-set w.phases n Stacked ∙ s.phases;
     flags = s.flags;
     passed = s.passed;
+    passed_rows = s.passed_rows;
     owed = s.owed;
     announcing = s.announcing;
     tokens = s.tokens;
@@ -57,6 +72,7 @@ module _ (workers actors rows : ℕ) where
     phases = s.phases;
     flags = s.flags;
     passed = s.passed;
+    passed_rows = s.passed_rows;
     owed = s.owed;
     announcing = length-set w.announcing actor false ∙ s.announcing;
     tokens = s.tokens;
@@ -69,6 +85,7 @@ module _ (workers actors rows : ℕ) where
     phases = s.phases;
     flags = s.flags;
     passed = s.passed;
+    passed_rows = s.passed_rows;
     owed = s.owed;
     announcing = s.announcing;
     tokens = s.tokens;
@@ -82,6 +99,7 @@ module _ (workers actors rows : ℕ) where
     phases = s.phases;
     flags = s.flags;
     passed = s.passed;
+    passed_rows = s.passed_rows;
     owed = length-set w.owed actor (owed_by w actor ++ top ∷ []) ∙ s.owed;
     announcing = s.announcing;
     tokens = s.tokens;
@@ -95,6 +113,7 @@ module _ (workers actors rows : ℕ) where
     phases = s.phases;
     flags = s.flags;
     passed = s.passed;
+    passed_rows = s.passed_rows;
     owed = length-set w.owed actor rest ∙ s.owed;
     announcing = s.announcing;
     tokens = length-set w.tokens n true ∙ s.tokens;
@@ -107,6 +126,7 @@ module _ (workers actors rows : ℕ) where
     phases = s.phases;
     flags = s.flags;
     passed = s.passed;
+    passed_rows = s.passed_rows;
     owed = s.owed;
     announcing = length-set w.announcing actor true
         ∙ s.announcing;
@@ -117,7 +137,9 @@ module _ (workers actors rows : ℕ) where
   sizes_effect w (Prewait n) s = record {
     phases = length-set w.phases n Pre ∙ s.phases;
     flags = length-set w.flags n false ∙ s.flags;
-    passed = length-set w.passed n [] ∙ s.passed;
+    passed = length-set w.passed n (replicate (length w.lengths) false) ∙ s.passed;
+    passed_rows = each_long w.passed n (replicate (length w.lengths) false) workers rows s.passed
+        (λ _. length-replicate (length w.lengths) false ∙ s.lengths) s.passed_rows;
     owed = s.owed;
     announcing = s.announcing;
     tokens = s.tokens;
@@ -126,7 +148,9 @@ module _ (workers actors rows : ℕ) where
   sizes_effect w (Pass n row) s = record {
     phases = s.phases;
     flags = s.flags;
-    passed = length-set w.passed n (row ∷ rows_passed_by w n) ∙ s.passed;
+    passed = length-set w.passed n (set (rows_passed_by w n) row true) ∙ s.passed;
+    passed_rows = each_long w.passed n (set (rows_passed_by w n) row true) workers rows s.passed
+        (λ h. length-set (rows_passed_by w n) row true ∙ s.passed_rows n h) s.passed_rows;
     owed = s.owed;
     announcing = s.announcing;
     tokens = s.tokens;
@@ -137,6 +161,7 @@ module _ (workers actors rows : ℕ) where
     flags = length-set w.flags n true
         ∙ s.flags;
     passed = s.passed;
+    passed_rows = s.passed_rows;
     owed = s.owed;
     announcing = s.announcing;
     tokens = s.tokens;
@@ -156,6 +181,7 @@ module _ (workers actors rows : ℕ) where
     phases = s.phases;
     flags = s.flags;
     passed = s.passed;
+    passed_rows = s.passed_rows;
     owed = length-set w.owed actor (owed_by w actor ++ w.stack) ∙ s.owed;
     announcing = length-set w.announcing actor false ∙ s.announcing;
     tokens = s.tokens;
@@ -166,6 +192,7 @@ module _ (workers actors rows : ℕ) where
     phases = length-set w.phases n Running ∙ s.phases;
     flags = s.flags;
     passed = s.passed;
+    passed_rows = s.passed_rows;
     owed = s.owed;
     announcing = s.announcing;
     tokens = length-set w.tokens n false ∙ s.tokens;
@@ -175,6 +202,7 @@ module _ (workers actors rows : ℕ) where
     phases = s.phases;
     flags = s.flags;
     passed = s.passed;
+    passed_rows = s.passed_rows;
     owed = s.owed;
     announcing = s.announcing;
     tokens = s.tokens;
@@ -184,6 +212,7 @@ module _ (workers actors rows : ℕ) where
     phases = s.phases;
     flags = s.flags;
     passed = s.passed;
+    passed_rows = s.passed_rows;
     owed = s.owed;
     announcing = length-set w.announcing actor true ∙ s.announcing;
     tokens = s.tokens;
@@ -193,6 +222,7 @@ module _ (workers actors rows : ℕ) where
     phases = length-set w.phases n Ended ∙ s.phases;
     flags = s.flags;
     passed = s.passed;
+    passed_rows = s.passed_rows;
     owed = s.owed;
     announcing = s.announcing;
     tokens = s.tokens;

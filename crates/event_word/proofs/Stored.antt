@@ -1,32 +1,33 @@
 -- The lists that the program keeps, before and after each event.
-use Rattle.std.proofs.Common.{◌≡◌, ℕ, zero, suc, ◌+◌, ◌-◌, ◌≤◌, ◌<◌, ◌==◌, min, if◌then◌else◌}
+use Rattle.std.proofs.Common.{◌≡◌, ◌≢◌, ℕ, suc, ◌+◌, ◌-◌, ◌≤◌, ◌<◌, ◌==◌, min, if◌then◌else◌}
 use Rattle.std.proofs.Common.{nat_lt, Bool, true, false, Option, Some, None, List, [], ◌∷◌, ◌++◌}
 use Rattle.std.proofs.Common.{length, map, not, position, get_or, set, replicate, vec_len}
 use Rattle.std.proofs.Common.{vec_capacity, sym, ap, refl, ◌∙◌, subst, ⊎_elim, arith, length-append}
-use Rattle.std.proofs.Common.{length-set}
+use Rattle.std.proofs.Common.{length-set, Vec}
 use Rattle.std.proofs.lemmas.Bool.{cases_eq, cases_lt, cond-true, cond-false, lt-ltb, le-ltb}
 use Rattle.std.proofs.lemmas.Bool.{eq-eqb, ne_eqb, eqb-true}
-use Rattle.std.proofs.lemmas.List.{get_or_past, get_or_read, append-nil}
+use Rattle.std.proofs.lemmas.List.{get_or_past, get_or_read, get_or_default, get_or-map, map-set}
+use Rattle.std.proofs.lemmas.List.{append-nil, length-map}
 use Rattle.std.proofs.lemmas.List.Quantifiers.{position-Some}
-use Rattle.std.specs.List.{remove}
+use Rattle.std.specs.List.{remove, AllPass}
 use Rattle.std.specs.Option.{is_some}
 use Rattle.event_word.specs.declared.phase.Phase.{Phase}
 use Rattle.event_word.specs.declared.phase.Phase.TheVariants.{Running, Pre, Stacked, Ended}
 use Rattle.event_word.specs.declared.event.Event.{Event}
-use Rattle.event_word.specs.declared.event.Event.TheVariants.{Prewait, Cancel, Commit, Notify}
-use Rattle.event_word.specs.declared.event.Event.TheVariants.{NotifyAll, Unpark}
+use Rattle.event_word.specs.declared.event.Event.TheVariants.{Prewait, Pass, Cancel, Commit}
+use Rattle.event_word.specs.declared.event.Event.TheVariants.{Notify, NotifyAll, Unpark, End}
 use Rattle.event_word.specs.declared.world.debts.Debt.{Debt}
 use Rattle.event_word.specs.declared.world.World.TheInside.{Inside}
 use Rattle.event_word.specs.Lists.{without}
-use Rattle.event_word.specs.World.{World, phase_of, owed_by, is_announcing}
-use Rattle.event_word.specs.Step.{IsFree, HasPassedAll, Possible, effect, leave, announced, pop}
+use Rattle.event_word.specs.World.{World, phase_of, rows_passed_by, owed_by, length_of}
+use Rattle.event_word.specs.Step.{IsFree, IsQuiet, HasPassedAll, Possible, effect, leave, announced}
+use Rattle.event_word.specs.Step.{pop}
 use Rattle.event_word.specs.Step.{unpark}
 use Rattle.event_word.specs.Lawful.{Lawful, HasSizes}
 use Rattle.event_word.specs.Debts.{debt, seats_owed, owed_lists, AreKnown}
 use Rattle.event_word.specs.Stored.{world_view, IsStored}
-use Rattle.event_word.specs.Play.{IsOpen, IsStep}
-use Rattle.event_word.proofs.Lists.{times-append, times-le-length, set-replicate}
-use Rattle.event_word.proofs.Lists.{get_or-replicate_same}
+use Rattle.event_word.specs.Play.{IsStep}
+use Rattle.event_word.proofs.Lists.{times-append, times-le-length}
 use Rattle.event_word.proofs.Keeps.{lawful_effect, pre_known, is_waiting, owed_is_stacked}
 use Rattle.event_word.proofs.Sizes.{sizes_effect}
 use Rattle.event_word.proofs.Owing.{position-None, seats_owed-append, seats_owed-map_debt}
@@ -42,21 +43,22 @@ length_seats [] = refl
 length_seats (d ∷ ds) = ap suc (length_seats ds)
 
 -- the World that lists show
-abbrev pub view_of : List Phase → List Bool → List Bool → List ℕ → ℕ → List ℕ → List Debt → List ℕ
-    → ℕ → ℕ → World
-view_of phases flags tokens pre signals stack debts lengths notifiers stop = record {
-  phases = phases;
-  flags = flags;
-  passed = replicate (length phases) [];
-  pre = pre;
-  signals = signals;
-  stack = stack;
-  owed = owed_lists (length phases + notifiers) debts;
-  announcing = replicate (length phases + notifiers) false;
-  tokens = tokens;
-  lengths = lengths;
-  stop = stop;
-}
+abbrev pub view_of : List Phase → List Bool → List (List Bool) → List Bool → List ℕ → ℕ → List ℕ
+    → List Debt → List Bool → List ℕ → ℕ → ℕ → World
+view_of phases flags passed tokens pre signals stack debts announcing lengths notifiers stop =
+    record {
+      phases = phases;
+      flags = flags;
+      passed = passed;
+      pre = pre;
+      signals = signals;
+      stack = stack;
+      owed = owed_lists (length phases + notifiers) debts;
+      announcing = announcing;
+      tokens = tokens;
+      lengths = lengths;
+      stop = stop;
+    }
 
 -- what a step of the program leaves as it needs it
 pub record Keeps {A : Type 0} (i j : Inside A) : Type 0 where
@@ -66,7 +68,6 @@ pub record Keeps {A : Type 0} (i j : Inside A) : Type 0 where
   pub stack : vec_capacity i.stack ≤ vec_capacity j.stack
   pub owed : vec_capacity i.owed ≤ vec_capacity j.owed
   pub known : AreKnown (length i.phases.items + i.notifiers) j.owed.items
-  pub stop : j.stop ≡ i.stop
 
 module _ {A : Type 0} (i : Inside A) (s : IsStored i) where
   -- an event that is possible leads to a stored World again
@@ -77,9 +78,10 @@ module _ {A : Type 0} (i : Inside A) (s : IsStored i) where
       let to_wait = s.room_to_wait in let to_park = s.room_to_park in
       let to_owe = s.room_to_owe in
       let a = k.pre in let b = k.stack in let c = k.owed in
-      let t = subst (HasSizes (length i.phases.items) (length i.phases.items + i.notifiers) 0)
-      (sym is) (sizes_effect (length i.phases.items) (length i.phases.items + i.notifiers) 0
-      (world_view i) e z) in
+      let t = subst (HasSizes (length i.phases.items) (length i.phases.items + i.notifiers)
+      (length i.lengths.items)) (sym is)
+      (sizes_effect (length i.phases.items) (length i.phases.items + i.notifiers)
+      (length i.lengths.items) (world_view i) e z) in
       let actors : length i.phases.items + i.notifiers ≡ length j.phases.items + j.notifiers =
       omega arith in record {
         lawful = subst Lawful (sym is)
@@ -88,17 +90,17 @@ module _ {A : Type 0} (i : Inside A) (s : IsStored i) where
           phases = refl;
           flags = t.flags ∙ sym w;
           passed = t.passed ∙ sym w;
+          passed_rows = λ seat h. t.passed_rows seat (omega arith) ∙ sym t.lengths;
           owed = t.owed ∙ actors;
           announcing = t.announcing ∙ actors;
           tokens = t.tokens ∙ sym w;
-          lengths = t.lengths;
+          lengths = refl;
         };
         few = omega arith;
         known = subst (λ n. AreKnown n j.owed.items) actors k.known;
         room_to_wait = omega arith;
         room_to_park = omega arith;
         room_to_owe = omega arith;
-        going = k.stop ∙ s.going;
       }
 
   -- the stack and the debts together are no longer than there are workers
@@ -136,13 +138,6 @@ module _ {A : Type 0} (i : Inside A) (s : IsStored i) where
   pub room_to_owe_all : vec_len i.owed + length i.stack.items ≤ vec_capacity i.owed
   room_to_owe_all = let r = room in let c = s.room_to_owe in let d = i.owed.ok.0 in omega arith
 
-  -- nobody announces anything
-  pub nobody_announces : (a : ℕ) → is_announcing (world_view i) a ≡ false
-  nobody_announces a = get_or-replicate_same (length i.phases.items + i.notifiers) false a
-
-  announced-same : (a : ℕ) → set (world_view i).announcing a false ≡ (world_view i).announcing
-  announced-same a = set-replicate (length i.phases.items + i.notifiers) false a
-
   pub owed_by-view : (a : ℕ) → a < length i.phases.items + i.notifiers
       → owed_by (world_view i) a ≡ seats_owed a i.owed.items
   owed_by-view a h = get_or-owed_lists (length i.phases.items + i.notifiers) i.owed.items a h
@@ -179,28 +174,38 @@ module _ {A : Type 0} (i : Inside A) (s : IsStored i) where
       nowhere-seats_owed a i.owed.items k (debt 0 0) q.0 q.1 (sym (owed_by-view a (free_known a f))
       ∙ f.owes_none)
 
-  pub prewait_view : (n place : ℕ) (pre : List ℕ) → place ≡ n → pre ≡ i.pre.items ++ n ∷ []
-      → view_of (set i.phases.items place Pre) (set i.flags.items place false) i.tokens.items pre
-      i.signals i.stack.items i.owed.items i.lengths.items i.notifiers i.stop ≡ effect
-      (world_view i) (Prewait n)
-  prewait_view n place pre at e =
-      let l = length-set i.phases.items n Pre in let a = ap (λ m. replicate {A = List ℕ} m []) l
-      ∙ sym (set-replicate (length i.phases.items) [] n) in
+  pub prewait_view : (n place : ℕ) (passed : List (List Bool)) (pre : List ℕ) → place ≡ n
+      → passed ≡ set (world_view i).passed n (replicate (length i.lengths.items) false)
+      → pre ≡ i.pre.items ++ n ∷ []
+      → view_of (set i.phases.items place Pre) (set i.flags.items place false) passed i.tokens.items
+      pre i.signals i.stack.items i.owed.items i.announcing.items i.lengths.items i.notifiers i.stop
+      ≡ effect (world_view i) (Prewait n)
+  prewait_view n place passed pre at none e =
+      let l = length-set i.phases.items n Pre in
       let b = ap (λ m. owed_lists (m + i.notifiers) i.owed.items) l in
-      let c = ap (λ m. replicate (m + i.notifiers) false) l in
       let f = ap (λ p. set i.phases.items p Pre) at in
       let g = ap (λ p. set i.flags.items p false) at in
       let l2 = ap (λ (xs : List Phase). length xs) f in cc
 
+  -- a worker that ends
+  pub end_view : (n place : ℕ) → place ≡ n
+      → view_of (set i.phases.items place Ended) i.flags.items (world_view i).passed i.tokens.items
+      i.pre.items i.signals i.stack.items i.owed.items i.announcing.items i.lengths.items
+      i.notifiers i.stop ≡ effect (world_view i) (End n)
+  end_view n place at =
+      let l = length-set i.phases.items n Ended in
+      let b = ap (λ m. owed_lists (m + i.notifiers) i.owed.items) l in
+      let f = ap (λ p. set i.phases.items p Ended) at in
+      let l2 = ap (λ (xs : List Phase). length xs) f in cc
+
   pub leave_view : (n place signals : ℕ) (pre : List ℕ) → place ≡ n → pre ≡ without n i.pre.items
-      → view_of (set i.phases.items place Running) i.flags.items i.tokens.items pre signals
-      i.stack.items i.owed.items i.lengths.items i.notifiers i.stop ≡ leave
+      → view_of (set i.phases.items place Running) i.flags.items (world_view i).passed
+      i.tokens.items pre signals
+      i.stack.items i.owed.items i.announcing.items i.lengths.items i.notifiers i.stop ≡ leave
       (world_view i) n Running signals
   leave_view n place signals pre at e =
       let l = length-set i.phases.items n Running in
-      let a = ap (λ m. replicate {A = List ℕ} m []) l in
       let b = ap (λ m. owed_lists (m + i.notifiers) i.owed.items) l in
-      let c = ap (λ m. replicate (m + i.notifiers) false) l in
       let f = ap (λ p. set i.phases.items p Running) at in
       let l2 = ap (λ (xs : List Phase). length xs) f in cc
 
@@ -217,8 +222,10 @@ module _ {A : Type 0} (i : Inside A) (s : IsStored i) where
 
   pub cancel_view : (n place signals : ℕ) (pre : List ℕ) → Possible (world_view i) (Cancel n)
       → place ≡ n → signals ≡ min i.signals (length i.pre.items - 1) → pre ≡ without n i.pre.items
-      → view_of (set i.phases.items place Running) i.flags.items i.tokens.items pre signals
-      i.stack.items i.owed.items i.lengths.items i.notifiers i.stop ≡ effect (world_view i)
+      → view_of (set i.phases.items place Running) i.flags.items (world_view i).passed
+      i.tokens.items pre signals
+      i.stack.items i.owed.items i.announcing.items i.lengths.items i.notifiers i.stop ≡ effect
+      (world_view i)
       (Cancel n)
   cancel_view n place signals pre p at few e =
       let one = is_waiting (world_view i) s.lawful n p in let le = times-le-length n i.pre.items in
@@ -227,8 +234,10 @@ module _ {A : Type 0} (i : Inside A) (s : IsStored i) where
 
   pub consume_view : (n place signals : ℕ) (pre : List ℕ) → 0 < i.signals → place ≡ n
       → signals ≡ i.signals - 1 → pre ≡ without n i.pre.items
-      → view_of (set i.phases.items place Running) i.flags.items i.tokens.items pre signals
-      i.stack.items i.owed.items i.lengths.items i.notifiers i.stop ≡ effect (world_view i)
+      → view_of (set i.phases.items place Running) i.flags.items (world_view i).passed
+      i.tokens.items pre signals
+      i.stack.items i.owed.items i.announcing.items i.lengths.items i.notifiers i.stop ≡ effect
+      (world_view i)
       (Commit n)
   consume_view n place signals pre some at few e =
       leave_view n place signals pre at e ∙ (ap (λ m. leave (world_view i) n Running m) few
@@ -238,53 +247,52 @@ module _ {A : Type 0} (i : Inside A) (s : IsStored i) where
 
   pub push_view : (n place : ℕ) (pre stack : List ℕ) → i.signals ≡ 0 → place ≡ n
       → pre ≡ without n i.pre.items → stack ≡ n ∷ i.stack.items
-      → view_of (set i.phases.items place Stacked) i.flags.items i.tokens.items pre i.signals stack
-      i.owed.items i.lengths.items i.notifiers i.stop ≡ effect (world_view i) (Commit n)
+      → view_of (set i.phases.items place Stacked) i.flags.items (world_view i).passed
+      i.tokens.items pre i.signals stack
+      i.owed.items i.announcing.items i.lengths.items i.notifiers i.stop ≡ effect (world_view i)
+      (Commit n)
   push_view n place pre stack none at e d =
       let l = length-set i.phases.items n Stacked in
-      let a = ap (λ m. replicate {A = List ℕ} m []) l in
       let b = ap (λ m. owed_lists (m + i.notifiers) i.owed.items) l in
-      let c = ap (λ m. replicate (m + i.notifiers) false) l in
       let f = ap (λ p. set i.phases.items p Stacked) at in
       let l2 = ap (λ (xs : List Phase). length xs) f in
       let u = record (leave (world_view i) n Stacked i.signals) { stack = n ∷ i.stack.items } in
-      let g : view_of (set i.phases.items place Stacked) i.flags.items i.tokens.items pre i.signals
-      stack i.owed.items i.lengths.items i.notifiers i.stop ≡ u = cc in
+      let g : view_of (set i.phases.items place Stacked) i.flags.items (world_view i).passed
+      i.tokens.items pre i.signals
+      stack i.owed.items i.announcing.items i.lengths.items i.notifiers i.stop ≡ u = cc in
       g ∙ sym (cond-false (nat_lt 0 i.signals) (leave (world_view i) n Running (i.signals - 1)) u
       (le-ltb 0 i.signals (omega arith)))
 
-  quiet-same : (a : ℕ) → announced (world_view i) a ≡ world_view i
-  quiet-same a = ap (λ (xs : List Bool). record (world_view i) { announcing = xs })
-      (announced-same a)
-
   pub signal_view : (a signals : ℕ) → i.signals < length i.pre.items → signals ≡ i.signals + 1
-      → view_of i.phases.items i.flags.items i.tokens.items i.pre.items signals i.stack.items
-      i.owed.items i.lengths.items i.notifiers i.stop ≡ effect (world_view i) (Notify a)
+      → view_of i.phases.items i.flags.items (world_view i).passed i.tokens.items i.pre.items
+      signals
+      i.stack.items i.owed.items (set i.announcing.items a false) i.lengths.items i.notifiers i.stop
+      ≡ effect (world_view i) (Notify a)
   signal_view a signals few e = let h = announced (world_view i) a in
-      ap (λ m. record (world_view i) { signals = m }) e
-      ∙ (ap (λ (w : World). record w { signals = i.signals + 1 }) (sym (quiet-same a))
+      ap (λ m. record h { signals = m }) e
       ∙ sym (cond-true (nat_lt i.signals (length i.pre.items))
       (record h { signals = i.signals + 1 }) (pop h a i.stack.items)
-      (lt-ltb i.signals (length i.pre.items) few)))
+      (lt-ltb i.signals (length i.pre.items) few))
 
   -- where no pre-waiter lacks a signal, a notification pops
   notify-pop : (a : ℕ) → length i.pre.items ≤ i.signals
-      → effect (world_view i) (Notify a) ≡ pop (world_view i) a i.stack.items
+      → effect (world_view i) (Notify a) ≡ pop (announced (world_view i) a) a i.stack.items
   notify-pop a le = let h = announced (world_view i) a in
       cond-false (nat_lt i.signals (length i.pre.items)) (record h { signals = i.signals + 1 })
       (pop h a i.stack.items) (le-ltb i.signals (length i.pre.items) le)
-      ∙ ap (λ (w : World). pop w a i.stack.items) (quiet-same a)
 
   pub nothing_view : (a : ℕ) → length i.pre.items ≤ i.signals → i.stack.items ≡ []
-      → world_view i ≡ effect (world_view i) (Notify a)
-  nothing_view a le none =
-      sym (notify-pop a le ∙ ap (λ (xs : List ℕ). pop (world_view i) a xs) none)
+      → announced (world_view i) a ≡ effect (world_view i) (Notify a)
+  nothing_view a le none = sym (notify-pop a le
+      ∙ ap (λ (xs : List ℕ). pop (announced (world_view i) a) a xs) none)
 
   pub pop_view : (a seat : ℕ) (stack : List ℕ) (debts : List Debt)
       → a < length i.phases.items + i.notifiers → length i.pre.items ≤ i.signals
       → i.stack.items ≡ seat ∷ stack → debts ≡ i.owed.items ++ debt a seat ∷ []
-      → view_of i.phases.items i.flags.items i.tokens.items i.pre.items i.signals stack debts
-      i.lengths.items i.notifiers i.stop ≡ effect (world_view i) (Notify a)
+      → view_of i.phases.items i.flags.items (world_view i).passed i.tokens.items i.pre.items
+      i.signals stack debts
+      (set i.announcing.items a false) i.lengths.items i.notifiers i.stop ≡ effect (world_view i)
+      (Notify a)
   pop_view a seat stack debts lt le e d =
       let more = owed_lists-set (length i.phases.items + i.notifiers) a i.owed.items
       (i.owed.items ++ debt a seat ∷ []) (owed_by (world_view i) a ++ seat ∷ []) lt
@@ -296,15 +304,19 @@ module _ {A : Type 0} (i : Inside A) (s : IsStored i) where
       (seats_owed-map_debt_other a b (seat ∷ []) ne) ∙ append-nil (seats_owed b i.owed.items)))
       in
       let q = ap (λ ds. owed_lists (length i.phases.items + i.notifiers) ds) d ∙ more in
-      ap (λ (xs : List (List ℕ)). record (world_view i) { stack = stack; owed = xs }) q
-      ∙ sym (notify-pop a le ∙ ap (λ (xs : List ℕ). pop (world_view i) a xs) e)
+      ap (λ (xs : List (List ℕ)). record (announced (world_view i) a) { stack = stack; owed = xs })
+      q
+      ∙ sym (notify-pop a le ∙ ap (λ (xs : List ℕ). pop (announced (world_view i) a) a xs) e)
 
-  pub notify_all_view : (a signals : ℕ) (stack : List ℕ) (debts : List Debt)
+  pub notify_all_view : (a signals stop : ℕ) (stack : List ℕ) (debts : List Debt)
       → a < length i.phases.items + i.notifiers → signals ≡ length i.pre.items → stack ≡ []
+      → stop ≡ (if i.stop == 1 then 2 else i.stop)
       → debts ≡ i.owed.items ++ map (debt a) i.stack.items
-      → view_of i.phases.items i.flags.items i.tokens.items i.pre.items signals stack debts
-      i.lengths.items i.notifiers i.stop ≡ effect (world_view i) (NotifyAll a)
-  notify_all_view a signals stack debts lt e none d =
+      → view_of i.phases.items i.flags.items (world_view i).passed i.tokens.items i.pre.items
+      signals stack debts
+      (set i.announcing.items a false) i.lengths.items i.notifiers stop ≡ effect (world_view i)
+      (NotifyAll a)
+  notify_all_view a signals stop stack debts lt e none stops d =
       let more = owed_lists-set (length i.phases.items + i.notifiers) a i.owed.items
       (i.owed.items ++ map (debt a) i.stack.items)
       (owed_by (world_view i) a ++ i.stack.items) lt
@@ -316,8 +328,7 @@ module _ {A : Type 0} (i : Inside A) (s : IsStored i) where
       (seats_owed-map_debt_other a b i.stack.items ne)
       ∙ append-nil (seats_owed b i.owed.items))) in
       let q = ap (λ ds. owed_lists (length i.phases.items + i.notifiers) ds) d ∙ more in
-      let z = announced-same a in let going = ap (λ m. if m == 1 then 2 else m) s.going in
-      let zero = s.going in cc
+      cc
 
   -- the place of an actor's first debt, and what is left once it is gone
   pub unpark_view : (a k seat : ℕ) (d : Debt) (debts : List Debt)
@@ -325,8 +336,10 @@ module _ {A : Type 0} (i : Inside A) (s : IsStored i) where
       → seat ≡ d.seat → debts ≡ remove i.owed.items k
       → (owed_by (world_view i) a ≡ d.seat ∷ seats_owed a debts) × (seat < length i.tokens.items)
       × (AreKnown (length i.phases.items + i.notifiers) debts)
-      × (view_of i.phases.items i.flags.items (set i.tokens.items seat true) i.pre.items i.signals
-      i.stack.items debts i.lengths.items i.notifiers i.stop ≡ effect (world_view i) (Unpark a))
+      × (view_of i.phases.items i.flags.items (world_view i).passed (set i.tokens.items seat true)
+      i.pre.items i.signals
+      i.stack.items debts i.announcing.items i.lengths.items i.notifiers i.stop ≡ effect
+      (world_view i) (Unpark a))
   unpark_view a k seat d debts found at is gone =
       let q = position-Some (λ (x : Debt). x.actor == a) i.owed.items k d found in
       let z = s.sizes in
@@ -395,27 +408,92 @@ module _ {A : Type 0} (i : Inside A) (s : IsStored i) where
       (map (debt a) seats) s.known
       (AreKnown-map_debt (length i.phases.items + i.notifiers) a seats lt))
 
-  -- no rows are left to pass
-  pub passed_all : (n : ℕ) → get_or i.flags.items n false ≡ true → HasPassedAll (world_view i) n
-  passed_all n flag = record {
+  -- the rows that a seat has passed are those of its list
+  pub rows_read : (n place : ℕ) (list : Vec Bool A) → n < length i.phases.items → place ≡ n
+      → list ≡ get_or i.passed.items place list → rows_passed_by (world_view i) n ≡ list.items
+  rows_read n place list h at read = let l = s.sizes.passed in
+      let m = length-map i.passed.items (λ (row : Vec Bool A). row.items) in
+      get_or-map (λ (row : Vec Bool A). row.items) i.passed.items n list [] (omega arith)
+      ∙ ap (λ (row : Vec Bool A). row.items)
+      (ap (λ k. get_or i.passed.items k list) (sym at) ∙ sym read)
+
+  -- a new list of a seat
+  pub rows_set : (n place : ℕ) (list : Vec Bool A) (rows : List Bool) → place ≡ n
+      → list.items ≡ rows → map (λ row. row.items) (set i.passed.items place list) ≡ set
+      (world_view i).passed n rows
+  rows_set n place list rows at is =
+      map-set (λ (row : Vec Bool A). row.items) i.passed.items place list
+      ∙ (ap (λ k. set (world_view i).passed k list.items) at
+      ∙ ap (λ ys. set (world_view i).passed n ys) is)
+
+  -- a pass of a row
+  pub pass_view : (n r place at : ℕ) (list new : Vec Bool A) → n < length i.phases.items
+      → place ≡ n → at ≡ r → list ≡ get_or i.passed.items place list
+      → new.items ≡ set list.items at true
+      → view_of i.phases.items i.flags.items
+      (map (λ row. row.items) (set i.passed.items place new)) i.tokens.items i.pre.items i.signals
+      i.stack.items i.owed.items i.announcing.items i.lengths.items i.notifiers i.stop ≡ effect
+      (world_view i) (Pass n r)
+  pass_view n r place at list new h seat row read is =
+      ap (λ (yss : List (List Bool)). record (world_view i) { passed = yss })
+      (rows_set n place new (set (rows_passed_by (world_view i) n) r true) seat
+      (is ∙ (ap (λ k. set list.items k true) row
+      ∙ ap (λ (ys : List Bool). set ys r true) (sym (rows_read n place list h seat read)))))
+
+  -- how many jobs a row has, as it was read
+  pub jobs_read : (r at jobs : ℕ) → r < length i.lengths.items → at ≡ r
+      → jobs ≡ get_or i.lengths.items at jobs → length_of (world_view i) r ≡ jobs
+  jobs_read r at jobs h is read = get_or_default i.lengths.items r 0 jobs h
+      ∙ (ap (λ k. get_or i.lengths.items k jobs) (sym is) ∙ sym read)
+
+  -- a seat's list has an entry for each row
+  pub rows_long : (n place : ℕ) (list : Vec Bool A) → n < length i.phases.items → place ≡ n
+      → list ≡ get_or i.passed.items place list → length list.items ≡ length i.lengths.items
+  rows_long n place list h at read =
+      ap length (sym (rows_read n place list h at read)) ∙ s.sizes.passed_rows n h
+
+  -- a list of true entries only says that each row was passed, and the other way round
+  pub passed_all : (n place : ℕ) (list : Vec Bool A) → n < length i.phases.items → place ≡ n
+      → list ≡ get_or i.passed.items place list → get_or i.flags.items n false ≡ true
+      → AllPass (λ (b : Bool). b) list.items → HasPassedAll (world_view i) n
+  passed_all n place list h at read flag all = record {
     flag = flag;
-    rows = λ row lt. let none = s.sizes.lengths in
-        absurd (omega arith);
+    rows = λ row lt. ap (λ (ys : List Bool). get_or ys row false) (rows_read n place list h at read)
+        ∙ all row false (let l = rows_long n place list h at read in omega arith);
   }
 
-  -- a pre-waiter whose flag was read may commit
-  pub may_commit : (n place : ℕ) (flag : Bool) → phase_of (world_view i) n ≡ Pre → place ≡ n
-      → flag ≡ get_or i.flags.items place flag → flag ≡ true → Possible (world_view i) (Commit n)
-  may_commit n place flag at is read set_ =
-      let z = s.sizes in let a = z.flags in let known = pre_known (world_view i) n at in (
-        at,
-        passed_all n (ap (λ k. get_or i.flags.items k false) (sym is)
-            ∙ (sym (get_or_read i.flags.items place flag (omega arith) read false) ∙ set_)),
+  pub all_passed : (n place : ℕ) (list : Vec Bool A) → n < length i.phases.items → place ≡ n
+      → list ≡ get_or i.passed.items place list → HasPassedAll (world_view i) n
+      → AllPass (λ (b : Bool). b) list.items
+  all_passed n place list h at read p k d lt = get_or_default list.items k d false lt
+      ∙ (ap (λ (ys : List Bool). get_or ys k false) (sym (rows_read n place list h at read))
+      ∙ p.rows k (let l = rows_long n place list h at read in omega arith))
+
+  -- a pre-waiter whose flag and rows were read may commit
+  pub may_commit : (n place : ℕ) (flag : Bool) (list : Vec Bool A)
+      → phase_of (world_view i) n ≡ Pre → place ≡ n → flag ≡ get_or i.flags.items place flag
+      → flag ≡ true → list ≡ get_or i.passed.items place list
+      → AllPass (λ (b : Bool). b) list.items → Possible (world_view i) (Commit n)
+  may_commit n place flag list pre at read set_ rows all =
+      let z = s.sizes in let a = z.flags in let known = pre_known (world_view i) n pre in (
+        pre,
+        passed_all n place list known at rows (ap (λ k. get_or i.flags.items k false) (sym at)
+            ∙ (sym (get_or_read i.flags.items place flag (omega arith) read false) ∙ set_)) all,
       )
+
+-- the stop number after a notification of all
+pub stops_now : (stop : ℕ) → stop ≡ 1 → 2 ≡ (if stop == 1 then 2 else stop)
+stops_now stop e = sym (cond-true (stop == 1) 2 stop (eq-eqb stop 1 e))
+
+pub stops_not : (stop : ℕ) → stop ≢ 1 → stop ≡ (if stop == 1 then 2 else stop)
+stops_not stop ne = sym (cond-false (stop == 1) 2 stop (ne_eqb stop 1 ne))
 
 -- the same actor is free in the same World
 pub free_same : (w v : World) (a b : ℕ) → v ≡ w → a ≡ b → IsFree w a → IsFree v b
 free_same w v a b e f free = subst (λ x. IsFree x b) (sym e) (subst (IsFree w) f free)
+
+pub quiet_same : (w v : World) (a b : ℕ) → v ≡ w → a ≡ b → IsQuiet w a → IsQuiet v b
+quiet_same w v a b e f quiet = subst (λ x. IsQuiet x b) (sym e) (subst (IsQuiet w) f quiet)
 
 -- the phase that a test found
 pub phase_found : (phases found : List Phase) (n place : ℕ) (p : Phase) → found ≡ phases → place ≡ n
@@ -425,14 +503,14 @@ phase_found phases found n place p e f at = ap (λ xs. get_or xs n Ended) (sym e
 
 module _ {A : Type 0} where
   -- an event taken is a step, and one refused is a step to the same World
-  pub stepped : (i : Inside A) (now u : World) (e : Event) → world_view i ≡ now → IsOpen e
+  pub stepped : (i : Inside A) (now u : World) (e : Event) → world_view i ≡ now
       → Possible (world_view i) e → u ≡ effect (world_view i) e → IsStep now e true u
-  stepped i now u e is taken p eq = (
-    (taken, subst (λ w. Possible w e) is p),
+  stepped i now u e is p eq = (
+    subst (λ w. Possible w e) is p,
     eq
         ∙ ap (λ w. effect w e) is,
   )
 
   pub refused : (i : Inside A) (now : World) (e : Event) → world_view i ≡ now
       → (Possible (world_view i) e → ⊥) → IsStep now e false now
-  refused i now e is never = (λ q. never (subst (λ w. Possible w e) (sym is) q.1), refl)
+  refused i now e is never = (λ q. never (subst (λ w. Possible w e) (sym is) q), refl)

@@ -3,8 +3,8 @@ use Rattle.std.specs.Prelude.{◌≡◌, ℕ, ◌+◌, ◌<◌, ◌≤◌, true,
 use Rattle.event_word.specs.declared.phase.Phase.{Phase}
 use Rattle.event_word.specs.declared.phase.Phase.TheVariants.{Running, Pre, Stacked, Ended}
 use Rattle.event_word.specs.Lists.{one_if, total, times}
-use Rattle.event_word.specs.World.{World, phase_of, has_passed_flag, owed_by, is_announcing}
-use Rattle.event_word.specs.World.{has_token}
+use Rattle.event_word.specs.World.{World, phase_of, has_passed_flag, rows_passed_by, owed_by}
+use Rattle.event_word.specs.World.{is_announcing, has_token}
 
 -- 1 for a pre-waiter
 abbrev pub waits : Phase → ℕ
@@ -53,6 +53,7 @@ pub record HasSizes (workers actors rows : ℕ) (w : World) : Type 0 where
   pub phases : length w.phases ≡ workers
   pub flags : length w.flags ≡ workers
   pub passed : length w.passed ≡ workers
+  pub passed_rows : (seat : ℕ) → seat < workers → length (rows_passed_by w seat) ≡ rows
   pub owed : length w.owed ≡ actors
   pub announcing : length w.announcing ≡ actors
   pub tokens : length w.tokens ≡ workers

@@ -6,6 +6,7 @@ pub mod World
 pub mod Step
 pub mod Lawful
 pub mod Runs
+pub mod Waking
 pub mod Balance
 pub mod Frame
 pub mod Debts

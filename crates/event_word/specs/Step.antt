@@ -1,6 +1,6 @@
 -- Which events are possible, and what each does.
 use Rattle.std.specs.Prelude.{◌≡◌, ◌≢◌, ℕ, ◌+◌, ◌-◌, ◌<◌, ◌==◌, nat_lt, if◌then◌else◌, true, false}
-use Rattle.std.specs.Prelude.{List, [], ◌∷◌, ◌++◌, length, slice_set, Contains}
+use Rattle.std.specs.Prelude.{List, [], ◌∷◌, ◌++◌, length, slice_set, replicate}
 use Rattle.event_word.specs.declared.phase.Phase.{Phase}
 use Rattle.event_word.specs.declared.phase.Phase.TheVariants.{Running, Pre, Stacked, Ended}
 use Rattle.event_word.specs.declared.event.Event.{Event}
@@ -9,8 +9,8 @@ use Rattle.event_word.specs.declared.event.Event.TheVariants.{Cancel, Commit, No
 use Rattle.event_word.specs.declared.event.Event.TheVariants.{NotifyAll, Unpark, Wake, Take, Stop}
 use Rattle.event_word.specs.declared.event.Event.TheVariants.{End}
 use Rattle.event_word.specs.Lists.{without}
-use Rattle.event_word.specs.World.{World, phase_of, has_passed_flag, rows_passed_by, owed_by}
-use Rattle.event_word.specs.World.{is_announcing, has_token, length_of}
+use Rattle.event_word.specs.World.{World, phase_of, has_passed_flag, rows_passed_by, has_passed}
+use Rattle.event_word.specs.World.{owed_by, is_announcing, has_token, length_of}
 
 -- how many jobs a row can count
 abbrev pub row_limit : ℕ
@@ -29,7 +29,7 @@ IsQuiet w actor = IsFree w actor × (is_announcing w actor ≡ false)
 -- the seat has found each row empty and no stop
 pub record HasPassedAll (w : World) (seat : ℕ) : Type 0 where
   pub flag : has_passed_flag w seat ≡ true
-  pub rows : (row : ℕ) → row < length w.lengths → Contains (rows_passed_by w seat) row
+  pub rows : (row : ℕ) → row < length w.lengths → has_passed w seat row ≡ true
 
 -- the event may happen now
 abbrev pub Possible : World → Event → Type 0
@@ -101,11 +101,12 @@ effect w (Publish actor row) = record w {
 effect w (Prewait seat) = record w {
   phases = slice_set w.phases seat Pre;
   flags = slice_set w.flags seat false;
-  passed = slice_set w.passed seat [];
+  passed = slice_set w.passed seat (replicate (length w.lengths) false);
   pre = w.pre ++ seat ∷ [];
 }
-effect w (Pass seat row) =
-    record w { passed = slice_set w.passed seat (row ∷ rows_passed_by w seat) }
+effect w (Pass seat row) = record w {
+  passed = slice_set w.passed seat (slice_set (rows_passed_by w seat) row true);
+}
 effect w (PassFlag seat) = record w { flags = slice_set w.flags seat true }
 effect w (Cancel seat) =
     leave w seat Running (if w.signals == length w.pre then w.signals - 1 else w.signals)

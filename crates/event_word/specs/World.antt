@@ -7,9 +7,10 @@ use Rattle.event_word.specs.declared.phase.Phase.TheVariants.{Running, Ended}
 pub record World : Type 0 where
   -- of each worker
   pub phases : List Phase
-  -- of each worker, whether it has found no stop since its prewait, and which rows it found empty
+  -- of each worker, whether it has found no stop since its prewait, and of each row whether it has
+  -- found it empty
   pub flags : List Bool
-  pub passed : List (List ℕ)
+  pub passed : List (List Bool)
   -- the pre-waiting seats in order of arrival, and how many of them are answered
   pub pre : List ℕ
   pub signals : ℕ
@@ -33,9 +34,13 @@ phase_of w seat = slice_index_or w.phases seat Ended
 abbrev pub has_passed_flag : World → ℕ → Bool
 has_passed_flag w seat = slice_index_or w.flags seat false
 
--- the rows that the seat has found empty since its prewait
-abbrev pub rows_passed_by : World → ℕ → List ℕ
+-- of each row, whether the seat has found it empty since its prewait
+abbrev pub rows_passed_by : World → ℕ → List Bool
 rows_passed_by w seat = slice_index_or w.passed seat []
+
+-- the seat has found the row empty since its prewait
+abbrev pub has_passed : World → ℕ → ℕ → Bool
+has_passed w seat row = slice_index_or (rows_passed_by w seat) row false
 
 -- the seats that the actor has popped and not unparked, the next one first
 abbrev pub owed_by : World → ℕ → List ℕ
@@ -58,7 +63,7 @@ abbrev pub opening_world : ℕ → ℕ → ℕ → World
 opening_world workers notifiers rows = record {
   phases = replicate workers Running;
   flags = replicate workers false;
-  passed = replicate workers [];
+  passed = replicate workers (replicate rows false);
   pre = [];
   signals = 0;
   stack = [];

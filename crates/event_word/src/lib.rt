@@ -14,7 +14,10 @@ pub use after::{
     after_notify_all, after_pop, after_prewait,
 };
 pub use event::Event;
-pub use laws::{events_leave_others_alone, runs_are_lawful, runs_balance, word_follows_world};
+pub use laws::{
+    events_leave_others_alone, runs_are_lawful, runs_balance, runs_stay_awake, runs_wake_all,
+    word_follows_world,
+};
 pub use phase::Phase;
 pub use word::{Fields, NOBODY, PRE_WAITER, pack, unpack};
 pub use world::World;

@@ -1,4 +1,5 @@
-ghost use Rattle.std.specs.Prelude.{◌≡◌, ◌+◌, ◌<◌, ◌≤◌, IfOk, length, replicate, slice_get};
+ghost use Rattle.std.specs.Prelude.{◌≡◌, false, ◌+◌, ◌<◌, ◌≤◌, IfOk, length, map, replicate};
+ghost use Rattle.std.specs.Prelude.{slice_get};
 ghost use Rattle.std.specs.Prelude.{slice_index, vec_len, vec_capacity};
 ghost use Rattle.event_word.specs.Limits.{most_workers};
 ghost use Rattle.event_word.specs.World.{phase_of, owed_by, has_token, length_of, opening_world};
@@ -15,9 +16,11 @@ use std::marker::Model;
 /// when it is made.
 #[derive(Drop)]
 pub struct World<A: Allocator = Global> {
-    // Of each worker: its phase, whether it has passed the stop flag, and whether it has a token.
+    // Of each worker: its phase, whether it has passed the stop flag, which rows it has passed, and
+    // whether it has a token.
     phases: Vec<Phase, A>,
     flags: Vec<bool, A>,
+    passed: Vec<Vec<bool, A>, A>,
     tokens: Vec<bool, A>,
     // The pre-waiters in order of arrival, and how many of them are answered.
     pre: Vec<u16, A>,
@@ -25,6 +28,9 @@ pub struct World<A: Allocator = Global> {
     // The parked seats, top first.
     stack: Vec<u16, A>,
     owed: Vec<Debt, A>,
+    // Of each actor, whether it is to notify.
+    announcing: Vec<bool, A>,
+    // Of each row, how many jobs it has.
     lengths: Vec<u64, A>,
     notifiers: u16,
     stop: u8,
@@ -43,25 +49,29 @@ impl<A: Allocator> Model for World<A> {
 }
 
 impl<A: Allocator> World<A> {
-    /// A World of this many workers, which all run, and this many notifiers. There are no rows yet.
+    /// A World of this many workers, which all run, this many notifiers, and this many rows, which
+    /// are all empty.
     pub fn new(alloc: A, workers: u16, notifiers: u16, rows: u16) -> Result<World<A>, AllocError>
     where
         A: Clone,
         requires some { 1 ≤ workers }
         requires few { workers ≤ most_workers }
-        requires no_rows { rows ≡ 0 }
         ensures { IfOk result (λ w. w ≡ opening_world workers notifiers rows) }
     {
         let seats = usize::from(workers);
+        let actors = seats + usize::from(notifiers);
+        let rows = usize::from(rows);
         Ok(World {
             phases: filled(alloc.clone()?, seats, Phase::Running)?,
             flags: filled(alloc.clone()?, seats, false)?,
+            passed: filled_rows(alloc.clone()?, seats, rows)?,
             tokens: filled(alloc.clone()?, seats, false)?,
             pre: Vec::with_capacity(alloc.clone()?, seats)?,
             signals: 0,
             stack: Vec::with_capacity(alloc.clone()?, seats)?,
             owed: Vec::with_capacity(alloc.clone()?, seats)?,
-            lengths: filled(alloc, usize::from(rows), 0)?,
+            announcing: filled(alloc.clone()?, actors, false)?,
+            lengths: filled(alloc, rows, 0)?,
             notifiers,
             stop: 0,
         })
@@ -135,5 +145,21 @@ fn filled<T: Copy, A: Allocator>(alloc: A, len: usize, value: T) -> Result<Vec<T
 {
     let mut list = Vec::with_capacity(alloc, len)?;
     list.resize(len, value)?;
+    Ok(list)
+}
+
+/// So many lists of so many times false.
+fn filled_rows<A: Allocator + Clone>(
+    alloc: A,
+    len: usize,
+    rows: usize,
+) -> Result<Vec<Vec<bool, A>, A>, AllocError>
+    ensures { IfOk result
+        (λ list. map (λ row. row.items) list.items ≡ replicate len (replicate rows false)) }
+{
+    let mut list = Vec::with_capacity(alloc.clone()?, len)?;
+    for _ in 0..len {
+        list.push(filled(alloc.clone()?, rows, false)?)?;
+    }
     Ok(list)
 }

@@ -1,8 +1,10 @@
 // The events, one function each.
-ghost use Rattle.std.specs.Prelude.{◌≡◌, ◌<◌, ◌↔◌, ◌==◌, IsTrue, length, position, slice_index_or};
-ghost use Rattle.std.specs.Prelude.{vec_capacity};
+ghost use Rattle.std.specs.Prelude.{◌≡◌, false, ◌<◌, ◌↔◌, ◌==◌, IsTrue, length, position};
+ghost use Rattle.std.specs.Prelude.{replicate};
+ghost use Rattle.std.specs.Prelude.{slice_index_or, vec_capacity};
+ghost use Rattle.std.specs.List.{AllPass};
 ghost use Rattle.event_word.specs.Lists.{without};
-ghost use Rattle.event_word.specs.Step.{IsFree};
+ghost use Rattle.event_word.specs.Step.{IsFree, IsQuiet};
 ghost use Rattle.event_word.specs.Play.{IsStep, Plays, SameSizes};
 
 use super::World;
@@ -10,6 +12,9 @@ use super::debts::{Debt, first_owed, owe_all};
 use crate::event::Event;
 use crate::phase::Phase;
 use std::alloc::Allocator;
+
+// How many jobs a row can count.
+const ROW_LIMIT: u64 = 1 << 20;
 
 impl<A: Allocator> World<A> {
     /// Takes a step. False: the event isn't possible now, and nothing changed.
@@ -38,7 +43,9 @@ impl<A: Allocator> World<A> {
         ensures { IsStep self.old event result self.new }
     {
         match event {
+            Event::Publish { actor, row } => self.publish(actor, row),
             Event::Prewait { seat } => self.prewait(seat),
+            Event::Pass { seat, row } => self.pass(seat, row),
             Event::PassFlag { seat } => self.pass_flag(seat),
             Event::Cancel { seat } => self.cancel(seat),
             Event::Commit { seat } => self.commit(seat),
@@ -46,12 +53,9 @@ impl<A: Allocator> World<A> {
             Event::NotifyAll { actor } => self.notify_all(actor),
             Event::Unpark { actor } => self.unpark(actor),
             Event::Wake { seat } => self.wake(seat),
-            // These need rows or a stop, and there are none yet.
-            Event::Publish { actor: _, row: _ } => false,
-            Event::Pass { seat: _, row: _ } => false,
-            Event::Take { actor: _, row: _ } => false,
-            Event::Stop { actor: _ } => false,
-            Event::End { seat: _ } => false,
+            Event::Take { actor, row } => self.take(actor, row),
+            Event::Stop { actor } => self.start_stop(actor),
+            Event::End { seat } => self.end(seat),
         }
     }
 
@@ -69,16 +73,54 @@ impl<A: Allocator> World<A> {
         first_owed(&self.owed, actor).is_none()
     }
 
+    // Whether it is also not to notify.
+    fn is_quiet(&self, actor: u32) -> bool
+        ensures { IsTrue result ↔ IsQuiet self.now actor }
+    {
+        self.is_free(actor) && !self.announcing[actor as usize]
+    }
+
+    fn publish(&mut self, actor: u32, row: u16) -> bool
+        ensures { IsStep self.old (Event.Publish actor row) result self.new }
+    {
+        let place = usize::from(row);
+        if place >= self.lengths.len() || !self.is_quiet(actor) {
+            return false;
+        }
+        if self.lengths[place] >= ROW_LIMIT {
+            return false;
+        }
+        self.announcing[actor as usize] = true;
+        self.lengths[place] += 1;
+        true
+    }
+
     fn prewait(&mut self, seat: u16) -> bool
         ensures { IsStep self.old (Event.Prewait seat) result self.new }
     {
         let place = usize::from(seat);
-        if place >= self.phases.len() || !self.is_free(u32::from(seat)) {
+        if place >= self.phases.len() || !self.is_quiet(u32::from(seat)) {
             return false;
         }
         self.phases[place] = Phase::Pre;
         self.flags[place] = false;
+        clear(&mut self.passed[place]);
         self.pre.push_reserved(seat);
+        true
+    }
+
+    fn pass(&mut self, seat: u16, row: u16) -> bool
+        ensures { IsStep self.old (Event.Pass seat row) result self.new }
+    {
+        let place = usize::from(seat);
+        let at = usize::from(row);
+        if at >= self.lengths.len() || !is_in(&self.phases, place, Phase::Pre) {
+            return false;
+        }
+        if self.lengths[at] > 0 {
+            return false;
+        }
+        self.passed[place][at] = true;
         true
     }
 
@@ -86,7 +128,7 @@ impl<A: Allocator> World<A> {
         ensures { IsStep self.old (Event.PassFlag seat) result self.new }
     {
         let place = usize::from(seat);
-        if !is_in(&self.phases, place, Phase::Pre) {
+        if self.stop != 0 || !is_in(&self.phases, place, Phase::Pre) {
             return false;
         }
         self.flags[place] = true;
@@ -114,6 +156,9 @@ impl<A: Allocator> World<A> {
         if !is_in(&self.phases, place, Phase::Pre) || !self.flags[place] {
             return false;
         }
+        if !are_all_true(&self.passed[place]) {
+            return false;
+        }
         take_out(&mut self.pre, seat);
         if self.signals > 0 {
             self.signals -= 1;
@@ -131,6 +176,7 @@ impl<A: Allocator> World<A> {
         if !self.is_free(actor) {
             return false;
         }
+        self.announcing[actor as usize] = false;
         if self.signals < self.pre.len() as u64 {
             self.signals += 1;
         } else if !self.stack.is_empty() {
@@ -146,9 +192,14 @@ impl<A: Allocator> World<A> {
         if !self.is_free(actor) {
             return false;
         }
+        let place = actor as usize;
+        self.announcing[place] = false;
         self.signals = self.pre.len() as u64;
         owe_all(&mut self.owed, actor, &self.stack);
         self.stack.clear();
+        if self.stop == 1 {
+            self.stop = 2;
+        }
         true
     }
 
@@ -174,6 +225,42 @@ impl<A: Allocator> World<A> {
         self.phases[place] = Phase::Running;
         true
     }
+
+    fn take(&mut self, actor: u32, row: u16) -> bool
+        ensures { IsStep self.old (Event.Take actor row) result self.new }
+    {
+        let place = usize::from(row);
+        if place >= self.lengths.len() || !self.is_free(actor) {
+            return false;
+        }
+        if self.lengths[place] == 0 {
+            return false;
+        }
+        self.lengths[place] -= 1;
+        true
+    }
+
+    fn start_stop(&mut self, actor: u32) -> bool
+        ensures { IsStep self.old (Event.Stop actor) result self.new }
+    {
+        if self.stop != 0 || !self.is_quiet(actor) {
+            return false;
+        }
+        self.announcing[actor as usize] = true;
+        self.stop = 1;
+        true
+    }
+
+    fn end(&mut self, seat: u16) -> bool
+        ensures { IsStep self.old (Event.End seat) result self.new }
+    {
+        let place = usize::from(seat);
+        if self.stop == 0 || place >= self.phases.len() || !self.is_quiet(u32::from(seat)) {
+            return false;
+        }
+        self.phases[place] = Phase::Ended;
+        true
+    }
 }
 
 // Whether the seat at this place is in the phase. A place that no worker has counts as ended.
@@ -190,6 +277,20 @@ fn runs_if_worker(phases: &[Phase], place: usize) -> bool
         → slice_index_or phases.now place Phase.Ended ≡ Phase.Running) }
 {
     place >= phases.len() || is_in(phases, place, Phase::Running)
+}
+
+// Whether each of the list is true.
+fn are_all_true(list: &[bool]) -> bool
+    ensures { IsTrue result ↔ AllPass (λ passed. passed) list.now }
+{
+    list.iter().all(|passed| *passed)
+}
+
+// Makes each of the list false.
+fn clear<A: Allocator>(list: &mut Vec<bool, A>)
+    ensures { list.new.items ≡ replicate (length list.old.items) false }
+{
+    list.fill(false);
 }
 
 // Where the seat stands in the list.

@@ -4,6 +4,6 @@ use Rattle.event_count.proofs.Fresh.{numbers_from_zero}
 use Rattle.event_count.proofs.wait_point.EventCountWaitPoint.open.Goals as goal
 
 pub returns-clause-numbers : goal.returns-clause-numbers
-returns-clause-numbers g c = numbers_from_zero c.new.result (λ made. made.1.items)
-    (λ made. sizes_of made.0) c.args.waiters c.args.notifiers c.new.ensures.sizes
-    c.new.ensures.cards
+returns-clause-numbers g c = numbers_from_zero c.new_at.result (λ made. made.1.items)
+    (λ made. sizes_of made.0) c.args.waiters c.args.notifiers c.new_at.ensures.sizes
+    c.new_at.ensures.cards

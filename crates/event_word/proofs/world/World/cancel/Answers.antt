@@ -19,5 +19,4 @@ invariant_of-self g c =
       stack = omega arith;
       owed = omega arith;
       known = s.known;
-      stop = refl;
     })

@@ -41,14 +41,13 @@ invariant_of-self-then-not-is_empty g c =
       owed = omega (arith, c.push_reserved.ensures.capacity);
       known = known_more i s c.args.actor
           (c.remove-seat.result ∷ []) _ lt c.push_reserved.ensures.items;
-      stop = refl;
     })
 
 pub returns-then-self-len : goal.returns-then-self-len
 returns-then-self-len g c =
     let i = c.self.inside in let s = c.self.invariant in
     let free = free_same _ _ _ _ c.self.view_is refl (c.is_free.ensures.0 c.if-not-is_free.false) in
-    stepped i _ _ (Notify c.args.actor) c.self.view_is tt free
+    stepped i _ _ (Notify c.args.actor) c.self.view_is free
     (signal_view i s c.args.actor _
     (omega (arith, c.if-self-len.true, c.len.ensures, i.pre.ok.0)) refl)
 
@@ -67,7 +66,7 @@ returns-then-not-is_empty g c =
     ) in
     let top = front-remove i.stack.items c.remove-seat.result some c.remove-seat.ensures.value
     ∙ ap (λ xs. c.remove-seat.result ∷ xs) (sym c.remove-seat.ensures.items) in
-    stepped i _ _ (Notify c.args.actor) c.self.view_is tt free
+    stepped i _ _ (Notify c.args.actor) c.self.view_is free
     (pop_view i s c.args.actor c.remove-seat.result _ _ lt le top c.push_reserved.ensures.items)
 
 pub returns-else-not-is_empty : goal.returns-else-not-is_empty
@@ -82,5 +81,5 @@ returns-else-not-is_empty g c =
       eqb-true _ _ (sym c.is_empty.ensures ∙ c.if-not-is_empty.false),
       i.stack.ok.0,
     )) in
-    stepped i _ _ (Notify c.args.actor) c.self.view_is tt free (sym c.self.view_is
-    ∙ nothing_view i s c.args.actor le none)
+    stepped i _ _ (Notify c.args.actor) c.self.view_is free
+    (nothing_view i s c.args.actor le none)

@@ -1,9 +1,9 @@
-use Rattle.std.proofs.Common.{arith, refl, length-set}
+use Rattle.std.proofs.Common.{false, replicate, refl, ap, ◌∙◌, arith, length-set}
 use Rattle.event_word.specs.Step.{Possible}
 use Rattle.event_word.specs.Stored.{world_view}
 use Rattle.event_word.specs.declared.event.Event.TheVariants.{Prewait}
-use Rattle.event_word.proofs.Stored.{stored_step, nobody_announces, room_to_prewait, prewait_view}
-use Rattle.event_word.proofs.Stored.{stepped, free_same}
+use Rattle.event_word.proofs.Stored.{stored_step, room_to_prewait, prewait_view, rows_set}
+use Rattle.event_word.proofs.Stored.{rows_long, stepped, quiet_same}
 use Rattle.event_word.proofs.world.World.prewait.Goals as goal
 
 pub push_reserved-requires : goal.push_reserved-requires
@@ -11,11 +11,8 @@ push_reserved-requires g c =
     let i = c.self.inside in let s = c.self.invariant in
     let p : Possible (world_view i) (Prewait c.args.seat) = (
       omega (arith, i.phases.ok.0),
-      (
-        free_same _ _ _ _ c.self.view_is c.from.ensures
-            (c.is_free.ensures.0 c.if-not-is_free.false),
-        nobody_announces i s c.args.seat,
-      ),
+      quiet_same _ _ _ _ c.self.view_is c.from.ensures
+          (c.is_quiet.ensures.0 c.if-not-is_quiet.false),
     ) in
     room_to_prewait i s c.args.seat p
 
@@ -24,14 +21,14 @@ invariant_of-self g c =
     let i = c.self.inside in let s = c.self.invariant in
     let p : Possible (world_view i) (Prewait c.args.seat) = (
       omega (arith, i.phases.ok.0),
-      (
-        free_same _ _ _ _ c.self.view_is c.from.ensures
-            (c.is_free.ensures.0 c.if-not-is_free.false),
-        nobody_announces i s c.args.seat,
-      ),
+      quiet_same _ _ _ _ c.self.view_is c.from.ensures
+          (c.is_quiet.ensures.0 c.if-not-is_quiet.false),
     ) in
     stored_step i s _ (Prewait c.args.seat) p
-    (prewait_view i s c.args.seat _ _ c.from-place.ensures c.push_reserved.ensures.items)
+    (prewait_view i s c.args.seat _ _ _ c.from-place.ensures
+    (rows_set i s c.args.seat _ c.clear.new.list _ c.from-place.ensures (c.clear.ensures
+    ∙ ap (λ n. replicate n false) (rows_long i s c.args.seat _ c.index_mut-3.result.now p.0
+    c.from-place.ensures c.index_mut-3.ensures.value))) c.push_reserved.ensures.items)
     (record {
       workers = length-set i.phases.items _ _;
       notifiers = refl;
@@ -39,7 +36,6 @@ invariant_of-self g c =
       stack = omega arith;
       owed = omega arith;
       known = s.known;
-      stop = refl;
     })
 
 pub returns : goal.returns
@@ -47,11 +43,11 @@ returns g c =
     let i = c.self.inside in let s = c.self.invariant in
     let p : Possible (world_view i) (Prewait c.args.seat) = (
       omega (arith, i.phases.ok.0),
-      (
-        free_same _ _ _ _ c.self.view_is c.from.ensures
-            (c.is_free.ensures.0 c.if-not-is_free.false),
-        nobody_announces i s c.args.seat,
-      ),
+      quiet_same _ _ _ _ c.self.view_is c.from.ensures
+          (c.is_quiet.ensures.0 c.if-not-is_quiet.false),
     ) in
-    stepped i _ _ (Prewait c.args.seat) c.self.view_is tt p
-    (prewait_view i s c.args.seat _ _ c.from-place.ensures c.push_reserved.ensures.items)
+    stepped i _ _ (Prewait c.args.seat) c.self.view_is p
+    (prewait_view i s c.args.seat _ _ _ c.from-place.ensures
+    (rows_set i s c.args.seat _ c.clear.new.list _ c.from-place.ensures (c.clear.ensures
+    ∙ ap (λ n. replicate n false) (rows_long i s c.args.seat _ c.index_mut-3.result.now p.0
+    c.from-place.ensures c.index_mut-3.ensures.value))) c.push_reserved.ensures.items)

@@ -38,7 +38,6 @@ invariant_of-self g c =
       stack = omega arith;
       owed = omega (arith, c.remove-debt.ensures.capacity);
       known = u.2;
-      stop = refl;
     })
 
 pub returns : goal.returns
@@ -49,4 +48,4 @@ returns g c =
     ∙ (sym c.first_owed.ensures ∙ c.in-Some.is)) c.remove-debt.ensures.value c.from.ensures
     c.remove-debt.ensures.items in
     let p : 0 < length (owed_by (world_view i) c.args.actor) = omega (arith, ap length u.0) in
-    stepped i _ _ (Unpark c.args.actor) c.self.view_is tt p u.3
+    stepped i _ _ (Unpark c.args.actor) c.self.view_is p u.3
