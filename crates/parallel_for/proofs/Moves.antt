@@ -121,13 +121,6 @@ module _ (before taken now left : List Range) where
       let zero' : total (λ r. 1) now ≡ 0 = omega (arith, moved.weigh (λ r. 1), same (λ r. 1)) in
       no-weight now zero'
 
-  -- all that was missing is taken where nothing is missing now
-  pub SameBag-taken : left ≡ [] → now ≡ [] → AreMoved before taken now left → SameBag before taken
-  SameBag-taken none whole moved = λ h.
-      let s = ap (total h) none in
-      let t = ap (total h) whole in
-      omega (arith, moved.weigh h)
-
 -- nothing is taken at first
 pub AreMoved-start : (before taken left : List Range) → left ≡ taken
     → AreMoved before taken before left

@@ -1,17 +1,12 @@
 -- The collector's table.
-use Rattle.std.proofs.Common.{◌≡◌, ℕ, zero, suc, ◌+◌, ◌-◌, ◌*◌, ◌/◌, ◌%◌, ◌<◌, ◌≤◌, ◌==◌, min}
-use Rattle.std.proofs.Common.{List, [], ◌∷◌, ◌++◌, length, map, set, replicate, get_or, Contains}
-use Rattle.std.proofs.Common.{Option, Some, true, false, vec_len}
+use Rattle.std.proofs.Common.{◌≡◌, ℕ, zero, suc, ◌+◌, ◌-◌, ◌*◌, ◌/◌, ◌%◌, ◌<◌, ◌≤◌, min}
+use Rattle.std.proofs.Common.{List, [], ◌∷◌, ◌++◌, length, map, set, replicate, Contains, Some}
 use Rattle.std.proofs.Common.{refl, ap, sym, subst, ◌∙◌, arith, add-zero}
 use Rattle.std.specs.declared.vec.Vec.{Vec}
 use Rattle.std.specs.List.{range_with_len, slice_get}
-use Rattle.std.proofs.lemmas.Bool.{false≢true}
-use Rattle.std.proofs.lemmas.Bool.Decides.{nat_tests}
 use Rattle.std.proofs.lemmas.List.{map-set, length-map}
 use Rattle.std.proofs.lemmas.List.FromFn.{length-map-range_with_len}
-use Rattle.std.proofs.lemmas.Option.{slice_get-map, slice_get-get_or, slice_get_within}
-use Rattle.std.proofs.lemmas.Option.{slice_get_read, get_or_from_slice_get}
-use Rattle.std.specs.Option.{option_map, unwrap_or}
+use Rattle.std.proofs.lemmas.Option.{slice_get_within, slice_get_read, get_or_from_slice_get}
 use Rattle.std.proofs.lemmas.Grind.{div_ceil_times}
 use Rattle.std.proofs.lemmas.Nat.{div-add-mod'}
 use Rattle.std.proofs.Math.Nat.{add-mul-div_right, add-mul-mod_self_right, lt_of_mul-lt-mul_right}
@@ -36,13 +31,6 @@ Contains-at xs x at = (at.0, slice_get_read xs (length xs) at.0 x refl at.1 (sym
 pub Contains-from : {X : Type 0} (xs : List X) (x : X) (k : ℕ) → slice_get xs k ≡ Some x
     → Contains xs x
 Contains-from xs x k at = (k, slice_get_within xs k x at, get_or_from_slice_get xs k x x at)
-
-zero-of : (m : ℕ) → true ≡ (m == 0) → m ≡ 0
-zero-of m e = let equal : (m == 0) ≡ true = sym e in grind (arith, nat_tests, equal)
-
-some-of : (m : ℕ) → false ≡ (m == 0) → 0 < m
-some-of zero e = absurd (false≢true e)
-some-of (suc m) e = omega arith
 
 -- a list without items
 pub items-none : {I : Type 0} (items : List I) → length items ≡ 0 → items ≡ []
@@ -190,17 +178,17 @@ module _ {I : Type 0} (n b : ℕ) where
   missing-head i j (x ∷ items) rows all split next some =
       ap (missing n b i) split ∙ ap (λ (k : ℕ). missing n b k rows) (sym next)
 
-  -- the leaf of an empty row is missing
-  pub missing-empty : (i : ℕ) (items : List I) (rows all : List (List I))
+  -- where nothing is missing each row has items
+  pub some-at-head : (i : ℕ) (items : List I) (rows all : List (List I)) (ranges : List Range)
       → all ≡ items ∷ rows
-      → length items ≡ 0
-      → missing n b i all ≡ []
-      → ⊥
-  missing-empty i [] rows all split none whole =
+      → ranges ≡ missing n b i all
+      → ranges ≡ []
+      → 0 < length items
+  some-at-head i [] rows all ranges split same none =
       let cons : leaf 0 n b i ∷ missing n b (i + 1) rows ≡ [] =
-      sym (ap (missing n b i) split) ∙ whole in
+      sym (ap (missing n b i) split) ∙ sym same ∙ none in
       absurd (cc)
-  missing-empty i (x ∷ items) rows all split none whole = absurd (omega arith)
+  some-at-head i (x ∷ items) rows all ranges split same none = omega arith
 
   -- a range that is missing is the leaf of an empty row
   pub missing-at : (i k : ℕ) (rows : List (List I)) (r : Range)
@@ -253,26 +241,9 @@ leaf-passed n b first last whole below ends =
     (λ i. (start i, end i))
 
 module _ {I A : Type 0} where
-  -- a row is as long as it says
-  pub none-from_is_empty : (row : Vec I A) → true ≡ (vec_len row == 0) → row.items ≡ []
-  none-from_is_empty row e =
-      let none = zero-of row.len e in items-none row.items (omega (arith, row.ok.0))
-
-  pub some-from_is_empty : (row : Vec I A) → false ≡ (vec_len row == 0) → 0 < length row.items
-  some-from_is_empty row e = let some = some-of row.len e in omega (arith, row.ok.0)
-
+  -- as many lists of items as rows
   pub length-rows_of : (rows : List (Vec I A)) → length (rows_of rows) ≡ length rows
   length-rows_of rows = length-map rows (λ (v : Vec I A). v.items)
-
-  -- the items of a row that was read
-  pub rows_of-at : (rows : List (Vec I A)) (k : ℕ) (row : Vec I A)
-      → k < length rows
-      → row ≡ get_or rows k row
-      → slice_get (rows_of rows) k ≡ Some row.items
-  rows_of-at rows k row below at =
-      slice_get-map (λ (v : Vec I A). v.items) rows k
-      ∙ ap (option_map (λ (v : Vec I A). v.items)) (slice_get-get_or rows k row below)
-      ∙ ap (λ (v : Vec I A). Some v.items) (sym at)
 
   -- the items after a row was written
   pub rows_of-set : (rows : List (Vec I A)) (k : ℕ) (row : Vec I A)
@@ -293,17 +264,3 @@ module _ {I A : Type 0} where
       leaf-passes n b at.0 (first, last) some
       (omega (arith, below, length-rows_of rows, long)) at.2 in
       ((leaf.0, leaf.1, leaf.2), ap (slice_get (rows_of rows)) leaf.3 ∙ at.1)
-
-  -- a row that has items is not that of a range that is missing
-  pub missing-full : (rows : List (Vec I A)) (k : ℕ) (row : Vec I A)
-      → row ≡ get_or rows k row
-      → false ≡ (vec_len row == 0)
-      → slice_get (rows_of rows) k ≡ Some []
-      → ⊥
-  missing-full rows k row at full none =
-      let within = slice_get_within (rows_of rows) k [] none in
-      let below : k < length rows = omega (arith, within, length-rows_of rows) in
-      let same : Some row.items ≡ Some [] = sym (rows_of-at rows k row below at) ∙ none in
-      let long = ap (λ (o : Option (List I)). length (unwrap_or o [])) same in
-      let some = some-from_is_empty row full in
-      absurd (omega arith)

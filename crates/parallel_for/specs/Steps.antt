@@ -1,5 +1,7 @@
 -- What a step of a range job gives.
-use Rattle.std.specs.Prelude.{◌≡◌, ℕ, ◌<◌, ◌≤◌, ◌-◌, List}
+use Rattle.std.specs.Prelude.{◌≡◌, ℕ, ◌+◌, ◌<◌, ◌≤◌, ◌-◌, List}
+use Rattle.pool_barrier.specs.declared.share.Share.{Share}
+use Rattle.pool_barrier.specs.Shares.{notices_of, given_of}
 use Rattle.worker_pool.specs.declared.job.Progress.{Progress}
 use Rattle.worker_pool.specs.declared.job.Progress.TheVariants.{Fork, Done}
 use Rattle.parallel_for.specs.Leaves.{Range, middle}
@@ -25,3 +27,8 @@ pub record IsLeaf {I : Type 0} (item_at : ℕ → I) (whole piece : Range) (item
   pub first : piece.0 ≡ whole.0
   pub last : piece.1 ≡ whole.1
   pub filled : AreItems item_at whole.0 whole.1 items
+
+-- a share has given so many notices more, and has none left
+pub record GaveAll (count : ℕ) (before after : Share) : Type 0 where
+  pub given : given_of after ≡ given_of before + count
+  pub none_left : notices_of after ≡ 0

@@ -6,17 +6,17 @@ ghost use Rattle.parallel_for.specs.Faults.{most_leaves, IsBlockLength, IsNoBloc
 ghost use Rattle.parallel_for.specs.Items.{AreItems};
 ghost use Rattle.parallel_for.specs.Leaves.{blocks_of};
 
-use crate::collector::{CollectFault, collect};
+use crate::collector::collect;
 use crate::division::Division;
 use crate::fault::ForFault;
 use crate::halving::blocks;
 use crate::kernel::Kernel;
 use crate::piece::Piece;
 use crate::range_job::{RangeContext, RangeJob};
-use event_count::{LockedCount, WaitPoint};
+use event_count::{EventCount, WaitPoint};
 use pool_barrier::{Barrier, MOST_NOTICES, Share, Waiter};
-use run_queue::{LockedRows, Rows};
-use std::alloc::Allocator;
+use run_queue::{Rows, SlotRows};
+use std::alloc::{AllocError, Allocator};
 use std::marker::Brand;
 use std::sync::Wait;
 use std::thread::Threads;
@@ -55,9 +55,8 @@ where
     // Want of memory for a pool is answered as want of memory.
     ensures no_other { IsErrOf result (ForFault.Pool PoolFault.NoMemory) → ⊥ }
 
-    // No place takes no memory, and one leaf isn't lost.
+    // No place takes no memory.
     ensures no_memory { IsErrOf result ForFault.NoMemory → 0 < n }
-    ensures lost { IsErrOf result ForFault.Lost → block < n }
 {
     if block == 0 || blocks(n, block) > MOST_LEAVES {
         return Err(ForFault::BadBlock);
@@ -71,11 +70,7 @@ where
     if n <= block {
         return Ok(kernel.fill(alloc, 0, n)?);
     }
-    match fill_leaves(rt, alloc, setup, kernel, n, block) {
-        Ok(items) => Ok(items),
-        Err(CollectFault::NoMemory) => Err(ForFault::NoMemory),
-        Err(CollectFault::Lost) => Err(ForFault::Lost),
-    }
+    Ok(fill_leaves(rt, alloc, setup, kernel, n, block)?)
 }
 
 // The items of several leaves, by no more workers than there are leaves.
@@ -86,7 +81,7 @@ fn fill_leaves<RT, K, A>(
     kernel: &K,
     n: u64,
     block: u64,
-) -> Result<Vec<K::Item, A>, CollectFault>
+) -> Result<Vec<K::Item, A>, AllocError>
 where
     RT: Threads + Wait + Sync,
     K: Kernel + Sync,
@@ -95,7 +90,7 @@ where
     requires inside { n ≤ K.size kernel.now }
     requires several { block < n }
     requires blocks { IsBlockLength n block }
-    ensures { IfOk result (λ items. AreItems (K.item_at kernel.now) 0 n items.items) }
+    ensures items { IfOk result (λ items. AreItems (K.item_at kernel.now) 0 n items.items) }
 {
     let leaves = blocks(n, block);
     if leaves >= u64::from(setup.workers) {
@@ -116,7 +111,7 @@ fn count_leaves<RT, K, A>(
     kernel: &K,
     n: u64,
     block: u64,
-) -> Result<Vec<K::Item, A>, CollectFault>
+) -> Result<Vec<K::Item, A>, AllocError>
 where
     RT: Threads + Wait + Sync,
     K: Kernel + Sync,
@@ -125,10 +120,10 @@ where
     requires inside { n ≤ K.size kernel.now }
     requires several { block < n }
     requires blocks { IsBlockLength n block }
-    ensures { IfOk result (λ items. AreItems (K.item_at kernel.now) 0 n items.items) }
+    ensures items { IfOk result (λ items. AreItems (K.item_at kernel.now) 0 n items.items) }
 {
     let Ok((barrier, waiter, share)) = Barrier::new(alloc.clone()?, blocks(n, block)) else {
-        return Err(CollectFault::NoMemory);
+        return Err(AllocError);
     };
     let range = CountedRange {
         n,
@@ -137,7 +132,7 @@ where
         waiter,
         share,
     };
-    fill_under_locks::<Brand, RT, &K, A>(rt, alloc, setup, kernel, range)
+    fill_over_slots::<Brand, RT, &K, A>(rt, alloc, setup, kernel, range)
 }
 
 // The places below n, which are cut into blocks, and a barrier with a notice for each block.
@@ -156,13 +151,13 @@ struct CountedRange<A: Allocator> {
 }
 
 // The items of the range. Here stands by which wait point and rows the workers work.
-fn fill_under_locks<D, RT, K, A>(
+fn fill_over_slots<D, RT, K, A>(
     rt: &RT,
     alloc: A,
     setup: &Setup<A>,
     kernel: K,
     range: CountedRange<A>,
-) -> Result<Vec<K::Item, A>, CollectFault>
+) -> Result<Vec<K::Item, A>, AllocError>
 where
     D: Division + Send + Sync,
     RT: Threads + Wait + Sync,
@@ -173,9 +168,9 @@ where
     requires block { range.block ≡ D.block }
     requires barrier { barrier_id range.barrier ≡ D.barrier }
     requires inside { range.n ≤ D.size }
-    ensures { IfOk result (λ items. AreItems (K.item_at kernel) 0 range.n items.items) }
+    ensures items { IfOk result (λ items. AreItems (K.item_at kernel) 0 range.n items.items) }
 {
-    fill_range::<D, RT, K, A, LockedCount<A>, LockedRows<RangeJob<K, D, A>, A>, VecLists>(
+    fill_range::<D, RT, K, A, EventCount<A>, SlotRows<RangeJob<K, D, A>, A>, VecLists>(
         rt, alloc, setup, kernel, range,
     )
 }
@@ -187,7 +182,7 @@ fn fill_range<D, RT, K, A, W, R, L>(
     setup: &Setup<A>,
     kernel: K,
     range: CountedRange<A>,
-) -> Result<Vec<K::Item, A>, CollectFault>
+) -> Result<Vec<K::Item, A>, AllocError>
 where
     D: Division + Send + Sync,
     RT: Threads + Wait + Sync,
@@ -203,8 +198,8 @@ where
     requires block { range.block ≡ D.block }
     requires barrier { barrier_id range.barrier ≡ D.barrier }
     requires inside { range.n ≤ D.size }
+    requires accounts { R.keeps_accounts }
     ensures items { IfOk result (λ items. AreItems (K.item_at kernel) 0 range.n items.items) }
-    ensures never_lost { R.keeps_accounts → IsErrOf result CollectFault.Lost → ⊥ }
 {
     let CountedRange {
         n,
@@ -230,10 +225,10 @@ where
     );
     // The setup was checked, so that a pool can only want memory.
     let Ok(closed) = closed else {
-        return Err(CollectFault::NoMemory);
+        return Err(AllocError);
     };
     if closed.refused > 0 {
-        return Err(CollectFault::NoMemory);
+        return Err(AllocError);
     }
     collect(&alloc, &ctx.kernel, n, block, closed.outs)
 }

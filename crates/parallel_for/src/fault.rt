@@ -1,5 +1,4 @@
 //! Why there are no items.
-use crate::collector::CollectFault;
 use std::alloc::AllocError;
 use thiserror::Error;
 use worker_pool::PoolFault;
@@ -14,9 +13,6 @@ pub enum ForFault {
     Pool(PoolFault),
     #[error("out of memory")]
     NoMemory,
-    /// The pieces that came back don't cover the range once.
-    #[error("the pieces of a range were lost")]
-    Lost,
 }
 
 impl From<AllocError> for ForFault {

@@ -3,7 +3,7 @@ ghost use Rattle.std.specs.Prelude.{◌≡◌, ◌≤◌, ◌<◌, ◌-◌, ◌+
 ghost use Rattle.pool_barrier.specs.Shares.{share_id, barrier_id, notices_of, given_of};
 ghost use Rattle.pool_barrier.specs.Shares.{IsShareOf};
 ghost use Rattle.parallel_for.specs.Leaves.{blocks_of};
-ghost use Rattle.parallel_for.specs.Steps.{EitherWay, IsHalved, IsLeaf};
+ghost use Rattle.parallel_for.specs.Steps.{EitherWay, GaveAll, IsHalved, IsLeaf};
 
 use crate::division::Division;
 use crate::halving::{blocks, halve};
@@ -110,6 +110,9 @@ impl<K: Kernel + Drop, D: Division, A: Allocator> Job<A> for RangeJob<K, D, A> {
 
     type Out = Piece<K::Item, A>;
 
+    /// The share, whose notices are all given.
+    type Abandoned = Share;
+
     ghost weight_of = { λ job. job.last - job.first };
 
     ghost allows = { λ context job. EitherWay
@@ -117,6 +120,10 @@ impl<K: Kernel + Drop, D: Division, A: Allocator> Job<A> for RangeJob<K, D, A> {
         (rest.first, rest.last) D.block)
         (λ piece. IsLeaf (K.item_at context.kernel) (job.first, job.last)
         (piece.first, piece.last) piece.items.items D.block) };
+
+    // One notice for each block of the range.
+    ghost abandons = { λ _ job share.
+        GaveAll (blocks_of (job.last - job.first) D.block) job.share share };
 
     fn weight(&self) -> u64 {
         self.last - self.first
@@ -153,9 +160,10 @@ impl<K: Kernel + Drop, D: Division, A: Allocator> Job<A> for RangeJob<K, D, A> {
         })
     }
 
-    fn abandon(self, ctx: &RangeContext<K, D, A>) {
+    fn abandon(self, ctx: &RangeContext<K, D, A>) -> Share {
         let mut share = self.share;
         give_all(&ctx.barrier, &mut share);
+        share
     }
 }
 

@@ -1,9 +1,11 @@
 -- Each step keeps the account.
-use Rattle.std.proofs.Common.{◌≡◌, ◌≢◌, ℕ, eqb, ◌+◌, ◌-◌, ◌<◌, ◌≤◌, List, [], ◌∷◌, ◌++◌, Option}
+use Rattle.std.proofs.Common.{◌≡◌, ◌≢◌, ℕ, eqb, ◌+◌, ◌-◌, ◌/◌, ◌%◌, ◌^◌, ◌<◌, ◌≤◌, List, [], ◌∷◌}
+use Rattle.std.proofs.Common.{◌++◌, Option}
 use Rattle.std.proofs.Common.{Some, None, ⊎_elim, length, get_or, set, sym, refl, ap, ◌∙◌, subst}
 use Rattle.std.proofs.Common.{arith, length-set, get_or-set_same, get_or-set_other}
 use mathlib.Core.Path.{Path}
 use mathlib.Core.Option.{some, none}
+use mathlib.Core.Option as maybe
 use native.Mathlib.Decide.{ℕ_discrete}
 use prog.Atomic.{either}
 use lib.ListN.{get_elem?}
@@ -16,12 +18,17 @@ use Rattle.run_queue.specs.declared.slot_rows.view.Notes.{Notes}
 use Rattle.run_queue.specs.Bag.{total}
 use Rattle.run_queue.specs.Elements.{Phase, empty, busy, ready, word_of, home_of, namers_of}
 use Rattle.run_queue.specs.Elements.{weight_at_home}
+use Rattle.run_queue.specs.Lengths.{length_word, in_row, owed_to, total_at}
+use Rattle.run_queue.specs.Lengths.{job_in_row}
 use Rattle.run_queue.specs.Views.{names, claimed, moved, view_of, noted, fresh, nothing}
 use Rattle.run_queue.specs.Views.{after_deal, together}
 use Rattle.run_queue.specs.RowTable.{Shows, KeepsAccount}
-use Rattle.run_queue.specs.Plays.{Sat, claims_in, makes_ready, claims_out, makes_empty}
+use Rattle.run_queue.specs.Plays.{Sat, claims_in, raises, makes_ready, claims_out, makes_empty}
+use Rattle.run_queue.specs.Plays.{lowers}
 use Rattle.run_queue.proofs.Totals.{total_set, total_last, total_append, at_most_total}
-use Rattle.run_queue.proofs.Totals.{names_same, names_other}
+use Rattle.run_queue.proofs.Totals.{names_same, names_other, total_below}
+use Rattle.run_queue.proofs.InRows.{total_at_set, total_at_below, in_row_same, in_row_other}
+use Rattle.run_queue.proofs.InRows.{in_row_small}
 
 abbrev St : Type 0 → Type 0
 St J = State (Option J) (View J)
@@ -43,6 +50,12 @@ module _ {J : Type 0} where
   abbrev Spent : List (View J) → Type 0
   Spent vs = (j : ℕ) (v : View J) → get_elem? vs j ≡ some v → v.parts ≡ 0 → v ≡ nothing
 
+  -- the words behind those of so many elements have the lengths
+  abbrev Lengths : St J → ℕ → Type 0
+  Lengths s n =
+      (r : ℕ) → r ≤ n / 1024 → get_or s.words (length_word n r) 0
+      ≡ total_at (job_in_row r) 0 s.homes + total (λ v. owed_to r v.owes) s.views
+
   -- a view that has a part
   spent_set : (vs : List (View J)) (id : ℕ) (w : View J) → 0 < w.parts → Spent vs
       → Spent (set vs id w)
@@ -56,13 +69,18 @@ module _ {J : Type 0} where
       → i < length s.homes → get_elem? s.views id ≡ some v → w.parts ≡ v.parts → 0 < v.parts
       → Shows s i p → names i w.busy + namers_of p ≡ names i v.busy + namers_of q
       → ((j : ℕ) → j ≢ i → names j w.busy ≡ names j v.busy)
+      → ((r : ℕ) → job_in_row r i (home_of p) + owed_to r v.owes
+      ≡ job_in_row r i (home_of q) + owed_to r w.owes)
       → ((h : J → ℕ) → total h w.puts + (total h v.takes + weight_at_home h (home_of p))
       ≡ total h v.puts + (total h w.takes + weight_at_home h (home_of q)))
       → KeepsAccount c (changed s i id q w)
-  turns {c} s a i id v w p q near at same_parts live shows here other weights = record {
-    long = subst (λ n. n < length s'.words) (sym same_homes)
-        (subst (λ n. length s.homes < n) (sym (length-set s.words i (word_of q))) a.long);
+  turns {c} s a i id v w p q near at same_parts live shows here other rows weights = record {
+    long = subst (λ n. length_word n (n / 1024) < length s'.words) (sym same_homes)
+        (subst (λ n. length_word (length s.homes) (length s.homes / 1024) < n)
+        (sym (length-set s.words i (word_of q))) a.long);
+    few = subst (λ n. n + c < 2 ^ 33) (sym same_homes) a.few;
     each = λ j h. pick j h (ℕ_discrete j i);
+    lengths = subst (Lengths s') (sym same_homes) lengths;
     balance = balance;
     whole =
         (let t = total_set (λ u. u.parts) s.views id v w at in let n = a.whole in omega arith);
@@ -103,6 +121,16 @@ module _ {J : Type 0} where
           let old = a.each j (subst (λ n. j < n) same_homes h) in
           (old.0, far j ne old.0 old.1)
 
+      lengths : Lengths s' (length s.homes)
+      lengths r h =
+          let t = total_set (λ u. owed_to r u.owes) s.views id v w at in
+          let u =
+          total_at_set (job_in_row r) 0 s.homes i i (home_of p) (home_of q) (omega arith) shows.1 in
+          let b = a.lengths r h in
+          let d = rows r in
+          get_or-set_other s.words i (length_word (length s.homes) r) (word_of q) 0
+          (λ e. omega arith) ∙ (omega arith)
+
       balance : (h : J → ℕ) → total (λ u. total h u.puts) s'.views
           ≡ total (λ u. total h u.takes) s'.views + total (weight_at_home h) s'.homes
       balance h =
@@ -113,15 +141,87 @@ module _ {J : Type 0} where
           let e = a.balance h in
           omega arith
 
-  -- the views change, and what they name and add up to stays
+  -- one length changes, and what one view owes
+  abbrev recounted : St J → ℕ → ℕ → ℕ → View J → St J
+  recounted s r m id w = record {
+    words = set s.words (length_word (length s.homes) r) m;
+    homes = s.homes;
+    views = set s.views id w;
+  }
+
+  -- the length of a row is what it is to be
+  abbrev Counts : St J → ℕ → Type 0
+  Counts s r =
+      get_or s.words (length_word (length s.homes) r) 0
+      ≡ total_at (job_in_row r) 0 s.homes + total (λ v. owed_to r v.owes) s.views
+
+  counted : {c : ℕ} (s : St J) → KeepsAccount c s → (r m id : ℕ) (v w : View J)
+      → r ≤ length s.homes / 1024 → get_elem? s.views id ≡ some v → w.parts ≡ v.parts
+      → 0 < v.parts → w.busy ≡ v.busy → w.puts ≡ v.puts → w.takes ≡ v.takes
+      → m + owed_to r v.owes
+      ≡ get_or s.words (length_word (length s.homes) r) 0 + owed_to r w.owes
+      → ((j : ℕ) → j ≢ r → owed_to j w.owes ≡ owed_to j v.owes)
+      → KeepsAccount c (recounted s r m id w)
+  counted {c} s a r m id v w low at same_parts live same_busy same_puts same_takes here other =
+      record {
+        long = subst (λ n. length_word (length s.homes) (length s.homes / 1024) < n)
+            (sym (length-set s.words (length_word (length s.homes) r) m)) a.long;
+        few = a.few;
+        each = λ i near.
+            let el = a.each i near in
+            let t = total_set (λ u. names i u.busy) s.views id v w at in
+            let b : names i w.busy ≡ names i v.busy = ap (names i) same_busy in
+            let n = el.1.2 in (
+              el.0,
+              (
+                get_or-set_other s.words (length_word (length s.homes) r) i m 0 (λ e. omega arith)
+                    ∙ el.1.0,
+                el.1.1,
+                omega arith,
+              ),
+            );
+        lengths = λ j h. at_row j h (ℕ_discrete j r);
+        balance = λ h.
+            let x = total_set (λ u. total h u.puts) s.views id v w at in
+            let y = total_set (λ u. total h u.takes) s.views id v w at in
+            let d : total h w.puts ≡ total h v.puts = ap (total h) same_puts in
+            let e : total h w.takes ≡ total h v.takes = ap (total h) same_takes in
+            let f = a.balance h in
+            omega arith;
+        whole =
+            (let t = total_set (λ u. u.parts) s.views id v w at in
+            let n = a.whole in
+            omega arith);
+        spent = spent_set s.views id w (omega arith) a.spent;
+      }
+    where
+      at_row : (j : ℕ) → j ≤ length s.homes / 1024 → Dec (j ≡ r) → Counts (recounted s r m id w) j
+      at_row j h (yes e) =
+          subst (Counts (recounted s r m id w)) (sym e)
+          (let t = total_set (λ u. owed_to r u.owes) s.views id v w at in
+          let b = a.lengths r low in
+          let l = a.long in
+          get_or-set_same s.words (length_word (length s.homes) r) m 0 (omega arith)
+          ∙ (omega arith))
+      at_row j h (no ne) =
+          let t = total_set (λ u. owed_to j u.owes) s.views id v w at in
+          let b = a.lengths j h in
+          let d = other j ne in
+          get_or-set_other s.words (length_word (length s.homes) r)
+          (length_word (length s.homes) j) m 0 (λ e. ne (omega arith)) ∙ (omega arith)
+
+  -- the views change, and what they name, owe and add up to stays
   reseated : {c : ℕ} (s : St J) → KeepsAccount c s → (vs : List (View J))
       → total (λ u. u.parts) vs ≡ total (λ u. u.parts) s.views → Spent vs
       → ((i : ℕ) → total (λ u. names i u.busy) vs ≡ total (λ u. names i u.busy) s.views)
+      → ((r : ℕ) → total (λ u. owed_to r u.owes) vs ≡ total (λ u. owed_to r u.owes) s.views)
       → ((h : J → ℕ) → total (λ u. total h u.puts) vs ≡ total (λ u. total h u.puts) s.views)
       → ((h : J → ℕ) → total (λ u. total h u.takes) vs ≡ total (λ u. total h u.takes) s.views)
       → KeepsAccount c record { words = s.words; homes = s.homes; views = vs }
-  reseated {c} s r vs parts spent named put taken = record {
+  reseated {c} s r vs parts spent named owed put taken = record {
     long = r.long;
+    few = r.few;
+    lengths = λ k h. let a = owed k in let b = r.lengths k h in omega arith;
     each = λ i near. let el = r.each i near in (el.0, (el.1.0, el.1.1, named i ∙ el.1.2));
     balance =
         λ h. let a = put h in let b = taken h in let c = r.balance h in omega arith;
@@ -130,7 +230,7 @@ module _ {J : Type 0} where
   }
 
   -- only the notes of one view change
-  stays : {c : ℕ} (s : St J) → KeepsAccount c s → (i id : ℕ) (v : View J) (t : Notes)
+  pub stays : {c : ℕ} (s : St J) → KeepsAccount c s → (i id : ℕ) (v : View J) (t : Notes)
       → 0 < v.parts → get_elem? s.views id ≡ some v
       → KeepsAccount c record {
         words = set s.words i (get_or s.words i 0);
@@ -144,7 +244,8 @@ module _ {J : Type 0} where
       subst (λ ws. KeepsAccount c record { words = ws; homes = s.homes; views = vs })
       (sym (set-get_or s.words i 0))
       (reseated s r vs (same (λ u. u.parts) refl) (spent_set s.views id (noted v t) live r.spent)
-      (λ i. same (λ u. names i u.busy) refl) (λ h. same (λ u. total h u.puts) refl)
+      (λ i. same (λ u. names i u.busy) refl) (λ k. same (λ u. owed_to k u.owes) refl)
+      (λ h. same (λ u. total h u.puts) refl)
       (λ h. same (λ u. total h u.takes) refl))
 
   is_empty : (p : Phase J) → word_of p ≡ 0 → Path (Phase J) p empty
@@ -166,25 +267,27 @@ module _ {J : Type 0} where
   taken : {c : ℕ} (s : St J) → KeepsAccount c s → (i id : ℕ) (v w : View J) (p : Phase J)
       → i < length s.homes → get_elem? s.views id ≡ some v → w.parts ≡ v.parts → 0 < v.parts
       → v.busy ≡ None → w.busy ≡ Some i → namers_of p ≡ 0 → Shows s i p
+      → ((r : ℕ) → job_in_row r i (home_of p) + owed_to r v.owes ≡ owed_to r w.owes)
       → ((h : J → ℕ) → total h w.puts + (total h v.takes + weight_at_home h (home_of p))
       ≡ total h v.puts + total h w.takes)
       → KeepsAccount c (changed s i id busy w)
-  taken {c} s r i id v w p near at same_parts live rests works none_names shows weights =
+  taken {c} s r i id v w p near at same_parts live rests works none_names shows rows weights =
       turns s r i id v w p busy near at same_parts live shows
       (let a : names i w.busy ≡ 1 = ap (names i) works ∙ names_same i in
       let b : names i v.busy ≡ 0 = ap (names i) rests in
       omega arith)
       (λ j ne. ap (names j) works ∙ names_other i j ne ∙ sym (ap (names j) rests))
-      (λ h. let a = weights h in omega arith)
+      (λ r. let a = rows r in omega arith) (λ h. let a = weights h in omega arith)
 
   -- the seat that works on an element gives it back
   returned : {c : ℕ} (s : St J) → KeepsAccount c s → (i id : ℕ) (v w : View J) (q : Phase J)
       → i < length s.homes → get_elem? s.views id ≡ some v → w.parts ≡ v.parts → 0 < v.parts
       → v.busy ≡ Some i → w.busy ≡ None → namers_of q ≡ 0
+      → ((r : ℕ) → owed_to r v.owes ≡ job_in_row r i (home_of q) + owed_to r w.owes)
       → ((h : J → ℕ) → total h w.puts + total h v.takes
       ≡ total h v.puts + (total h w.takes + weight_at_home h (home_of q)))
       → KeepsAccount c (changed s i id q w)
-  returned {c} s r i id v w q near at same_parts live works rests none_names weights =
+  returned {c} s r i id v w q near at same_parts live works rests none_names rows weights =
       let el = r.each i near in
       let one : names i v.busy ≡ 1 = ap (names i) works ∙ names_same i in
       let few = at_most_total (λ u. names i u.busy) s.views id v at in
@@ -193,13 +296,13 @@ module _ {J : Type 0} where
       turns s r i id v w busy q near at same_parts live shows
       (let b : names i w.busy ≡ 0 = ap (names i) rests in omega arith)
       (λ j ne. ap (names j) rests ∙ sym (ap (names j) works ∙ names_other i j ne))
-      (λ h. let a = weights h in omega arith)
+      (λ r. let a = rows r in omega arith) (λ h. let a = weights h in omega arith)
 
   pub claim_in_keeps : {c : ℕ} (shift : ℕ → ℕ) (n id : ℕ) (me : Sat J) (i : ℕ) → i < n
-      → 0 < me.0.parts → me.0.busy ≡ None
+      → 0 < me.0.parts → me.0.busy ≡ None → me.0.owes ≡ None
       → Allows (KeepsAccount c) n id me i (λ y. either (eqb y 0) 1 y)
       (claims_in shift (step n i 0 1 none) me)
-  claim_in_keeps {c} shift n id me i near live idle s r wide at _ =
+  claim_in_keeps {c} shift n id me i near live idle owes_none s r wide at _ =
       let y : ℕ = get_or s.words i 0 in
       let told = claims_in shift (step n i 0 1 none) me y in
       let near' : i < length s.homes = subst (λ m. i < m) (sym wide) near in
@@ -208,12 +311,14 @@ module _ {J : Type 0} where
       (λ hit.
       let is = is_empty el.0 (sym el.1.0 ∙ hit) in
       let t : Notes = moved shift (claimed i 0 0 me.0.notes) in
-      let w : View J = view_of me.0.parts me.0.puts me.0.takes (Some i) t in
+      let w : View J = view_of me.0.parts me.0.puts me.0.takes (Some i) None t in
       let sh : Shows s i empty = subst (Shows s i) is el.1 in (
         w,
         takes i None,
         sh.1,
-        taken s r i id me.0 w empty near' at refl live idle refl refl sh (λ h. omega arith),
+        taken s r i id me.0 w empty near' at refl live idle refl refl sh
+            (λ k. let a : owed_to k me.0.owes ≡ 0 = ap (owed_to k) owes_none in omega arith)
+            (λ h. omega arith),
         ((λ _. (refl, refl)), λ miss. absurd (miss hit)),
       ))
       (λ miss.
@@ -227,10 +332,11 @@ module _ {J : Type 0} where
 
   pub make_ready_keeps : {c : ℕ} (n id : ℕ) (me : Sat J) (i : ℕ) (x : J)
       (more : List (ℕ × Option J)) → i < n → 0 < me.0.parts → me.0.busy ≡ Some i
-      → me.1 ≡ (i, Some x) ∷ more
+      → me.0.owes ≡ Some i → me.1 ≡ (i, Some x) ∷ more
       → Allows (KeepsAccount c) n id me i (λ _. 2) (λ _. makes_ready (step n i 2 0 none) me 2)
-  make_ready_keeps {c} n id me i x more near live works has s r wide at _ =
-      let w : View J = view_of me.0.parts (me.0.puts ++ x ∷ []) me.0.takes None me.0.notes in
+  make_ready_keeps {c} n id me i x more near live works owed has s r wide at _ =
+      let w : View J =
+      view_of me.0.parts (me.0.puts ++ x ∷ []) me.0.takes None None me.0.notes in
       let near' : i < length s.homes = subst (λ m. i < m) (sym wide) near in
       subst
       (λ (out : List (ℕ × Option J)).
@@ -239,15 +345,16 @@ module _ {J : Type 0} where
         gives,
         tt,
         returned s r i id me.0 w (ready x) near' at refl live works refl refl
+            (λ k. let a : owed_to k me.0.owes ≡ in_row k i = ap (owed_to k) owed in omega arith)
             (λ h. let a = total_last h me.0.puts x in omega arith),
         (x, refl, refl, refl),
       )
 
   pub claim_out_keeps : {c : ℕ} (shift : ℕ → ℕ) (n id : ℕ) (me : Sat J) (i : ℕ) → i < n
-      → 0 < me.0.parts → me.0.busy ≡ None
+      → 0 < me.0.parts → me.0.busy ≡ None → me.0.owes ≡ None
       → Allows (KeepsAccount c) n id me i (λ y. either (eqb y 2) 1 y)
       (claims_out shift (step n i 2 1 none) me)
-  claim_out_keeps {c} shift n id me i near live idle s r wide at _ =
+  claim_out_keeps {c} shift n id me i near live idle owes_none s r wide at _ =
       let y : ℕ = get_or s.words i 0 in
       let told = claims_out shift (step n i 2 1 none) me y in
       let near' : i < length s.homes = subst (λ m. i < m) (sym wide) near in
@@ -257,12 +364,14 @@ module _ {J : Type 0} where
       let is = is_ready el.0 (sym el.1.0 ∙ hit) in
       let x : J = is.0 in
       let t : Notes = moved shift (claimed i 2 2 me.0.notes) in
-      let w : View J = view_of me.0.parts me.0.puts (me.0.takes ++ x ∷ []) (Some i) t in
+      let w : View J =
+      view_of me.0.parts me.0.puts (me.0.takes ++ x ∷ []) (Some i) (Some i) t in
       let sh : Shows s i (ready x) = subst (Shows s i) is.1 el.1 in (
         w,
         takes i (Some x),
         sh.1,
         taken s r i id me.0 w (ready x) near' at refl live idle refl refl sh
+            (λ k. let a : owed_to k me.0.owes ≡ 0 = ap (owed_to k) owes_none in omega arith)
             (λ h. let a = total_last h me.0.takes x in omega arith),
         ((λ _. (x, refl, refl)), λ miss. absurd (miss hit)),
       ))
@@ -279,7 +388,7 @@ module _ {J : Type 0} where
       → i < n → 0 < me.0.parts → me.0.busy ≡ Some i → me.1 ≡ (i, None) ∷ more
       → Allows (KeepsAccount c) n id me i (λ _. 0) (λ _. makes_empty (step n i 0 0 none) me 0)
   make_empty_keeps {c} n id me i more near live works has s r wide at _ =
-      let w : View J = view_of me.0.parts me.0.puts me.0.takes None me.0.notes in
+      let w : View J = view_of me.0.parts me.0.puts me.0.takes None me.0.owes me.0.notes in
       let near' : i < length s.homes = subst (λ m. i < m) (sym wide) near in
       subst
       (λ (out : List (ℕ × Option J)).
@@ -287,7 +396,8 @@ module _ {J : Type 0} where
         w,
         gives,
         tt,
-        returned s r i id me.0 w empty near' at refl live works refl refl (λ h. omega arith),
+        returned s r i id me.0 w empty near' at refl live works refl refl (λ k. omega arith)
+            (λ h. omega arith),
         (refl, refl, refl),
       )
 
@@ -312,6 +422,7 @@ module _ {J : Type 0} where
       (λ t. let is : 1 ≡ u.parts = ap (λ x. x.parts) t in absurd (omega arith))
       (at_snoc vs (fresh 1) u j e))
       (λ i. let a = both (λ u. names i u.busy) in omega arith)
+      (λ k. let a = both (λ u. owed_to k u.owes) in omega arith)
       (λ h. let a = both (λ u. total h u.puts) in omega arith)
       (λ h. let a = both (λ u. total h u.takes) in omega arith)
     where
@@ -320,8 +431,9 @@ module _ {J : Type 0} where
 
   -- a view takes in another's account
   pub take_in_keeps : {c : ℕ} (id other : ℕ) (v w : View J) → 0 < w.parts → v.busy ≡ None
-      → w.busy ≡ None → Joins (KeepsAccount c) id v other w (together v w) nothing
-  take_in_keeps {c} id other v w live rests rests' s r at apart at' =
+      → w.busy ≡ None → v.owes ≡ None → w.owes ≡ None
+      → Joins (KeepsAccount c) id v other w (together v w) nothing
+  take_in_keeps {c} id other v w live rests rests' owes_none owes_none' s r at apart at' =
       let b = together v w in
       let vs = set s.views id b in
       let both : (f : View J → ℕ)
@@ -339,6 +451,11 @@ module _ {J : Type 0} where
       let a = both (λ u. names i u.busy) in
       let x : names i v.busy ≡ 0 = ap (names i) rests in
       let y : names i w.busy ≡ 0 = ap (names i) rests' in
+      omega arith)
+      (λ k.
+      let a = both (λ u. owed_to k u.owes) in
+      let x : owed_to k v.owes ≡ 0 = ap (owed_to k) owes_none in
+      let y : owed_to k w.owes ≡ 0 = ap (owed_to k) owes_none' in
       omega arith)
       (λ h.
       let a = both (λ u. total h u.puts) in
@@ -359,5 +476,101 @@ module _ {J : Type 0} where
       reseated s r vs (same (λ u. u.parts) refl)
       (λ j u e partless. ⊎_elim (λ t. r.spent j u t partless) (λ t. sym t)
       (at_snoc s.views nothing u j e))
-      (λ i. same (λ u. names i u.busy) refl) (λ h. same (λ u. total h u.puts) refl)
+      (λ i. same (λ u. names i u.busy) refl) (λ k. same (λ u. owed_to k u.owes) refl)
+      (λ h. same (λ u. total h u.puts) refl)
       (λ h. same (λ u. total h u.takes) refl)
+
+  -- views owe a row no more than there are seats
+  pub owed_few : {c : ℕ} (s : St J) → KeepsAccount c s → (r : ℕ)
+      → total (λ u. owed_to r u.owes) s.views ≤ c
+  owed_few {c} s a r =
+      let b =
+      total_below (λ u. owed_to r u.owes) (λ u. u.parts) s.views
+      (λ j u e. owes_small u (a.spent j u e) (ℕ_discrete u.parts 0)) in
+      let e = a.whole in
+      omega arith
+    where
+      owed_small : (o : Option ℕ) → owed_to r o ≤ 1
+      owed_small None = omega arith
+      owed_small (Some k) = in_row_small r k
+
+      owes_small : (u : View J) → (u.parts ≡ 0 → u ≡ nothing) → Dec (u.parts ≡ 0)
+          → owed_to r u.owes ≤ u.parts
+      owes_small u spent (yes e) =
+          let is : owed_to r u.owes ≡ 0 = ap (λ x. owed_to r x.owes) (spent e) in
+          omega arith
+      owes_small u spent (no ne) =
+          let is = owed_small u.owes in
+          omega arith
+
+  -- no length wraps
+  length_small : {c : ℕ} (s : St J) → KeepsAccount c s → (r : ℕ) → r ≤ length s.homes / 1024
+      → get_or s.words (length_word (length s.homes) r) 0 ≤ 2 ^ 33
+  length_small {c} s a r low =
+      let b = total_at_below (job_in_row r) 0 s.homes (λ n y. one_job n y) in
+      let e = owed_few s a r in
+      let d = a.few in
+      let f = a.lengths r low in
+      omega arith
+    where
+      one_job : (n : ℕ) (y : maybe.Option (Option J)) → job_in_row r n y ≤ 1
+      one_job n none = omega arith
+      one_job n (some None) = omega arith
+      one_job n (some (Some x)) = in_row_small r n
+
+  pub raise_keeps : {c : ℕ} (n id : ℕ) (me : Sat J) (k i : ℕ) → i < n
+      → k ≡ length_word n (i / 1024) → 0 < me.0.parts → me.0.busy ≡ Some i → me.0.owes ≡ None
+      → Allows (KeepsAccount c) n id me k (λ y. (y + 1) % 2 ^ 64) (raises (step n k 1 0 none) me)
+  raise_keeps {c} n id me k i near is live works owes_none s a wide at _ =
+      let m : ℕ = length s.homes in
+      let r : ℕ = i / 1024 in
+      let w : View J =
+      view_of me.0.parts me.0.puts me.0.takes me.0.busy me.0.busy me.0.notes in
+      let wide' : m ≡ n = wide in
+      let low : r ≤ m / 1024 = omega arith in
+      let small = length_small s a r low in
+      let none_yet : owed_to r me.0.owes ≡ 0 = ap (owed_to r) owes_none in
+      let one : owed_to r me.0.busy ≡ 1 = ap (owed_to r) works ∙ in_row_same i in
+      let same : k ≡ length_word m r = omega arith in
+      let y : ℕ = get_or s.words (length_word m r) 0 in
+      let more : (y + 1) % 2 ^ 64 + owed_to r me.0.owes ≡ y + owed_to r w.owes = omega arith in
+      subst
+      (λ (z : ℕ). Goes c s z id me
+      (λ me'. raises (step n z 1 0 none) me (get_or s.words z 0) me')
+      ((get_or s.words z 0 + 1) % 2 ^ 64)) (sym same) (
+        w,
+        keeps,
+        tt,
+        counted s a r ((y + 1) % 2 ^ 64) id me.0 w low at refl live refl refl refl more
+            (λ j ne. ap (owed_to j) works ∙ in_row_other j i ne ∙ sym (ap (owed_to j) owes_none)),
+        (refl, refl),
+      )
+
+  pub lower_keeps : {c : ℕ} (n id : ℕ) (me : Sat J) (k i : ℕ) → i < n
+      → k ≡ length_word n (i / 1024) → 0 < me.0.parts → me.0.owes ≡ Some i
+      → Allows (KeepsAccount c) n id me k (λ y. (y + (2 ^ 64 - 1)) % 2 ^ 64)
+      (lowers (step n k 1 0 none) me)
+  lower_keeps {c} n id me k i near is live owed s a wide at _ =
+      let m : ℕ = length s.homes in
+      let r : ℕ = i / 1024 in
+      let w : View J = view_of me.0.parts me.0.puts me.0.takes me.0.busy None me.0.notes in
+      let wide' : m ≡ n = wide in
+      let low : r ≤ m / 1024 = omega arith in
+      let small = length_small s a r low in
+      let one : owed_to r me.0.owes ≡ 1 = ap (owed_to r) owed ∙ in_row_same i in
+      let some_left = at_most_total (λ u. owed_to r u.owes) s.views id me.0 at in
+      let here = a.lengths r low in
+      let same : k ≡ length_word m r = omega arith in
+      let y : ℕ = get_or s.words (length_word m r) 0 in
+      let less : (y + (2 ^ 64 - 1)) % 2 ^ 64 + owed_to r me.0.owes ≡ y + 0 = omega arith in
+      subst
+      (λ (z : ℕ). Goes c s z id me
+      (λ me'. lowers (step n z 1 0 none) me (get_or s.words z 0) me')
+      ((get_or s.words z 0 + (2 ^ 64 - 1)) % 2 ^ 64)) (sym same) (
+        w,
+        keeps,
+        tt,
+        counted s a r ((y + (2 ^ 64 - 1)) % 2 ^ 64) id me.0 w low at refl live refl refl refl less
+            (λ j ne. sym (ap (owed_to j) owed ∙ in_row_other j i ne)),
+        (refl, refl),
+      )

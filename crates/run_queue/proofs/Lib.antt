@@ -1,5 +1,7 @@
 pub mod Closing
+pub mod InRows
 pub mod Keeps
+pub mod Lengths
 pub mod Lists
 pub mod Moments
 pub mod Numbers

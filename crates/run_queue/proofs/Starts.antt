@@ -1,5 +1,6 @@
 -- The account of a table with nothing in it.
-use Rattle.std.proofs.Common.{◌≡◌, ℕ, zero, suc, ◌<◌, List, [], ◌∷◌, Option, None, length, map}
+use Rattle.std.proofs.Common.{◌≡◌, ℕ, zero, suc, ◌+◌, ◌/◌, ◌^◌, ◌<◌, List, [], ◌∷◌, Option, None}
+use Rattle.std.proofs.Common.{length, map}
 use Rattle.std.proofs.Common.{get_or, replicate, sym, refl, ap, ◌∙◌, subst, arith}
 use Rattle.std.proofs.lemmas.List.{length-replicate}
 use mathlib.Core.Option.{some, some-injective, some-ne-none}
@@ -9,6 +10,7 @@ use Rattle.atomic_table.specs.Table.{opening}
 use Rattle.run_queue.specs.declared.slot_rows.view.View.{View}
 use Rattle.run_queue.specs.Bag.{total}
 use Rattle.run_queue.specs.Elements.{empty, weight_at_home}
+use Rattle.run_queue.specs.Lengths.{length_word, total_at, job_in_row}
 use Rattle.run_queue.specs.Views.{fresh, nothing}
 use Rattle.run_queue.specs.RowTable.{KeepsAccount}
 
@@ -39,6 +41,12 @@ module _ (J : Type 0) where
       let r = none_home h n in
       omega arith
 
+  none_in_row : (r k n : ℕ) → total_at (job_in_row r) k (homes n) ≡ 0
+  none_in_row r k zero = refl
+  none_in_row r k (suc n) =
+      let t = none_in_row r (suc k) n in
+      omega arith
+
   one_view : (c j : ℕ) (v : View J) → get_elem? (fresh c ∷ []) j ≡ some v → v.parts ≡ 0
       → v ≡ nothing
   one_view c zero v e partless =
@@ -47,13 +55,17 @@ module _ (J : Type 0) where
       sym is ∙ ap fresh none
   one_view c (suc j) v e partless = absurd (some-ne-none v (sym e))
 
-  pub starts : (c m n : ℕ) → n < m
+  pub starts : (c m n : ℕ) → length_word n (n / 1024) < m → n + c < 2 ^ 33
       → KeepsAccount {J = J} c (opening (zeros m) (replicate n None) (fresh c))
-  starts c m n long =
+  starts c m n long few =
       let a : length (homes n) ≡ n = homes_long n in
       let b : length (zeros m) ≡ m = length-replicate m 0 in record {
-        long = subst (λ k. k < length (zeros m)) (sym a) (omega arith);
+        long = subst (λ k. length_word k (k / 1024) < length (zeros m)) (sym a) (omega arith);
+        few = omega arith;
         each = λ i near. (empty, (zeros_at m i, home_at n i (omega arith), refl));
+        lengths = λ r low.
+            let d = none_in_row r 0 n in
+            zeros_at m (length_word (length (homes n)) r) ∙ (omega arith);
         balance = λ h. let c = none_home h n in omega arith;
         whole = omega arith;
         spent = one_view c;

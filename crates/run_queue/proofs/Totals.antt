@@ -71,3 +71,11 @@ names_same i = ap (λ b. if b then 1 else 0) (eq-eqb i i refl)
 
 pub names_other : (i j : ℕ) → j ≢ i → names j (Some i) ≡ 0
 names_other i j other = ap (λ b. if b then 1 else 0) (ne_eqb i j (λ e. other (sym e)))
+
+pub total_below : {A : Type 0} (f g : A → ℕ) (xs : List A)
+    → ((i : ℕ) (x : A) → get_elem? xs i ≡ some x → f x ≤ g x) → total f xs ≤ total g xs
+total_below f g [] le = omega arith
+total_below f g (x ∷ xs) le =
+    let a = le zero x refl in
+    let r = total_below f g xs (λ i y e. le (suc i) y e) in
+    omega arith

@@ -1,6 +1,6 @@
 -- What holds in every state that the rule of a table of rows allows.
-use Rattle.std.specs.Prelude.{◌≡◌, ◌==◌, ◌<◌, ℕ, if◌then◌else◌, List, [], ◌∷◌, ◌++◌, length}
-use Rattle.std.specs.Prelude.{Option, Some, option_to_list, slice_index_or}
+use Rattle.std.specs.Prelude.{◌≡◌, ◌==◌, ◌<◌, ◌≤◌, ℕ, ◌+◌, ◌/◌, if◌then◌else◌, List, [], ◌∷◌}
+use Rattle.std.specs.Prelude.{◌++◌, length, Option, Some, option_to_list, slice_index_or}
 use Rattle.std.specs.List.{flat_map}
 use mathlib.Core.Option.{some, none}
 use mathlib.Core.Option as maybe
@@ -9,6 +9,8 @@ use Rattle.atomic_table.specs.Table.{State}
 use Rattle.run_queue.specs.declared.slot_rows.view.View.{View}
 use Rattle.run_queue.specs.Bag.{SameBag}
 use Rattle.run_queue.specs.Elements.{busy_word, ready_word}
+use Rattle.run_queue.specs.Lengths.{length_word, ready_in}
+use Rattle.run_queue.specs.Limits.{most_jobs}
 
 -- a rule for rows, by the number of their seats
 abbrev Rule : Type 0 → Type 1
@@ -53,3 +55,19 @@ module _ {J : Type 0} where
       (seats : ℕ) (s : State (Option J) (View J)) → holds seats s
       → (element seat : ℕ) → element < length s.homes → Names s.views seat element
       → slice_index_or s.words element 0 ≡ busy_word
+
+  -- the length of a row, as its word says
+  abbrev pub length_in : State (Option J) (View J) → ℕ → ℕ
+  length_in s row = slice_index_or s.words (length_word (length s.homes) row) 0
+
+  -- a row's length is at least the number of its elements whose words say that they are ready
+  abbrev pub LengthsCoverReady : Rule J → Type 0
+  LengthsCoverReady holds =
+      (seats : ℕ) (s : State (Option J) (View J)) → holds seats s
+      → (row : ℕ) → row < length s.homes / most_jobs → ready_in row s.words ≤ length_in s row
+
+  -- a row's length is at most its most jobs and the number of seats
+  abbrev pub LengthsAreBounded : Rule J → Type 0
+  LengthsAreBounded holds =
+      (seats : ℕ) (s : State (Option J) (View J)) → holds seats s
+      → (row : ℕ) → row < length s.homes / most_jobs → length_in s row ≤ most_jobs + seats

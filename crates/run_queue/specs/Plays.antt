@@ -1,8 +1,10 @@
 -- What each step tells the seat that makes it, and on which element it is.
-use Rattle.std.specs.Prelude.{◌≡◌, ◌≢◌, ℕ, [], ◌∷◌, ◌++◌, Option, Some, None}
+use Rattle.std.specs.Prelude.{◌≡◌, ◌≢◌, ◌≤◌, ℕ, ◌+◌, [], ◌∷◌, ◌++◌, Option, Some, None}
 use Rattle.atomic_table.specs.Table.{Me, Step, rest}
 use Rattle.run_queue.specs.declared.slot_rows.view.View.{View}
-use Rattle.run_queue.specs.Views.{claimed, moved, view_of, noted, nothing}
+use Rattle.run_queue.specs.Views.{claimed, looked_at, moved, view_of, noted, nothing}
+use Rattle.run_queue.specs.Lengths.{row_of_length}
+use Rattle.run_queue.specs.Limits.{most_jobs}
 
 -- a seat's view, and the slots that it holds
 abbrev pub Sat : Type 0 → Type 0
@@ -22,17 +24,25 @@ module _ {J : Type 0} where
   abbrev pub claims_in : (ℕ → ℕ) → Told J
   claims_in shift step before found after =
       (found ≡ step.first
-      → (after.0 ≡ view_of before.0.parts before.0.puts before.0.takes (Some step.word)
+      → (after.0 ≡ view_of before.0.parts before.0.puts before.0.takes (Some step.word) None
       (moved shift (claimed step.word step.first step.first before.0.notes)))
       × (after.1 ≡ (step.word, None) ∷ before.1))
       × (found ≢ step.first → misses step before found after)
+
+  -- the length of the row of the element that the seat has is raised
+  abbrev pub raises : Told J
+  raises step before found after =
+      (after.0
+      ≡ view_of before.0.parts before.0.puts before.0.takes before.0.busy before.0.busy
+      before.0.notes)
+      × (after.1 ≡ before.1)
 
   -- the element that the seat has is given back with a job, which is put
   abbrev pub makes_ready : Told J
   makes_ready step before found after =
       (job : J) × (before.1 ≡ (step.word, Some job) ∷ rest before.1)
       × (after.0
-      ≡ view_of before.0.parts (before.0.puts ++ job ∷ []) before.0.takes None before.0.notes)
+      ≡ view_of before.0.parts (before.0.puts ++ job ∷ []) before.0.takes None None before.0.notes)
       × (after.1 ≡ rest before.1)
 
   -- a claim that found the element ready has it, and its slot with the job, which is taken
@@ -41,6 +51,7 @@ module _ {J : Type 0} where
       (found ≡ step.first
       → (job : J) × (after.0
       ≡ view_of before.0.parts before.0.puts (before.0.takes ++ job ∷ []) (Some step.word)
+      (Some step.word)
       (moved shift (claimed step.word step.first step.first before.0.notes)))
       × (after.1 ≡ (step.word, Some job) ∷ before.1))
       × (found ≢ step.first → misses step before found after)
@@ -49,8 +60,23 @@ module _ {J : Type 0} where
   abbrev pub makes_empty : Told J
   makes_empty step before found after =
       (before.1 ≡ (step.word, None) ∷ rest before.1)
-      × (after.0 ≡ view_of before.0.parts before.0.puts before.0.takes None before.0.notes)
+      × (after.0
+      ≡ view_of before.0.parts before.0.puts before.0.takes None before.0.owes before.0.notes)
       × (after.1 ≡ rest before.1)
+
+  -- the length of the row that the seat took a job out of is lowered
+  abbrev pub lowers : Told J
+  lowers step before found after =
+      (after.0
+      ≡ view_of before.0.parts before.0.puts before.0.takes before.0.busy None before.0.notes)
+      × (after.1 ≡ before.1)
+
+  -- a length is looked at: it is at most a row's most jobs and one for each seat
+  abbrev pub looks : ℕ → Told J
+  looks seats step before found after =
+      (after.0
+      ≡ noted before.0 (looked_at (row_of_length step.slots step.word) found before.0.notes))
+      × (after.1 ≡ before.1) × (found ≤ most_jobs + seats)
 
   -- the new seat has no account
   abbrev pub enters : Told J

@@ -2,6 +2,7 @@
 use Rattle.std.specs.Prelude.{◌≡◌, ℕ, ◌+◌, List}
 use Rattle.atomic_table.specs.Seated.{TableId}
 use Rattle.run_queue.specs.declared.slot_rows.view.Claim.{Claim}
+use Rattle.run_queue.specs.declared.slot_rows.view.Look.{Look}
 use Rattle.run_queue.specs.declared.slot_rows.view.Notes.{Notes}
 use Rattle.run_queue.specs.declared.slot_rows.seat.Held.{Held}
 use Rattle.run_queue.specs.declared.slot_rows.seat.SlotSeat.{SlotSeat}
@@ -45,10 +46,23 @@ module _ {J : Type 0} where
   abbrev pub claim_of : SlotSeat J → Claim
   claim_of seat = (notes_in seat.held).claim
 
+  -- how many lengths it looked at, and the last of them
+  abbrev pub looks_of : SlotSeat J → ℕ
+  looks_of seat = (notes_in seat.held).looks
+
+  abbrev pub look_of : SlotSeat J → Look
+  look_of seat = (notes_in seat.held).look
+
   -- it made one claim, which wanted this word
   abbrev pub ClaimedOnce : SlotSeat J → SlotSeat J → ℕ → Type 0
   ClaimedOnce old new wanted =
       (claims_of new ≡ claims_of old + 1) × ((claim_of new).wanted ≡ wanted)
+
+  -- it looked once, at the length of this row, and found this
+  abbrev pub LookedOnce : SlotSeat J → SlotSeat J → ℕ → ℕ → Type 0
+  LookedOnce old new row found =
+      (looks_of new ≡ looks_of old + 1) × ((look_of new).row ≡ row)
+      × ((look_of new).found ≡ found)
 
 module _ {J A : Type 0} where
   -- which rows they are

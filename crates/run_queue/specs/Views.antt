@@ -9,11 +9,13 @@ abbrev pub names : ℕ → Option ℕ → ℕ
 names element None = 0
 names element (Some other) = if other == element then 1 else 0
 
--- no claim yet, and the front at the first position
+-- no claim and no look yet, and the front at the first position
 abbrev pub no_notes : Notes
 no_notes = record {
   claims = 0;
   claim = record { element = 0; wanted = 0; found = 0 };
+  looks = 0;
+  look = record { row = 0; found = 0 };
   front = 0;
 }
 
@@ -22,6 +24,18 @@ abbrev pub claimed : ℕ → ℕ → ℕ → Notes → Notes
 claimed element wanted found notes = record {
   claims = notes.claims + 1;
   claim = record { element = element; wanted = wanted; found = found };
+  looks = notes.looks;
+  look = notes.look;
+  front = notes.front;
+}
+
+-- one look more, which found this length of a row
+abbrev pub looked_at : ℕ → ℕ → Notes → Notes
+looked_at row found notes = record {
+  claims = notes.claims;
+  claim = notes.claim;
+  looks = notes.looks + 1;
+  look = record { row = row; found = found };
   front = notes.front;
 }
 
@@ -30,6 +44,8 @@ abbrev pub moved : (ℕ → ℕ) → Notes → Notes
 moved shift notes = record {
   claims = notes.claims;
   claim = notes.claim;
+  looks = notes.looks;
+  look = notes.look;
   front = shift notes.front;
 }
 
@@ -44,17 +60,23 @@ Missed element wanted old new =
 
 module _ {J : Type 0} where
   -- a view by its parts
-  abbrev pub view_of : ℕ → List J → List J → Option ℕ → Notes → View J
-  view_of parts puts takes busy notes =
-      record { parts = parts; puts = puts; takes = takes; busy = busy; notes = notes }
+  abbrev pub view_of : ℕ → List J → List J → Option ℕ → Option ℕ → Notes → View J
+  view_of parts puts takes busy owes notes = record {
+    parts = parts;
+    puts = puts;
+    takes = takes;
+    busy = busy;
+    owes = owes;
+    notes = notes;
+  }
 
   -- the same view with other notes
   abbrev pub noted : View J → Notes → View J
-  noted view notes = view_of view.parts view.puts view.takes view.busy notes
+  noted view notes = view_of view.parts view.puts view.takes view.busy view.owes notes
 
   -- so many seats' accounts, with nothing in them
   abbrev pub fresh : ℕ → View J
-  fresh parts = view_of parts [] [] None no_notes
+  fresh parts = view_of parts [] [] None None no_notes
 
   -- no seat's account
   abbrev pub nothing : View J
@@ -62,10 +84,11 @@ module _ {J : Type 0} where
 
   -- one account fewer
   abbrev pub after_deal : View J → View J
-  after_deal view = view_of (view.parts - 1) view.puts view.takes view.busy view.notes
+  after_deal view =
+      view_of (view.parts - 1) view.puts view.takes view.busy view.owes view.notes
 
   -- the accounts of two views in one
   abbrev pub together : View J → View J → View J
   together view other =
       view_of (view.parts + other.parts) (view.puts ++ other.puts) (view.takes ++ other.takes)
-      None no_notes
+      None None no_notes

@@ -1,9 +1,9 @@
-ghost use Rattle.std.specs.Prelude.{◌≡◌, ℕ, ◌+◌, ◌<◌, ◌↔◌, List, [], ◌++◌, length, map, All, IfOk};
-ghost use Rattle.std.specs.Prelude.{IfErr, IsErrOf, option_to_list};
+ghost use Rattle.std.specs.Prelude.{◌≡◌, ℕ, ◌+◌, ◌<◌, ◌≤◌, ◌↔◌, List, [], ◌++◌, length, map, All};
+ghost use Rattle.std.specs.Prelude.{IfOk, IfErr, IsErrOf, option_to_list};
 ghost use Rattle.std.specs.List.{range_with_len};
 ghost use Rattle.run_queue.specs.declared.rows.RowsFault.TheVariants.{NoMemory};
 ghost use Rattle.run_queue.specs.Account.{AddsIfOk, AccountsFor};
-ghost use Rattle.run_queue.specs.Limits.{most_rows};
+ghost use Rattle.run_queue.specs.Limits.{most_rows, most_jobs};
 
 use std::alloc::{AllocError, Allocator};
 use std::sync::Wait;
@@ -114,10 +114,12 @@ pub trait Rows<J, A: Allocator>: Sized + Drop {
         ensures takes { keeps_accounts →
             takes_of seat.new ≡ takes_of seat.old ++ option_to_list result };
 
-    /// How many jobs are in a row. Other threads may change it at once.
+    /// How many jobs are in a row. Other threads may change it at once. A job that a seat is about
+    /// to put or take may be counted too.
     fn row_length<R: Wait>(&self, rt: &R, seat: &mut Self::Seat, row: u16) -> u64
         requires ours { rows_of seat.old ≡ identity_of self.now }
         requires row { row < row_count self.now }
+        ensures few { result ≤ most_jobs + seat_count self.now }
         ensures rows { rows_of seat.new ≡ rows_of seat.old }
         ensures number { number_of seat.new ≡ number_of seat.old }
         ensures puts { keeps_accounts → puts_of seat.new ≡ puts_of seat.old }

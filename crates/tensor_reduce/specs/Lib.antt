@@ -11,4 +11,3 @@ pub mod Plan
 pub mod Steps
 -- for private clauses alone
 pub mod Cutting
-pub mod Running

@@ -1,12 +1,10 @@
 //! Working out a plan.
 
 ghost use Rattle.std.specs.Prelude.{◌≡◌, ◌<◌, ◌↔◌, ◌++◌, IfOk, IfErr, IsErrOf};
-ghost use Rattle.tensor_ops.specs.Legal.{most_elements};
 ghost use Rattle.tensor_ops.specs.Value.{tensor_of};
 ghost use Rattle.parallel_for.specs.Setup.{IsPoolSize, IsNoPoolSize, AreNoPartitions};
 ghost use Rattle.tensor_reduce.specs.Plan.{steps_in, term_of_step, terms_in, worked_out};
 ghost use Rattle.tensor_reduce.specs.Plan.{last_tensor, IsReady, AreReady};
-ghost use Rattle.tensor_reduce.specs.Running.{IsFoundAtWork};
 
 use crate::plan::Plan;
 use crate::step::Step;
@@ -23,7 +21,7 @@ use tensor_ops::{Inputs, Tensor};
 /// # Errors
 ///
 /// The first by number: [`ForFault::BadBlock`] for a block of 0, [`ForFault::Pool`] for a setup that
-/// makes no pool, then want of memory, or that a step has lost some of its values.
+/// makes no pool, then want of memory.
 pub fn run_plan<RT: Threads + Wait + Sync>(
     rt: &RT,
     alloc: Global,
@@ -43,9 +41,6 @@ pub fn run_plan<RT: Threads + Wait + Sync>(
         ↔ ((0 < block) × IsPoolSize setup.now.workers
         × AreNoPartitions setup.now.workers setup.now.partitions.items) }
     ensures no_other { IsErrOf result (ForFault.Pool PoolFault.NoMemory) → ⊥ }
-
-    // A step of one leaf isn't lost.
-    ensures lost { IsErrOf result ForFault.Lost → block < most_elements }
 {
     if block == 0 {
         return Err(ForFault::BadBlock);
@@ -71,7 +66,7 @@ fn work_out<RT: Threads + Wait + Sync>(
     requires partitions { AreNoPartitions setup.now.workers setup.now.partitions.items → ⊥ }
     ensures tensor { IfOk result (λ t.
         t ≡ last_tensor (worked_out (terms_in (steps_in plan.now)) inputs.now)) }
-    ensures faults { IfErr result (IsFoundAtWork block) }
+    ensures faults { IfErr result (λ fault. fault ≡ ForFault.NoMemory) }
 {
     let steps = plan.steps();
     let mut tensors = Vec::with_capacity(alloc, steps.len())?;
@@ -101,7 +96,7 @@ fn work_out_step<RT: Threads + Wait + Sync>(
     requires partitions { AreNoPartitions setup.now.workers setup.now.partitions.items → ⊥ }
     ensures tensor { IfOk result (λ t.
         t ≡ tensor_of (term_of_step step.now) (inputs.now ++ earlier.now)) }
-    ensures faults { IfErr result (IsFoundAtWork block) }
+    ensures faults { IfErr result (λ fault. fault ≡ ForFault.NoMemory) }
 {
     let kernel = StepKernel::of(alloc, step, inputs, earlier)?;
     let dims = step.dims().copied();

@@ -1,5 +1,5 @@
 -- The answer of what was read of a text.
-use Rattle.std.proofs.Common.{◌≡◌, ℕ, ◌<◌, List, Err, length, take, refl, ap, sym, subst}
+use Rattle.std.proofs.Common.{◌≡◌, ℕ, ◌<◌, List, Err, length, take, refl, ap, sym}
 use Rattle.std.proofs.Common.{◌∙◌, inl, inr, arith}
 use Rattle.std.proofs.Math.Decide.{dec_le}
 use Rattle.std.proofs.Math.Nat.{lt_of_not-le}
@@ -8,7 +8,7 @@ use Rattle.std.proofs.lemmas.List.{take_all, length-take-le}
 use Rattle.expr_reader.specs.Limits.{most_bytes}
 use Rattle.expr_reader.specs.Request.{request_of}
 use Rattle.expr_reader.specs.declared.fault.Fault.TheVariants.{TooLong}
-use Rattle.tensor_runner.specs.Answer.{Answer, answer_of, answer_from, MayBeLost, IsAnswerTo}
+use Rattle.tensor_runner.specs.Answer.{Answer, answer_of, answer_from, IsAnswerTo}
 
 -- too long a text, whatever it says
 request_of-long : (text : List ℕ) → most_bytes < length text → request_of text ≡ Err TooLong
@@ -28,6 +28,4 @@ answer_of-take n text more = ap answer_from (request_of-take n text more)
 
 pub IsAnswerTo-take : (n : ℕ) (text : List ℕ) (a : Answer) → most_bytes < n → IsAnswerTo (take n text) a → IsAnswerTo text a
 IsAnswerTo-take n text a more (inl own) = inl (own ∙ answer_of-take n text more)
-IsAnswerTo-take n text a more (inr (inl memory)) = inr (inl memory)
-IsAnswerTo-take n text a more (inr (inr lost)) =
-    inr (inr (subst MayBeLost (request_of-take n text more) lost.0, lost.1))
+IsAnswerTo-take n text a more (inr memory) = inr memory

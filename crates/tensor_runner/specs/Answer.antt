@@ -1,5 +1,5 @@
 -- The answer of a text, and its line.
-use Rattle.std.specs.Prelude.{◌≡◌, ◌<◌, ◌⊎◌, ℕ, ℤ, pos, List, [], ◌∷◌, ◌++◌, map, codes, decimal}
+use Rattle.std.specs.Prelude.{◌≡◌, ◌⊎◌, ℕ, ℤ, pos, List, [], ◌∷◌, ◌++◌, map, codes, decimal}
 use Rattle.std.specs.Prelude.{Result, Ok, Err}
 use Rattle.std.specs.Fmt.{signed_decimal}
 use Rattle.std.specs.List.{join_with_byte}
@@ -9,15 +9,13 @@ use Rattle.expr_reader.specs.Request.{Asked, request_of}
 use Rattle.expr_reader.specs.Value.{tensor_of}
 use Rattle.expr_reader.specs.declared.fault.Fault.{Fault}
 use Rattle.expr_reader.specs.declared.fault.Fault.TheVariants.{NoMemory}
-use Rattle.tensor_ops.specs.Legal.{most_elements}
 use Rattle.tensor_runner.specs.declared.status.Status.{Status}
 use Rattle.tensor_runner.specs.declared.status.Status.TheVariants as status
 
--- a tensor, a fault, or that values of a tensor were lost between the workers
+-- a tensor or a fault
 pub data Answer : Type 0 where
   tensor : Contents → Answer
   fault : Fault → Answer
-  lost : Answer
 
 -- the tensor that a request asks for
 abbrev pub asked_tensor : Asked → Contents
@@ -43,27 +41,15 @@ tensor_line t =
 abbrev pub fault_line : Fault → List ℕ
 fault_line f = codes "error " ++ decimal (fault_number f) ++ 32 ∷ fault_name f ++ 10 ∷ []
 
-abbrev pub lost_line : List ℕ
-lost_line = codes "error 18 Lost" ++ 10 ∷ []
-
 -- the line that answers, with its line feed
 abbrev pub line_of : Answer → List ℕ
 line_of (tensor t) = tensor_line t
 line_of (fault f) = fault_line f
-line_of lost = lost_line
 
 abbrev pub status_of : Answer → Status
 status_of (tensor t) = status.Tensor
 status_of (fault f) = status.Fault
-status_of lost = status.Fault
 
--- whether values of a request's tensor may be lost between the workers: one block may not hold it
-abbrev pub MayBeLost : Result Asked Fault → Type 0
-MayBeLost (Ok asked) = asked.block < most_elements
-MayBeLost (Err f) = ⊥
-
--- the answer of the text, or want of memory, or, where the text has a tensor of more than one block,
--- that values were lost
+-- the answer of the text, or want of memory
 abbrev pub IsAnswerTo : List ℕ → Answer → Type 0
-IsAnswerTo text a = (a ≡ answer_of text)
-    ⊎ ((a ≡ fault NoMemory) ⊎ (MayBeLost (request_of text) × (a ≡ lost)))
+IsAnswerTo text a = (a ≡ answer_of text) ⊎ (a ≡ fault NoMemory)

@@ -5,11 +5,10 @@ use Rattle.serde_json.specs.Data.{Data, Items, number}
 use Rattle.serde_json.specs.View.{items_of}
 use Rattle.serde_json.specs.Find.{of_integer}
 use Rattle.expr_reader.specs.Contents.{Contents}
-use Rattle.tensor_runner.specs.Answer.{Answer, tensor, fault, lost, answer_of, line_of, status_of}
+use Rattle.tensor_runner.specs.Answer.{Answer, tensor, fault, answer_of, line_of, status_of}
 use Rattle.tensor_runner.specs.Answer.{IsAnswerTo, numbers_text, tensor_line}
+use Rattle.expr_reader.specs.declared.fault.Fault.{Fault}
 use Rattle.tensor_runner.specs.declared.answer.Line.{Line}
-use Rattle.tensor_runner.specs.declared.refusal.Refusal.{Refusal}
-use Rattle.tensor_runner.specs.declared.refusal.Refusal.TheVariants.{Text, Lost}
 
 -- a number as JSON
 abbrev pub integer : ℤ → Data
@@ -23,10 +22,9 @@ bracketed xs = 91 ∷ (numbers_text xs ++ 93 ∷ [])
 abbrev pub integers : List ℤ → Items
 integers xs = items_of (map integer xs)
 
--- the answer where there is no tensor
-abbrev pub answer_under : Refusal → Answer
-answer_under (Text f) = fault f
-answer_under Lost = lost
+-- the fault answers the text
+abbrev pub IsFaultOf : List ℕ → Fault → Type 0
+IsFaultOf text f = IsAnswerTo text (fault f)
 
 -- the line of the text's tensor
 pub record IsLineOfTensor (text line : List ℕ) : Type 0 where

@@ -2,11 +2,10 @@
 
 ghost use Rattle.std.specs.Prelude.{◌≡◌, ◌⊎◌, MatchResult};
 ghost use Rattle.std.specs.Cow.{cow_slice_items};
-ghost use Rattle.tensor_runner.specs.Answer.{fault_line, lost_line, IsAnswerTo};
-ghost use Rattle.tensor_runner.specs.Line.{IsLineFor, IsLineOfTensor, answer_under};
+ghost use Rattle.tensor_runner.specs.Answer.{fault_line};
+ghost use Rattle.tensor_runner.specs.Line.{IsLineFor, IsLineOfTensor, IsFaultOf};
 
 use crate::evaluation::eval;
-use crate::refusal::Refusal;
 use crate::status::{RunFault, Status};
 use crate::text::push_tensor;
 use expr_reader::{Fault, read_request};
@@ -17,9 +16,6 @@ use std::thread::Threads;
 
 /// The line where there is no memory, which takes none.
 const NO_MEMORY: &[u8] = b"error 15 NoMemory\n";
-
-/// The line where values were lost between the workers.
-const LOST: &[u8] = b"error 18 Lost\n";
 
 /// A line with its line feed, and what it says.
 #[derive(Drop)]
@@ -37,8 +33,7 @@ pub(crate) fn answer<RT: Threads + Wait + Sync>(rt: &RT, alloc: Global, text: Ve
             bytes: CowSlice::Owned(line),
             status: Status::Tensor,
         },
-        Err(Refusal::Text(fault)) => refusal(alloc, fault),
-        Err(Refusal::Lost) => lost(),
+        Err(fault) => refusal(alloc, fault),
     }
 }
 
@@ -53,41 +48,26 @@ pub(crate) fn no_memory() -> Line
     }
 }
 
-/// The line that values were lost, which takes no memory.
-fn lost() -> Line
-    ensures bytes { cow_slice_items result.bytes ≡ lost_line }
-    ensures status { result.status ≡ Status.Fault }
-{
-    Line {
-        bytes: CowSlice::Borrowed(LOST),
-        status: Status::Fault,
-    }
-}
-
 /// The line of a tensor, or why there is none. The line takes the text's place, which isn't needed
 /// any more once it is read.
 fn tensor_of<RT: Threads + Wait + Sync>(
     rt: &RT,
     alloc: Global,
     text: Vec<u8>,
-) -> Result<Vec<u8>, Refusal>
+) -> Result<Vec<u8>, Fault>
     ensures { MatchResult result (λ line. IsLineOfTensor text.items line.items)
-        (λ refusal. IsAnswerTo text.items (answer_under refusal)) }
+        (IsFaultOf text.items) }
 {
-    let request = match read_request(alloc, text.as_slice()) {
-        Ok(request) => request,
-        Err(fault) => return Err(Refusal::Text(fault)),
-    };
+    let request = read_request(alloc, text.as_slice())?;
     let tensor = match eval(rt, alloc, &request) {
         Ok(tensor) => tensor,
-        Err(RunFault::NoMemory) => return Err(Refusal::Text(Fault::NoMemory)),
-        Err(RunFault::Lost) => return Err(Refusal::Lost),
+        Err(RunFault::NoMemory) => return Err(Fault::NoMemory),
     };
     let mut line = text;
     line.clear();
     match push_tensor(alloc, &tensor, &mut line) {
         Ok(()) => Ok(line),
-        Err(_) => Err(Refusal::Text(Fault::NoMemory)),
+        Err(_) => Err(Fault::NoMemory),
     }
 }
 

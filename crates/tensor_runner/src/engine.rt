@@ -20,9 +20,8 @@ use std::thread::Threads;
 pub const MOST_READ: usize = 16_777_217;
 
 /// Reads a request text to its end, or to its first [`MOST_READ`] bytes, and writes the line that
-/// answers it: the tensor, or the first fault. The tensor is worked out by the request's workers;
-/// where values were lost between them the line is `error 18 Lost`. No memory is taken from the
-/// first write on; where there is none before it, the line says so.
+/// answers it: the tensor, which the request's workers work out, or the first fault. No memory is
+/// taken from the first write on; where there is none before it, the line says so.
 ///
 /// # Errors
 ///

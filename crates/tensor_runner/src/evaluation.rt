@@ -1,8 +1,7 @@
 //! The tensor of a request.
 
-ghost use Rattle.std.specs.Prelude.{◌≡◌, ◌<◌, IfOk, IsErrOf};
+ghost use Rattle.std.specs.Prelude.{◌≡◌, IfOk};
 ghost use Rattle.expr_reader.specs.Asked.{asked_under};
-ghost use Rattle.tensor_ops.specs.Legal.{most_elements};
 ghost use Rattle.tensor_runner.specs.Answer.{asked_tensor};
 
 use crate::status::RunFault;
@@ -28,15 +27,13 @@ impl From<AllocError> for RunFault {
 ///
 /// # Errors
 ///
-/// [`RunFault::NoMemory`], where a growth of memory was refused. [`RunFault::Lost`], where values
-/// that workers had worked out didn't all come back, which can't be where one block holds them all.
+/// [`RunFault::NoMemory`], where a growth of memory was refused.
 pub fn eval<RT: Threads + Wait + Sync>(
     rt: &RT,
     alloc: Global,
     request: &Request,
 ) -> Result<Tensor, RunFault>
     ensures tensor { IfOk result (λ t. t ≡ asked_tensor (asked_under request.now)) }
-    ensures lost { IsErrOf result RunFault.Lost → request.now.block < most_elements }
 {
     let plan = Plan::of(alloc, &request.expr, &request.inputs)?;
     let setup = Setup {
@@ -46,7 +43,6 @@ pub fn eval<RT: Threads + Wait + Sync>(
     match run_plan(rt, alloc, &setup, request.block, &plan, &request.inputs) {
         Ok(tensor) => Ok(tensor),
         Err(ForFault::NoMemory) => Err(RunFault::NoMemory),
-        Err(ForFault::Lost) => Err(RunFault::Lost),
         Err(ForFault::BadBlock | ForFault::Pool(_)) => unreachable!(),
     }
 }

@@ -7,7 +7,6 @@ mod ending;
 mod engine;
 mod evaluation;
 mod reading;
-mod refusal;
 mod sink;
 mod source;
 mod status;

@@ -19,9 +19,6 @@ pub enum RunFault {
     /// A growth of memory was refused.
     #[error("error 15 NoMemory")]
     NoMemory = 15,
-    /// Values that workers had worked out were lost on the way back.
-    #[error("error 18 Lost")]
-    Lost = 18,
 }
 
 /// Why no whole line was written.

@@ -19,18 +19,24 @@ use std::alloc::Allocator;
 
 impl<J: Drop, A: Allocator> SlotRows<J, A> {
     /// Ends the rows, given all their seats, and hands out the jobs that are left, in any order.
-    pub(crate) fn close(self, mut seats: Vec<SlotSeat<J>, A>) -> Vec<J, A>
+    pub fn close(self, mut seats: Vec<SlotSeat<J>, A>) -> Vec<J, A>
         requires ours { All (λ s. table_of s ≡ rows_id self) seats.items }
         requires all { length seats.items ≡ seat_count_of self }
         ensures account { AccountsFor puts_of takes_of seats.items result.items }
     {
-        let SlotRows {
-            table,
-            mut left,
-            ..
-        } = self;
+        self.close_with(&mut seats)
+    }
+
+    // The same, and the seats are taken out of the list.
+    pub(crate) fn close_with(self, seats: &mut Vec<SlotSeat<J>, A>) -> Vec<J, A>
+        requires ours { All (λ s. table_of s ≡ rows_id self) seats.old.items }
+        requires all { length seats.old.items ≡ seat_count_of self }
+        ensures account { AccountsFor puts_of takes_of seats.old.items result.items }
+    {
+        let SlotRows { table, left, .. } = self;
+        let mut left = left.into_list();
         let (_, mut last) = table.shared.load_new_seat::<Enters>(0);
-        gather(&table.shared, &mut last, &mut seats);
+        gather(&table.shared, &mut last, seats);
         drain(table.close_with(last), &mut left);
         left
     }

@@ -1,24 +1,27 @@
-//! The four ends of rows of slots. Each call makes one claim.
-ghost use Rattle.std.specs.Prelude.{◌≡◌, ◌≢◌, ◌↔◌, ◌<◌, ◌++◌, option_to_list};
+//! The four ends of rows of slots, and their lengths. A call at an end makes one claim.
+ghost use Rattle.std.specs.Prelude.{◌≡◌, ◌≢◌, ◌↔◌, ◌<◌, ◌≤◌, ◌+◌, ◌++◌, option_to_list};
 ghost use Rattle.std.specs.Prelude.{IfErr, IsErr, IsNone, OnOk, OnErr, OnSome, IfNone};
 ghost use Rattle.run_queue.specs.Account.{AddsIfOk};
 ghost use Rattle.run_queue.specs.Elements.{empty_word, ready_word};
+ghost use Rattle.run_queue.specs.Limits.{most_jobs};
 ghost use Rattle.run_queue.specs.Positions.{position_after, position_before, element_at};
 ghost use Rattle.run_queue.specs.Positions.{row_with};
-ghost use Rattle.run_queue.specs.SlotSeats.{rows_id, row_count_of, table_of, number_in, puts_of};
-ghost use Rattle.run_queue.specs.SlotSeats.{takes_of, front_of, claim_of, ClaimedOnce};
+ghost use Rattle.run_queue.specs.SlotSeats.{rows_id, row_count_of, seat_count_of, table_of};
+ghost use Rattle.run_queue.specs.SlotSeats.{number_in, puts_of, takes_of, front_of, claims_of};
+ghost use Rattle.run_queue.specs.SlotSeats.{claim_of, ClaimedOnce, looks_of, LookedOnce};
 
 use crate::deque::ROW_JOBS;
 use crate::slot_rows::SlotRows;
 use crate::slot_rows::plays::{MovesDown, MovesUp, Stays};
 use crate::slot_rows::seat::SlotSeat;
 use std::alloc::Allocator;
+use std::marker::Brand;
 use std::sync::Wait;
 
 impl<J, A: Allocator> SlotRows<J, A> {
     /// Puts a job in at the front of the seat's own row, or gives it back where the element there
     /// is not empty.
-    pub(crate) fn push_front(&self, seat: &mut SlotSeat<J>, job: J) -> Result<(), J>
+    pub fn push_front(&self, seat: &mut SlotSeat<J>, job: J) -> Result<(), J>
         requires ours { table_of seat.old ≡ rows_id self.now }
         requires owner { number_in seat.old < row_count_of self.now }
         ensures ours { table_of seat.new ≡ table_of seat.old }
@@ -32,6 +35,7 @@ impl<J, A: Allocator> SlotRows<J, A> {
         ensures full { IsErr result ↔ ((claim_of seat.new).found ≢ empty_word) }
         ensures moves { OnOk result (front_of seat.new ≡ position_after (front_of seat.old)) }
         ensures stays { OnErr result (front_of seat.new ≡ front_of seat.old) }
+        ensures looks { looks_of seat.new ≡ looks_of seat.old }
     {
         let element = seat.number as usize * ROW_JOBS + seat.front;
         let pushed = self.push_at::<MovesUp>(&mut seat.held, element, job);
@@ -42,7 +46,7 @@ impl<J, A: Allocator> SlotRows<J, A> {
     }
 
     /// Takes the job before the front of the seat's own row, where the element there is ready.
-    pub(crate) fn pop_front(&self, seat: &mut SlotSeat<J>) -> Option<J>
+    pub fn pop_front(&self, seat: &mut SlotSeat<J>) -> Option<J>
         requires ours { table_of seat.old ≡ rows_id self.now }
         requires owner { number_in seat.old < row_count_of self.now }
         ensures ours { table_of seat.new ≡ table_of seat.old }
@@ -55,6 +59,7 @@ impl<J, A: Allocator> SlotRows<J, A> {
         ensures none { IsNone result ↔ ((claim_of seat.new).found ≢ ready_word) }
         ensures moves { OnSome result (front_of seat.new ≡ position_before (front_of seat.old)) }
         ensures stays { IfNone result (front_of seat.new ≡ front_of seat.old) }
+        ensures looks { looks_of seat.new ≡ looks_of seat.old }
     {
         let before = (seat.front + ROW_JOBS - 1) % ROW_JOBS;
         let element = seat.number as usize * ROW_JOBS + before;
@@ -67,7 +72,7 @@ impl<J, A: Allocator> SlotRows<J, A> {
 
     /// Puts a job in before the back of a row, or gives it back where the element there is not
     /// empty.
-    pub(crate) fn push_back<R: Wait>(
+    pub fn push_back<R: Wait>(
         &self,
         rt: &R,
         seat: &mut SlotSeat<J>,
@@ -85,6 +90,7 @@ impl<J, A: Allocator> SlotRows<J, A> {
         ensures in_row { row_with (claim_of seat.new).element ≡ row }
         ensures full { IsErr result ↔ ((claim_of seat.new).found ≢ empty_word) }
         ensures front { front_of seat.new ≡ front_of seat.old }
+        ensures looks { looks_of seat.new ≡ looks_of seat.old }
     {
         let mut back = self.backs[usize::from(row)].lock(rt);
         let before = (back.at + ROW_JOBS - 1) % ROW_JOBS;
@@ -97,7 +103,7 @@ impl<J, A: Allocator> SlotRows<J, A> {
     }
 
     /// Takes the job at the back of a row, where the element there is ready.
-    pub(crate) fn pop_back<R: Wait>(&self, rt: &R, seat: &mut SlotSeat<J>, row: u16) -> Option<J>
+    pub fn pop_back<R: Wait>(&self, rt: &R, seat: &mut SlotSeat<J>, row: u16) -> Option<J>
         requires ours { table_of seat.old ≡ rows_id self.now }
         requires row { row < row_count_of self.now }
         ensures ours { table_of seat.new ≡ table_of seat.old }
@@ -108,6 +114,7 @@ impl<J, A: Allocator> SlotRows<J, A> {
         ensures in_row { row_with (claim_of seat.new).element ≡ row }
         ensures none { IsNone result ↔ ((claim_of seat.new).found ≢ ready_word) }
         ensures front { front_of seat.new ≡ front_of seat.old }
+        ensures looks { looks_of seat.new ≡ looks_of seat.old }
     {
         let mut back = self.backs[usize::from(row)].lock(rt);
         let at = back.at;
@@ -117,5 +124,22 @@ impl<J, A: Allocator> SlotRows<J, A> {
             back.at = (at + 1) % ROW_JOBS;
         }
         popped
+    }
+
+    /// How many jobs are in a row. Jobs that are on their way in or out may be counted too, one for
+    /// each seat.
+    pub fn length(&self, seat: &mut SlotSeat<J>, row: u16) -> u64
+        requires ours { table_of seat.old ≡ rows_id self.now }
+        requires row { row < row_count_of self.now }
+        ensures ours { table_of seat.new ≡ table_of seat.old }
+        ensures number { number_in seat.new ≡ number_in seat.old }
+        ensures puts { puts_of seat.new ≡ puts_of seat.old }
+        ensures takes { takes_of seat.new ≡ takes_of seat.old }
+        ensures look { LookedOnce seat.old seat.new row result }
+        ensures few { result ≤ most_jobs + seat_count_of self.now }
+        ensures claims { claims_of seat.new ≡ claims_of seat.old }
+        ensures front { front_of seat.new ≡ front_of seat.old }
+    {
+        self.look_at::<Brand>(&mut seat.held, usize::from(row))
     }
 }

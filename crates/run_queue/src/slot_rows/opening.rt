@@ -10,7 +10,8 @@ ghost use Rattle.run_queue.specs.SlotSeats.{number_in, puts_of, takes_of, front_
 
 use crate::deque::ROW_JOBS;
 use crate::rows::{MOST_ROWS, RowsFault};
-use crate::slot_rows::rule::{Deals, EMPTY, Law};
+use crate::slot_rows::reserve::Reserve;
+use crate::slot_rows::rule::{Deals, EMPTY, LINE_WORDS, Law};
 use crate::slot_rows::seat::{Held, SlotSeat};
 use crate::slot_rows::view::View;
 use crate::slot_rows::{Back, SlotRows};
@@ -20,7 +21,7 @@ use std::sync::Mutex;
 
 impl<J: Drop, A: Allocator + Clone> SlotRows<J, A> {
     /// Empty rows and their seats, by number. This takes the memory of `close` too.
-    pub(crate) fn open(
+    pub fn open(
         alloc: A,
         rows: u16,
         outsiders: u16,
@@ -41,8 +42,10 @@ impl<J: Drop, A: Allocator + Clone> SlotRows<J, A> {
         let count = usize::from(rows) * ROW_JOBS;
         let seats = u32::from(rows) + u32::from(outsiders);
         let backs = backs(alloc.clone()?, rows)?;
-        let left = Vec::with_capacity(alloc.clone()?, count)?;
-        let words = empty_words(alloc.clone()?, count)?;
+        let left = Reserve::new(alloc.clone()?, count)?;
+        // A line behind the last length is the table's too, and so a table of no rows has words.
+        let word_count = count + LINE_WORDS * (usize::from(rows) + 1) + 1;
+        let words = empty_words(alloc.clone()?, word_count)?;
         let list = Vec::with_capacity(alloc.clone()?, seats as usize)?;
         let (table, keeper) = Table::vacant(alloc, words.as_slice(), count, &seats)?;
         let list = deal(&table.shared, keeper, seats, list);
@@ -58,13 +61,12 @@ impl<J: Drop, A: Allocator + Clone> SlotRows<J, A> {
     }
 }
 
-// The words of so many empty elements, and one more, so that a table of no rows has a word too.
+// So many words, each of an empty element or the length of a row with nothing in it.
 fn empty_words<A: Allocator>(alloc: A, count: usize) -> Result<Vec<u64, A>, AllocError>
-    requires { count ≤ most_rows * most_jobs }
-    ensures { IfOk result (λ words. words.items ≡ replicate (count + 1) empty_word) }
+    ensures { IfOk result (λ words. words.items ≡ replicate count empty_word) }
 {
-    let mut words = Vec::with_capacity(alloc, count + 1)?;
-    words.resize(count + 1, EMPTY)?;
+    let mut words = Vec::with_capacity(alloc, count)?;
+    words.resize(count, EMPTY)?;
     Ok(words)
 }
 

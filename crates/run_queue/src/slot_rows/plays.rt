@@ -3,7 +3,7 @@ ghost use Rattle.std.specs.Prelude.{Option, ℕ};
 
 use crate::slot_rows::view::View;
 use atomic_table::Play;
-use std::marker::PhantomData;
+use std::marker::{Brand, PhantomData};
 
 /// Where a claim that succeeds moves the front.
 pub trait Shift {
@@ -46,6 +46,15 @@ impl<J, M: Shift> Play<Option<J>, View<J>> for ClaimsIn<M> {
     ghost then = { claims_in M.shift };
 }
 
+/// The length of a busy element's row is raised.
+pub struct Raises;
+
+impl<J> Play<Option<J>, View<J>> for Raises {
+    ghost use Rattle.run_queue.specs.Plays.{raises};
+
+    ghost then = { raises };
+}
+
 /// A busy element is made ready, with the job that the seat has in it.
 pub struct MakesReady;
 
@@ -73,6 +82,35 @@ impl<J> Play<Option<J>, View<J>> for MakesEmpty {
     ghost use Rattle.run_queue.specs.Plays.{makes_empty};
 
     ghost then = { makes_empty };
+}
+
+/// The length of a row that a job was taken out of is lowered.
+pub struct Lowers;
+
+impl<J> Play<Option<J>, View<J>> for Lowers {
+    ghost use Rattle.run_queue.specs.Plays.{lowers};
+
+    ghost then = { lowers };
+}
+
+/// How many seats were made with the rows of a look, which bounds what it finds.
+pub trait SeatCount {
+    ghost seats: { ℕ };
+}
+
+impl SeatCount for Brand {
+    ghost seats = { 0 };
+}
+
+/// The length of a row is looked at.
+pub struct Looks<C> {
+    of: PhantomData<C>,
+}
+
+impl<J, C: SeatCount> Play<Option<J>, View<J>> for Looks<C> {
+    ghost use Rattle.run_queue.specs.Plays.{looks};
+
+    ghost then = { looks C.seats };
 }
 
 /// A seat comes that has no account.

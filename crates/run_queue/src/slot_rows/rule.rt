@@ -14,6 +14,9 @@ pub const BUSY: u64 = 1;
 /// A job is here.
 pub const READY: u64 = 2;
 
+/// The words of a cache line: each length has a line of its own.
+pub const LINE_WORDS: usize = 8;
+
 /// In every state the table keeps the account of its rows.
 pub struct Law<J> {
     of: PhantomData<J>,

@@ -5,12 +5,13 @@ ghost use Rattle.run_queue.specs.Limits.{most_jobs};
 use crate::slot_rows::view::View;
 use atomic_table::Seat;
 
-/// A seat at the table, which works on no element.
+/// A seat at the table, which works on no element and owes no row.
 #[derive(Drop)]
 pub struct Held<J> {
     pub(crate) seat: Seat<Option<J>, View<J>>,
     ghost none_held: { seat.me.1 ≡ [] },
     ghost none_busy: { seat.me.0.busy ≡ None },
+    ghost none_owed: { seat.me.0.owes ≡ None },
     ghost one_part: { seat.me.0.parts ≡ 1 },
 }
 
@@ -25,4 +26,15 @@ pub struct SlotSeat<J> {
     pub(crate) front: usize,
     ghost same_front: { front ≡ held.seat.me.0.notes.front },
     ghost within: { front < most_jobs },
+}
+
+impl<J> SlotSeat<J> {
+    ghost use Rattle.run_queue.specs.SlotSeats.{number_in};
+
+    /// The seat's number. It owns the row of that number, where there is one.
+    pub fn number(&self) -> u32
+        ensures { result ≡ number_in self.now }
+    {
+        self.number
+    }
 }

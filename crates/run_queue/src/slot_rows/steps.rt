@@ -1,20 +1,49 @@
 //! What is done to one element.
-ghost use Rattle.std.specs.Prelude.{◌≡◌, ◌<◌, ◌++◌, option_to_list};
+ghost use Rattle.std.specs.Prelude.{◌≡◌, ◌<◌, ◌≤◌, ◌+◌, ◌++◌, option_to_list};
 ghost use Rattle.std.specs.Prelude.{IfErr, OnOk, OnErr, OnSome, IfNone};
 ghost use Rattle.run_queue.specs.Account.{AddsIfOk};
 ghost use Rattle.run_queue.specs.Elements.{empty_word, ready_word};
-ghost use Rattle.run_queue.specs.Views.{Hit, Missed};
-ghost use Rattle.run_queue.specs.SlotSeats.{elements_of, rows_id, held_id};
-ghost use Rattle.run_queue.specs.SlotSeats.{puts_in, takes_in, notes_in};
+ghost use Rattle.run_queue.specs.Lengths.{length_word};
+ghost use Rattle.run_queue.specs.Limits.{most_jobs};
+ghost use Rattle.run_queue.specs.Views.{Hit, Missed, looked_at};
+ghost use Rattle.run_queue.specs.SlotSeats.{elements_of, row_count_of, seat_count_of, rows_id};
+ghost use Rattle.run_queue.specs.SlotSeats.{held_id, puts_in, takes_in, notes_in};
 
+use crate::deque::ROW_JOBS;
 use crate::slot_rows::SlotRows;
-use crate::slot_rows::plays::{ClaimsIn, ClaimsOut, MakesEmpty, MakesReady, Shift};
-use crate::slot_rows::rule::{BUSY, EMPTY, READY};
+use crate::slot_rows::plays::{
+    ClaimsIn, ClaimsOut, Looks, Lowers, MakesEmpty, MakesReady, Raises, SeatCount, Shift,
+};
+use crate::slot_rows::rule::{BUSY, EMPTY, LINE_WORDS, READY};
 use crate::slot_rows::seat::Held;
 use std::alloc::Allocator;
 
 impl<J, A: Allocator> SlotRows<J, A> {
-    // Puts the job into an element, where that is empty.
+    // The word with the length of a row.
+    pub(crate) fn length_word(&self, row: usize) -> usize
+        requires row { row < row_count_of self.now }
+        ensures { result ≡ length_word (elements_of self.now) row }
+    {
+        self.table.slot_count() + LINE_WORDS * (row + 1)
+    }
+
+    // Loads the length of a row.
+    pub(crate) fn look_at<C: SeatCount>(&self, held: &mut Held<J>, row: usize) -> u64
+        requires of { held_id held.old ≡ rows_id self.now }
+        requires row { row < row_count_of self.now }
+        requires seats { C.seats ≡ seat_count_of self.now }
+        ensures of { held_id held.new ≡ held_id held.old }
+        ensures puts { puts_in held.new ≡ puts_in held.old }
+        ensures takes { takes_in held.new ≡ takes_in held.old }
+        ensures looked { notes_in held.new ≡ looked_at row result (notes_in held.old) }
+        ensures few { result ≤ most_jobs + seat_count_of self.now }
+    {
+        let word = self.length_word(row);
+        self.table.shared.load::<Looks<C>>(&mut held.seat, word)
+    }
+
+    // Puts the job into an element, where that is empty. The length is raised before the job can
+    // be taken out.
     pub(crate) fn push_at<M: Shift>(
         &self,
         held: &mut Held<J>,
@@ -37,13 +66,15 @@ impl<J, A: Allocator> SlotRows<J, A> {
         if shared.compare_exchange::<ClaimsIn<M>>(seat, element, EMPTY, BUSY) != EMPTY {
             return Err(job);
         }
+        shared.fetch_add::<Raises>(seat, self.length_word(element / ROW_JOBS), 1);
         let before = shared.exchange(seat, element, Some(job));
         let None = before else { unreachable!() };
         shared.store::<MakesReady>(seat, element, READY);
         Ok(())
     }
 
-    // Takes the job of an element, where that is ready.
+    // Takes the job of an element, where that is ready. The length is lowered after the element
+    // was made empty.
     pub(crate) fn pop_at<M: Shift>(&self, held: &mut Held<J>, element: usize) -> Option<J>
         requires of { held_id held.old ≡ rows_id self.now }
         requires near { element < elements_of self.now }
@@ -62,6 +93,7 @@ impl<J, A: Allocator> SlotRows<J, A> {
         }
         let job = shared.exchange(seat, element, None);
         shared.store::<MakesEmpty>(seat, element, EMPTY);
+        shared.fetch_sub::<Lowers>(seat, self.length_word(element / ROW_JOBS), 1);
         Some(job.unwrap())
     }
 }

@@ -1,14 +1,11 @@
-use Rattle.std.proofs.Common.{rules, ◌≡◌, ◌∙◌, List, All, length, subst, sym, ap}
-use Rattle.std.proofs.Common.{is_ok, true, false}
-use Rattle.std.proofs.lemmas.Bool.{false≢true}
-use Rattle.std.proofs.lemmas.Result.{on_ok_weaker}
+use Rattle.std.proofs.Common.{rules, ◌≡◌, List, All, length, subst, sym, ap}
 use Rattle.std.proofs.lemmas.List.Elements.{All-rest, All-head, All-same}
 use Rattle.std.specs.Vec.Iter.{into_iter_items}
 use Rattle.parallel_for.specs.Leaves.{Range, blocks_of, leaves_of}
 use Rattle.parallel_for.specs.Pieces.{IsRight, ranges_of, all_ranges}
-use Rattle.parallel_for.specs.Table.{rows_of, IsTable, IsTaken, missing}
+use Rattle.parallel_for.specs.Table.{IsTable, missing}
 use Rattle.parallel_for.proofs.Rows.{IsTable-blank, items-none}
-use Rattle.parallel_for.proofs.Moves.{AreMoved, AreMoved-start, AreMoved-list, SameBag-taken}
+use Rattle.parallel_for.proofs.Moves.{AreMoved, AreMoved-start, AreMoved-list}
 use Rattle.parallel_for.proofs.Moves.{missing-leaves, still-among, none-missing}
 use Rattle.parallel_for.proofs.collector.collect.Goals as goal
 
@@ -44,13 +41,8 @@ put_all-requires-clause-right g c =
 pub loop-pieces-preserved : goal.loop-pieces-preserved
 loop-pieces-preserved g c =
     let item_at = g.K.Kernel.item_at c.args.kernel.now in
-    let n = c.args.n in
-    let b = c.args.block in
     let pieces = c.in-Some.pieces in
     let split = c.in-Some.ensures.steps.0 in
-    let taken :
-    IsTaken (missing n b 0 (rows_of c.loop-pieces.table.items)) (ranges_of pieces.items)
-    (missing n b 0 (rows_of c.put_all.new.table.items)) = search rules in
     record {
       can = tt;
       finite = tt;
@@ -62,32 +54,18 @@ loop-pieces-preserved g c =
       moved =
           AreMoved-list _ _ _ _ (ranges_of pieces.items)
           (all_ranges (into_iter_items c.next.new.self)) _ (ap all_ranges split)
-          c.loop-pieces.invariant.moved taken;
+          c.loop-pieces.invariant.moved c.put_all.ensures.taken;
     }
 
-pub returns-in_err-put_all-clause-lost : goal.returns-in_err-put_all-clause-lost
-returns-in_err-put_all-clause-lost g c = λ all lost.
-    let ok =
-    c.put_all.ensures.found
-    (still-among _ _ _ _ (ranges_of c.in-Some.pieces.items)
+pub put_all-requires-clause-missing : goal.put_all-requires-clause-missing
+put_all-requires-clause-missing g c =
+    still-among _ _ _ _ (ranges_of c.in-Some.pieces.items)
     (all_ranges (into_iter_items c.next.new.self)) (ap all_ranges c.in-Some.ensures.steps.0)
-    c.loop-pieces.invariant.moved all) in
-    let bad : false ≡ true = sym (ap is_ok c.in_err-put_all.was) ∙ ok in
-    absurd (false≢true bad)
+    c.loop-pieces.invariant.moved c.requires.covered
 
-pub returns-clause-covered : goal.returns-clause-covered
-returns-clause-covered g c =
+pub join-requires-clause-whole : goal.join-requires-clause-whole
+join-requires-clause-whole g c =
     let rest = into_iter_items c.loop-pieces.pieces-iterator in
     let none : length rest ≡ 0 = search rules in
-    on_ok_weaker c.join.result
-    (λ whole.
-    SameBag-taken _ _ _ _ (ap all_ranges (items-none rest none)) whole
-    c.loop-pieces.invariant.moved)
-    c.join.ensures.whole
-
-pub returns-clause-lost : goal.returns-clause-lost
-returns-clause-lost g c = λ all lost.
-    let rest = into_iter_items c.loop-pieces.pieces-iterator in
-    let none : length rest ≡ 0 = search rules in
-    c.join.ensures.lost lost
-    (none-missing _ _ _ _ (ap all_ranges (items-none rest none)) c.loop-pieces.invariant.moved all)
+    none-missing _ _ _ _ (ap all_ranges (items-none rest none)) c.loop-pieces.invariant.moved
+    c.requires.covered

@@ -1,9 +1,9 @@
 use Rattle.std.proofs.Common.{rules, ◌≡◌, ◌∙◌, ◌+◌, ◌-◌, ◌<◌, ◌∷◌, arith, subst, sym, ap, length, ℕ}
 use Rattle.std.specs.Vec.Iter.{into_iter_items}
 use Rattle.parallel_for.specs.Leaves.{blocks_of}
-use Rattle.parallel_for.specs.Table.{rows_of, IsTable, missing}
+use Rattle.parallel_for.specs.Table.{rows_of, IsTable}
 use Rattle.parallel_for.proofs.Rows.{IsTable-head, joined-more, room-more, joined-all}
-use Rattle.parallel_for.proofs.Rows.{missing-head, some-from_is_empty, items-none}
+use Rattle.parallel_for.proofs.Rows.{missing-head, some-at-head}
 use Rattle.parallel_for.proofs.collector.join.Goals as goal
 
 pub append-requires : goal.append-requires
@@ -14,9 +14,11 @@ append-requires g c =
     let row = c.in-Some.items in
     let before = into_iter_items c.loop-items.items-iterator in
     let split : before ≡ row ∷ into_iter_items c.next.new.self = c.in-Some.ensures.steps.0 in
-    let some = some-from_is_empty row c.if-is_empty.ensures in
     let less = ap length split in
     let i = blocks_of n b - length before in
+    let some =
+    some-at-head n b i row.items _ _ _ (ap rows_of split) c.loop-items.invariant.same
+    c.requires.whole in
     let head =
     IsTable-head n b item_at i row.items _ _ (ap rows_of split) some
     c.loop-items.invariant.table in
@@ -37,12 +39,14 @@ loop-items-preserved g c =
     let before = into_iter_items c.loop-items.items-iterator in
     let after = into_iter_items c.next.new.self in
     let split : before ≡ row ∷ after = c.in-Some.ensures.steps.0 in
-    let some = some-from_is_empty row c.if-is_empty.ensures in
     let less = ap length split in
     let i = blocks_of n b - length before in
     let j = blocks_of n b - length after in
     let next : j ≡ i + 1 = omega (arith, c.loop-items.invariant.few) in
     let below : i < blocks_of n b = omega (arith, c.loop-items.invariant.few) in
+    let some =
+    some-at-head n b i row.items _ _ _ (ap rows_of split) c.loop-items.invariant.same
+    c.requires.whole in
     let head =
     IsTable-head n b item_at i row.items _ _ (ap rows_of split) some
     c.loop-items.invariant.table in
@@ -57,21 +61,15 @@ loop-items-preserved g c =
       same =
           c.loop-items.invariant.same
           ∙ missing-head n b i j row.items _ _ (ap rows_of split) next some;
-      room = c.append.ensures.capacity ∙ c.loop-items.invariant.room;
+      room = omega (arith, c.append.ensures.capacity, c.loop-items.invariant.room);
     }
 
-pub returns-clause-items : goal.returns-clause-items
-returns-clause-items g c =
+pub returns : goal.returns
+returns g c =
     let rest = into_iter_items c.loop-items.items-iterator in
     let none : length rest ≡ 0 = search rules in
-    let i = blocks_of c.args.n c.args.block - length rest in
-    joined-all c.args.n c.args.block (g.K.Kernel.item_at c.args.kernel.now) i _ c.requires.some
-    (omega arith) c.loop-items.invariant.items
-
-pub returns-clause-whole : goal.returns-clause-whole
-returns-clause-whole g c =
-    let rest = into_iter_items c.loop-items.items-iterator in
-    let none : length rest ≡ 0 = search rules in
-    let i = blocks_of c.args.n c.args.block - length rest in
-    c.loop-items.invariant.same
-    ∙ ap (λ l. missing c.args.n c.args.block i (rows_of l)) (items-none rest none)
+    let i = blocks_of c.args.n c.args.block - length rest in record {
+      items =
+          joined-all c.args.n c.args.block (g.K.Kernel.item_at c.args.kernel.now) i _
+          c.requires.some (omega arith) c.loop-items.invariant.items;
+    }

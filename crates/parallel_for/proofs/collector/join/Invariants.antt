@@ -16,5 +16,5 @@ invariant-loop-items g l =
       items : AreItems (g.K.Kernel.item_at l.kernel) 0 (min (done * l.block) l.n) l.joined.items;
       same : missing l.n l.block 0 (rows_of l.fn.table.items)
           ≡ missing l.n l.block done (rows_of left);
-      room : vec_capacity l.joined ≡ l.n;
+      room : l.n ≤ vec_capacity l.joined;
     }

@@ -1,5 +1,4 @@
-use Rattle.std.proofs.Common.{rules, ◌≡◌, ◌∙◌, ap, sym, length, is_ok, true, false}
-use Rattle.std.proofs.lemmas.Bool.{false≢true}
+use Rattle.std.proofs.Common.{rules, ◌≡◌, ap, length}
 use Rattle.std.proofs.lemmas.List.Elements.{All-rest, All-same}
 use Rattle.std.specs.Vec.Iter.{into_iter_items}
 use Rattle.parallel_for.specs.Pieces.{IsRight, ranges_of}
@@ -34,18 +33,14 @@ loop-piece-preserved g c =
       long = c.put.ensures.long;
       moved =
           AreMoved-one _ _ _ _ (p.first, p.last) _ _ (ap ranges_of split)
-          c.loop-piece.invariant.moved (search rules);
+          c.loop-piece.invariant.moved c.put.ensures.taken;
     }
 
-pub returns-in_err-put-clause-found : goal.returns-in_err-put-clause-found
-returns-in_err-put-clause-found g c = λ among.
+pub put-requires-clause-missing : goal.put-requires-clause-missing
+put-requires-clause-missing g c =
     let p = c.in-Some.piece in
-    let ok =
-    c.put.ensures.found
-    (still-missing _ _ _ _ (p.first, p.last) (ranges_of (into_iter_items c.next.new.self))
-    (ap ranges_of c.in-Some.ensures.steps.0) c.loop-piece.invariant.moved among) in
-    let bad : false ≡ true = sym (ap is_ok c.in_err-put.was) ∙ ok in
-    absurd (false≢true bad)
+    still-missing _ _ _ _ (p.first, p.last) (ranges_of (into_iter_items c.next.new.self))
+    (ap ranges_of c.in-Some.ensures.steps.0) c.loop-piece.invariant.moved c.requires.missing
 
 pub returns-clause-taken : goal.returns-clause-taken
 returns-clause-taken g c =

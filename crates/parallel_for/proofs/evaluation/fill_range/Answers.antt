@@ -17,15 +17,14 @@ collect-requires-clause-right g c =
     (λ job piece step. IsRight-leaf item_at piece _ _ step.0)
     c.in-Ok.ensures.account
 
-pub returns-clause-never_lost : goal.returns-clause-never_lost
-returns-clause-never_lost g c = λ on lost.
+pub collect-requires-clause-covered : goal.collect-requires-clause-covered
+collect-requires-clause-covered g c = λ h.
     let item_at = g.K.Kernel.item_at c.new-ctx.result.kernel in
     let n = c.args.range.n in
     let block = g.D.Division.block in
     let root = c.root-root.result in
     let closed = c.in-Ok.closed in
     let none_refused : closed.refused ≡ 0 = search rules in
-    c.collect.ensures.lost (λ h.
     let came = weight-account _ (λ job. total h (leaves_of job.first job.last block))
     (λ piece. h (piece.first, piece.last))
     (λ job kid rest step. weight-halved h (job.first, job.last) (kid.first, kid.last)
@@ -33,8 +32,8 @@ returns-clause-never_lost g c = λ on lost.
     kid.order step.0)
     (λ job piece step. weight-leaf h item_at piece.items.items (job.first, job.last)
     (piece.first, piece.last) block job.order step.0)
-    root _ closed.left.items closed.refused on c.in-Ok.ensures.none_left none_refused
+    root _ closed.left.items closed.refused c.requires.accounts c.in-Ok.ensures.none_left none_refused
     c.in-Ok.ensures.account in
     let whole : leaves_of 0 n c.args.range.block ≡ leaves_of root.first root.last block =
     rw (c.root-root.ensures.first, c.root-root.ensures.last, c.requires.block) refl in
-    ap (total h) whole ∙ came ∙ sym (weight-lists h closed.outs.items)) lost
+    ap (total h) whole ∙ came ∙ sym (weight-lists h closed.outs.items)

@@ -1,5 +1,5 @@
 use Rattle.std.proofs.Common.{sym, refl, inl, inr}
-use Rattle.tensor_runner.specs.Answer.{tensor, fault, lost}
+use Rattle.tensor_runner.specs.Answer.{tensor, fault}
 use Rattle.expr_reader.specs.declared.fault.Fault.TheVariants.{NoMemory}
 use Rattle.tensor_runner.proofs.answer.answer.Goals as goal
 
@@ -12,27 +12,18 @@ returns-in-Ok g c =
       status = refl;
     }
 
-pub returns-in-Err-Text : goal.returns-in-Err-Text
-returns-in-Err-Text g c = elim c.refusal.ensures.bytes [
+pub returns-in-Err : goal.returns-in-Err
+returns-in-Err g c = elim c.refusal.ensures.bytes [
   | inl own ↦ record {
-    answer = fault c.in-Err-Text.fault;
-    answers = rw c.in-Err-Text.field-0-is at c.in-Err-Text.ensures;
+    answer = fault c.in-Err.fault;
+    answers = c.in-Err.ensures;
     written = own;
     status = c.refusal.ensures.status;
   }
   | inr memory ↦ record {
     answer = fault NoMemory;
-    answers = inr (inl refl);
+    answers = inr refl;
     written = memory;
     status = c.refusal.ensures.status;
   }
 ]
-
-pub returns-in-Err-Lost : goal.returns-in-Err-Lost
-returns-in-Err-Lost g c =
-    record {
-      answer = lost;
-      answers = rw c.in-Err-Lost.field-0-is at c.in-Err-Lost.ensures;
-      written = c.lost.ensures.bytes;
-      status = c.lost.ensures.status;
-    }

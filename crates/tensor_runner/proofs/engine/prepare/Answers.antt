@@ -1,4 +1,4 @@
-use Rattle.std.proofs.Common.{refl, subst, inl, inr, arith}
+use Rattle.std.proofs.Common.{refl, subst, inr, arith}
 use Rattle.expr_reader.specs.declared.fault.Fault.TheVariants.{NoMemory}
 use Rattle.tensor_runner.specs.Answer.{fault, IsAnswerTo}
 use Rattle.tensor_runner.specs.Run.{most_reads}
@@ -20,7 +20,7 @@ pub returns-in-Err-NoMemory-clause-line : goal.returns-in-Err-NoMemory-clause-li
 returns-in-Err-NoMemory-clause-line g c = λ text known.
     record {
       answer = fault NoMemory;
-      answers = inr (inl refl);
+      answers = inr refl;
       written = c.no_memory.ensures.bytes;
       status = c.no_memory.ensures.status;
     }

@@ -23,7 +23,7 @@ join_seat-requires g c =
       seat.held.none_held,
       search rules,
       take_in_keeps _ _ _ _ (subst (λ k. 0 < k) (sym seat.held.one_part) (omega arith))
-          before.none_busy seat.held.none_busy,
+          before.none_busy seat.held.none_busy before.none_owed seat.held.none_owed,
     )
 
 pub loop-seat-preserved : goal.loop-seat-preserved
@@ -39,6 +39,7 @@ loop-seat-preserved g c =
       ours = all_before (λ s. table_of s ≡ c.args.last.now.table_id) rest (seat ∷ [])
           (subst (All (λ s. table_of s ≡ c.args.last.now.table_id)) items before.ours);
       none_busy = ap (λ m. m.0.busy) now;
+      none_owed = ap (λ m. m.0.owes) now;
       none_held = ap (λ m. m.1) now ∙ before.none_held;
       parts = (let a = ap (λ m. m.0.parts) now in
           let b = ap length items in

@@ -11,6 +11,7 @@ invariant-loop-seat g l = record {
   of : l.last.table_id ≡ l.initial.last.table_id;
   ours : All (λ s. table_of s ≡ l.initial.last.table_id) l.seats.items;
   none_busy : l.last.me.0.busy ≡ None;
+  none_owed : l.last.me.0.owes ≡ None;
   none_held : l.last.me.1 ≡ [];
   parts : l.last.me.0.parts + length l.seats.items ≡ length l.initial.seats.items;
   puts : (h : g.row.J.Denot → ℕ)

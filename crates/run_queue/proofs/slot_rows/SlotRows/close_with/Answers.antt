@@ -7,7 +7,7 @@ use Rattle.run_queue.specs.SlotSeats.{takes_of}
 use Rattle.run_queue.proofs.Totals.{total_append}
 use Rattle.run_queue.proofs.Keeps.{enter_keeps}
 use Rattle.run_queue.proofs.Closing.{settles}
-use Rattle.run_queue.proofs.slot_rows.SlotRows.close.Goals as goal
+use Rattle.run_queue.proofs.slot_rows.SlotRows.close_with.Goals as goal
 
 pub load_new_seat-last-requires : goal.load_new_seat-last-requires
 load_new_seat-last-requires g c =
@@ -22,8 +22,8 @@ returns g c = record {
       let b = c.drain.ensures.jobs h in
       let d = c.gather.ensures.puts h in
       let e = c.gather.ensures.takes h in
-      let f : total h c.args.self.left.items ≡ 0 = ap (total h) c.args.self.none_left in
-      let takes = flat_map (takes_of {J = g.row.J.Denot}) c.args.seats.items in
+      let f : total h c.into_list-left.result.items ≡ 0 = ap (total h) c.into_list-left.ensures.none in
+      let takes = flat_map (takes_of {J = g.row.J.Denot}) c.args.seats.now.items in
       let k = total_append h takes c.drain.new.left.items in
       omega arith;
 }

@@ -1,0 +1,14 @@
+-- A look is always allowed.
+use Rattle.std.proofs.Common.{rules, subst, ◌<◌, sym, arith}
+use Rattle.run_queue.proofs.Lengths.{look_keeps}
+use Rattle.run_queue.proofs.slot_rows.SlotRows.look_at.Goals as goal
+
+pub load-requires : goal.load-requires
+load-requires g c =
+    let live : 0 < c.args.held.now.seat.me.0.parts =
+    subst (λ k. 0 < k) (sym c.args.held.now.one_part) (omega arith) in (
+      search rules,
+      search rules,
+      rw c.requires.seats (look_keeps _ _ _ _ c.args.row (omega (arith, c.requires.row))
+          c.length_word-word.ensures live),
+    )

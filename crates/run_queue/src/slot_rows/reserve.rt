@@ -1,0 +1,66 @@
+//! Room for a list, kept where threads share it.
+ghost use Rattle.std.specs.Prelude.{◌≡◌, ◌≤◌, ℕ, [], vec_capacity, IfOk};
+
+use atomic_table::{Table, TableRule};
+use std::alloc::{AllocError, Allocator};
+use std::marker::{Model, PhantomData};
+
+/// The table has one slot, with an empty list in it that has so much room.
+pub struct HasRoom<J, A: Allocator> {
+    of: PhantomData<(J, A)>,
+}
+
+impl<J, A: Allocator> TableRule<Vec<J, A>, (), usize> for HasRoom<J, A> {
+    ghost use Rattle.run_queue.specs.Reserves.{KeepsRoom};
+
+    ghost holds = { λ room s. KeepsRoom room s };
+
+    ghost first = { λ _. tt };
+}
+
+/// Room for a list, which no thread comes to before the end.
+///
+/// An empty list may be shared only where its elements may. This may be shared wherever they may
+/// cross threads.
+#[derive(Drop)]
+pub struct Reserve<J, A: Allocator> {
+    table: Table<Vec<J, A>, (), usize, HasRoom<J, A>, A>,
+}
+
+// Clauses see for how many elements there is room.
+impl<J, A: Allocator> Model for Reserve<J, A> {
+    ghost Value = { ℕ };
+
+    ghost view = { λ r. r.table.shared.key };
+
+    ghost invariant = { λ r. r.table.shared.table_id.slots ≡ 1 };
+}
+
+impl<J: Drop, A: Allocator> Reserve<J, A> {
+    /// Room for so many elements.
+    pub(crate) fn new(alloc: A, room: usize) -> Result<Self, AllocError>
+    where
+        A: Clone,
+        ensures { IfOk result (λ reserve. reserve ≡ room) }
+    {
+        let list = Vec::with_capacity(alloc.clone()?, room)?;
+        let mut lists = Vec::with_capacity(alloc.clone()?, 1)?;
+        lists.push_reserved(list);
+        match Table::new(alloc, &[], lists, &room) {
+            Ok((table, _)) => Ok(Reserve { table }),
+            Err(_) => Err(AllocError),
+        }
+    }
+
+    /// The list, in which there is nothing yet.
+    pub(crate) fn into_list(self) -> Vec<J, A>
+        ensures none { result.items ≡ [] }
+        ensures room { self ≤ vec_capacity result }
+    {
+        let Reserve { table } = self;
+        let mut closed = table.close();
+        let list = closed.take(0);
+        closed.free();
+        list
+    }
+}
