@@ -10,11 +10,11 @@ use Rattle.run_queue.specs.Account.{AccountsFor}
 use Rattle.run_queue.specs.Bag.{total}
 use Rattle.run_queue.specs.declared.rows.Rows as rows
 use Rattle.worker_pool.specs.declared.gathered.Gathered.{Gathered}
-use Rattle.worker_pool.specs.declared.ground.Ground.{Ground}
+use Rattle.worker_pool.specs.declared.job_queue.JobQueue.{JobQueue}
 use Rattle.worker_pool.specs.declared.job.Job as job
 use Rattle.worker_pool.specs.declared.job.Progress.{Progress}
 use Rattle.worker_pool.specs.declared.pool.Pool.{Pool}
-use Rattle.worker_pool.specs.declared.worker.Hands.{Hands}
+use Rattle.worker_pool.specs.declared.worker.WorkerState.{WorkerState}
 use Rattle.worker_pool.specs.Accounts.{Account, counted}
 use Rattle.worker_pool.specs.Gathered.{Adds, HasGathered, IsEmpty}
 use Rattle.worker_pool.specs.Nodes.{Node, Left, IsLawful, job_of, kids_of, outs_of}
@@ -160,24 +160,24 @@ module _ {J O : Type 0} (keeps : Type 0) (steps : J → Progress J O → Type 0)
       }
 
 -- one more has come home
-pub gathers-more : {J A W R C O T S : Type 0} (row : rows.Ghosts R J A S)
-    (point : wait_point.Ghosts W A T) (law : job.Ghosts J A C O) (pool : Pool J A W R) (ctx : C)
-    (hands : Hands J A W R C O T S) (before after : Gathered J A W R C O T S)
-    → IsAtWork row point law pool ctx hands → Adds hands before after
-    → HasGathered row point law pool.ground ctx before
-    → HasGathered row point law pool.ground ctx after
-gathers-more row point law pool ctx hands before after at_work adds home =
-    let rows_long = length-snoc before.rows.items hands.owner.row after.rows.items adds.rows in
+pub gathers-more : {J A W R C O N T S : Type 0} (row : rows.Ghosts R J A S)
+    (point : wait_point.Ghosts W A T) (law : job.Ghosts J A C O N) (pool : Pool J A W R) (ctx : C)
+    (state : WorkerState J A W R C O N T S) (before after : Gathered J A W R C O N T S)
+    → IsAtWork row point law pool ctx state → Adds state before after
+    → HasGathered row point law pool.queue ctx before
+    → HasGathered row point law pool.queue ctx after
+gathers-more row point law pool ctx state before after at_work adds home =
+    let rows_long = length-snoc before.rows.items state.seats.row after.rows.items adds.rows in
     let wakers_long =
-    length-snoc before.wakers.items hands.owner.waker after.wakers.items adds.wakers in
-    let lists_long = length-snoc before.lists.items hands.outs after.lists.items adds.lists in
+    length-snoc before.wakers.items state.seats.waker after.wakers.items adds.wakers in
+    let lists_long = length-snoc before.lists.items state.outs after.lists.items adds.lists in
     let wakers_many = home.wakers_many in
     let lists_many = home.lists_many in
     record {
-      ours = All-snoc (λ seat. row.rows_of seat ≡ row.identity_of pool.ground.rows) _ _ _ adds.rows
-          home.ours at_work.owner.owns.ours;
-      idle = All-snoc (IsIdle point pool.ground.point) _ _ _ adds.wakers home.idle
-          at_work.owner.waits.idle;
+      ours = All-snoc (λ seat. row.rows_of seat ≡ row.identity_of pool.queue.rows) _ _ _ adds.rows
+          home.ours at_work.seats.owns.ours;
+      idle = All-snoc (IsIdle point pool.queue.point) _ _ _ adds.wakers home.idle
+          at_work.seats.waits.idle;
       wakers_many = omega arith;
       lists_many = omega arith;
       account = account-append _ _ _ _ _ _ _ _ _ _ _ [] [] [] _ _ _ home.account at_work.account
@@ -187,14 +187,14 @@ gathers-more row point law pool ctx hands before after at_work adds home =
     }
 
 -- nobody has come home yet
-pub gathers-none : {J A W R C O T S : Type 0} (row : rows.Ghosts R J A S)
-    (point : wait_point.Ghosts W A T) (law : job.Ghosts J A C O) (ground : Ground W R) (ctx : C)
-    (gathered : Gathered J A W R C O T S) → IsEmpty gathered
-    → HasGathered row point law ground ctx gathered
-gathers-none row point law ground ctx gathered none = record {
-  ours = All-same (λ seat. row.rows_of seat ≡ row.identity_of ground.rows) _ _ none.no_rows
+pub gathers-none : {J A W R C O N T S : Type 0} (row : rows.Ghosts R J A S)
+    (point : wait_point.Ghosts W A T) (law : job.Ghosts J A C O N) (queue : JobQueue W R) (ctx : C)
+    (gathered : Gathered J A W R C O N T S) → IsEmpty gathered
+    → HasGathered row point law queue ctx gathered
+gathers-none row point law queue ctx gathered none = record {
+  ours = All-same (λ seat. row.rows_of seat ≡ row.identity_of queue.rows) _ _ none.no_rows
       (All-nil _);
-  idle = All-same (IsIdle point ground.point) _ _ none.no_wakers (All-nil _);
+  idle = All-same (IsIdle point queue.point) _ _ none.no_wakers (All-nil _);
   wakers_many = ap length none.no_wakers ∙ sym (ap length none.no_rows);
   lists_many = ap length none.no_lists ∙ sym (ap length none.no_rows);
   account = subst (λ n. Account row.keeps_accounts (IsStep law.weight_of law.allows ctx)

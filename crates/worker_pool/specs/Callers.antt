@@ -11,50 +11,50 @@ use Rattle.worker_pool.specs.Steps.{IsStep}
 use Rattle.worker_pool.specs.Stops.{IsStopSeatOf, jobs_of, stored_of, last_word}
 use Rattle.worker_pool.specs.Stops.{cancelled_word}
 
-module _ {J A W R L C O T S K : Type 0} where
+module _ {J A W R L C O N T S K : Type 0} where
   -- the jobs that were scheduled through the caller, in order
-  abbrev pub roots_of : Caller J A W R L C O T S K → List J
+  abbrev pub roots_of : Caller J A W R L C O N T S K → List J
   roots_of caller = jobs_of caller.scheduled
 
   -- how many workers its pool has started
-  abbrev pub started_of : Caller J A W R L C O T S K → ℕ
-  started_of caller = caller.opener.started
+  abbrev pub started_of : Caller J A W R L C O N T S K → ℕ
+  started_of caller = caller.seats.started
 
   -- how many workers its pool was set up with
-  abbrev pub workers_of : Caller J A W R L C O T S K → ℕ
-  workers_of caller = caller.ground.now.workers
+  abbrev pub workers_of : Caller J A W R L C O N T S K → ℕ
+  workers_of caller = caller.queue.now.workers
 
   -- what was last stored in the stop word through the caller
-  abbrev pub stop_of : Caller J A W R L C O T S K → ℕ
+  abbrev pub stop_of : Caller J A W R L C O N T S K → ℕ
   stop_of caller = stored_of caller.scheduled
 
   -- the pool was cancelled through the caller
-  abbrev pub IsCancelled : Caller J A W R L C O T S K → Type 0
+  abbrev pub IsCancelled : Caller J A W R L C O N T S K → Type 0
   IsCancelled caller = stop_of caller ≡ cancelled_word
 
   -- both are callers of one pool
-  pub record IsSamePool (caller then : Caller J A W R L C O T S K) : Type 0 where
-    pub ground : then.ground.now ≡ caller.ground.now
+  pub record IsSamePool (caller then : Caller J A W R L C O N T S K) : Type 0 where
+    pub queue : then.queue.now ≡ caller.queue.now
     pub stop : then.stop.now ≡ caller.stop.now
     pub ctx : then.ctx.now ≡ caller.ctx.now
     pub started : started_of then ≡ started_of caller
 
   module _ (row : rows.Ghosts R J A S) (point : wait_point.Ghosts W A T)
-      (law : job.Ghosts J A C O) (list : lists.Ghosts L O A K) where
+      (law : job.Ghosts J A C O N) (list : lists.Ghosts L O A K) where
     -- The caller's seats are its pool's, and it has the account of the jobs that were scheduled:
     -- they came in, it passed some jobs on, and the others ran.
-    pub record IsCaller (caller : Caller J A W R L C O T S K) : Type 0 where
-      pub opener : IsOpener row point caller.ground.now caller.opener.row caller.opener.waker
+    pub record IsCaller (caller : Caller J A W R L C O N T S K) : Type 0 where
+      pub seats : IsOpener row point caller.queue.now caller.seats.row caller.seats.waker
       pub scheduled : IsStopSeatOf caller.stop.now caller.scheduled
       pub few : started_of caller ≤ workers_of caller
       pub stop : stop_of caller ≡ last_word caller.cancelled
-      pub took_none : row.keeps_accounts → row.takes_of caller.opener.row ≡ []
+      pub took_none : row.keeps_accounts → row.takes_of caller.seats.row ≡ []
       pub account : Account row.keeps_accounts
           (IsStep law.weight_of law.allows caller.ctx.now)
-          (roots_of caller) (row.puts_of caller.opener.row) (list.items_of caller.outs) []
+          (roots_of caller) (row.puts_of caller.seats.row) (list.items_of caller.outs) []
           caller.refused
 
     -- a caller is still one, of the same pool
-    pub record StaysCaller (caller then : Caller J A W R L C O T S K) : Type 0 where
+    pub record StaysCaller (caller then : Caller J A W R L C O N T S K) : Type 0 where
       pub still : IsCaller then
       pub same : IsSamePool caller then

@@ -1,7 +1,7 @@
 pub use Rattle.run_queue.specs.Bag
 pub mod Accounts
 pub mod Callers
-pub mod Desks
+pub mod OpenerStates
 pub mod Gathered
 pub mod Nodes
 pub mod Openings

@@ -12,8 +12,8 @@ use Rattle.steal_walk.specs.Partition.{RowRange}
 use Rattle.worker_pool.specs.declared.job.Job as job
 use Rattle.worker_pool.specs.declared.lists.Lists as lists
 use Rattle.worker_pool.specs.declared.open.Opened.{Opened}
-use Rattle.worker_pool.specs.declared.worker.Hands.{Hands}
-use Rattle.worker_pool.specs.Desks.{IsFresh}
+use Rattle.worker_pool.specs.declared.worker.WorkerState.{WorkerState}
+use Rattle.worker_pool.specs.OpenerStates.{IsFresh}
 use Rattle.worker_pool.specs.Gathered.{IsEmpty, HasRoom}
 use Rattle.worker_pool.specs.Seats.{IsIdle}
 use Rattle.worker_pool.specs.Setup.{home_of, whole}
@@ -37,30 +37,30 @@ pub record AreWakers {W A T : Type 0} (point : wait_point.Ghosts W A T) (at : W)
   pub idle : All (IsIdle point at) seats
   pub numbers : map point.number_of seats ≡ range_with_len first (length seats)
 
-module _ {J A W R C O T S : Type 0} (row : rows.Ghosts R J A S) (point : wait_point.Ghosts W A T)
+module _ {J A W R C O N T S : Type 0} (row : rows.Ghosts R J A S) (point : wait_point.Ghosts W A T)
     (ranges : List RowRange) where
   -- The worker's seats have its number, which also seeds its random words, and it looks first where
   -- a worker of this number does.
-  pub record IsByNumber (count : ℕ) (hands : Hands J A W R C O T S) : Type 0 where
-    pub row_number : row.number_of hands.owner.row ≡ hands.number
-    pub waker_number : point.number_of hands.owner.waker ≡ hands.number
-    pub words : hands.words ≡ seeded_by hands.number
-    pub no_near : IsNone hands.near ↔ (home_of count ranges hands.number ≡ whole count)
-    pub near : IfSome hands.near (λ n. n.rows ≡ home_of count ranges hands.number)
+  pub record IsByNumber (count : ℕ) (state : WorkerState J A W R C O N T S) : Type 0 where
+    pub row_number : row.number_of state.seats.row ≡ state.number
+    pub waker_number : point.number_of state.seats.waker ≡ state.number
+    pub words : state.words ≡ seeded_by state.number
+    pub no_home : IsNone state.home ↔ (home_of count ranges state.number ≡ whole count)
+    pub home : IfSome state.home (λ n. n.rows ≡ home_of count ranges state.number)
 
-  -- A pool of so many workers in which nothing was done: there are hands for each worker, by number,
+  -- A pool of so many workers in which nothing was done: each worker has a state, by number,
   -- and room for all that comes home.
-  pub record IsOpened {L K : Type 0} (law : job.Ghosts J A C O) (list : lists.Ghosts L O A K)
-      (count : ℕ) (opened : Opened J A W R L C O T S K) : Type 0 where
-    pub workers : opened.pool.ground.workers ≡ count
-    pub desk : IsFresh row point list opened.pool opened.desk
-    pub desk_words : opened.desk.opener.words ≡ seeded_by count
-    pub at_work : (ctx : C) → All (IsAtWork row point law opened.pool ctx) opened.hands.items
-    pub numbers : map (λ hands. hands.number) opened.hands.items ≡ range_with_len 0 count
-    pub many : vec_len opened.hands ≡ opened.pool.ground.workers
-    pub few : vec_len opened.hands ≤ most_rows
-    pub by_number : All (IsByNumber count) opened.hands.items
+  pub record IsOpened {L K : Type 0} (law : job.Ghosts J A C O N) (list : lists.Ghosts L O A K)
+      (count : ℕ) (opened : Opened J A W R L C O N T S K) : Type 0 where
+    pub workers : opened.pool.queue.workers ≡ count
+    pub opener : IsFresh row point list opened.pool opened.opener
+    pub opener_words : opened.opener.seats.words ≡ seeded_by count
+    pub at_work : (ctx : C) → All (IsAtWork row point law opened.pool ctx) opened.states.items
+    pub numbers : map (λ state. state.number) opened.states.items ≡ range_with_len 0 count
+    pub many : vec_len opened.states ≡ opened.pool.queue.workers
+    pub few : vec_len opened.states ≤ most_rows
+    pub by_number : All (IsByNumber count) opened.states.items
     pub none_ended : opened.ended.items ≡ []
-    pub room_for_ended : vec_len opened.hands ≤ vec_capacity opened.ended
+    pub room_for_ended : vec_len opened.states ≤ vec_capacity opened.ended
     pub none_gathered : IsEmpty opened.gathered
     pub room_to_gather : HasRoom (count + 1) opened.gathered

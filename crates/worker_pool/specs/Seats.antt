@@ -4,7 +4,7 @@ use Rattle.event_word.specs.declared.phase.Phase.TheVariants.{Running}
 use Rattle.event_count.specs.declared.wait_point.WaitPoint as wait_point
 use Rattle.run_queue.specs.declared.rows.Rows as rows
 use Rattle.run_queue.specs.Limits.{most_rows}
-use Rattle.worker_pool.specs.declared.ground.Ground.{Ground}
+use Rattle.worker_pool.specs.declared.job_queue.JobQueue.{JobQueue}
 
 module _ {W A T : Type 0} (point : wait_point.Ghosts W A T) where
   -- a seat of this point, that runs and owes nobody a wake
@@ -27,22 +27,22 @@ module _ {R J A S : Type 0} (row : rows.Ghosts R J A S) where
 module _ {R J A S W T : Type 0} (row : rows.Ghosts R J A S) (point : wait_point.Ghosts W A T) where
   -- There are rows and waiters for each worker of the setup, and beside theirs one seat more at each
   -- for the opener.
-  pub record IsGround (ground : Ground W R) : Type 0 where
-    pub some : 0 < ground.workers
-    pub few : ground.workers ≤ most_rows
-    pub rows : row.row_count ground.rows ≡ ground.workers
-    pub row_seats : row.seat_count ground.rows ≡ ground.workers + 1
-    pub waiters : point.waiter_count ground.point ≡ ground.workers
-    pub wakers : point.seat_count ground.point ≡ ground.workers + 1
+  pub record IsJobQueue (queue : JobQueue W R) : Type 0 where
+    pub some : 0 < queue.workers
+    pub few : queue.workers ≤ most_rows
+    pub rows : row.row_count queue.rows ≡ queue.workers
+    pub row_seats : row.seat_count queue.rows ≡ queue.workers + 1
+    pub waiters : point.waiter_count queue.point ≡ queue.workers
+    pub wakers : point.seat_count queue.point ≡ queue.workers + 1
 
   -- the seats of the thread that opened the pool
-  pub record IsOpener (ground : Ground W R) (seat : S) (waker : T) : Type 0 where
-    pub sized : IsGround ground
-    pub ours : row.rows_of seat ≡ row.identity_of ground.rows
-    pub idle : IsIdle point ground.point waker
+  pub record IsOpener (queue : JobQueue W R) (seat : S) (waker : T) : Type 0 where
+    pub sized : IsJobQueue queue
+    pub ours : row.rows_of seat ≡ row.identity_of queue.rows
+    pub idle : IsIdle point queue.point waker
 
   -- the seats of a worker
-  pub record IsOwner (ground : Ground W R) (seat : S) (waker : T) : Type 0 where
-    pub sized : IsGround ground
-    pub owns : OwnsRow row ground.rows seat
-    pub waits : IsWaiter point ground.point waker
+  pub record IsOwner (queue : JobQueue W R) (seat : S) (waker : T) : Type 0 where
+    pub sized : IsJobQueue queue
+    pub owns : OwnsRow row queue.rows seat
+    pub waits : IsWaiter point queue.point waker

@@ -1,4 +1,4 @@
--- What the steps on the stop word and on the words of workers tell.
+-- What the steps on the stop word tell.
 use Rattle.std.specs.Prelude.{◌≡◌, ℕ, List, [], ◌++◌}
 use Rattle.atomic_table.specs.Table.{Me, Step}
 use Rattle.worker_pool.specs.declared.stop.TheConstants.{STOP}
@@ -25,10 +25,6 @@ module _ {J : Type 0} where
   abbrev pub after_jobs : StopView J → List J → StopView J
   after_jobs view jobs =
       record { jobs = view.jobs ++ jobs; stored = view.stored; found = view.found }
-
-  -- a step on this word, which the seat's view doesn't tell
-  abbrev pub keeps_view : ℕ → Step (Unit {0}) → Sat J → ℕ → Sat J → Type 0
-  keeps_view word step before found after = (step.word ≡ word) × (after ≡ before)
 
   -- a load of the stop word, which is a look at it
   abbrev pub looks : Step (Unit {0}) → Sat J → ℕ → Sat J → Type 0

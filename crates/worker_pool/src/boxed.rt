@@ -43,10 +43,15 @@ impl<A: Allocator> Job<A> for BoxedJob {
 
     type Out = TaskOut;
 
+    /// The task as it was handed in.
+    type Abandoned = BoxedJob;
+
     ghost weight_of = { λ _. 0 };
 
     ghost allows = { λ _ job progress. let task = BoxedTask-box job.0 in
         IsAnswered (task.tag_of job.0.value) (task.may_answer job.0.value) progress };
+
+    ghost abandons = { λ _ job left. left ≡ job };
 
     fn weight(&self) -> u64 {
         0
@@ -65,7 +70,8 @@ impl<A: Allocator> Job<A> for BoxedJob {
         Ok(Progress::Done(TaskOut { tag, answer }))
     }
 
-    fn abandon(self, _ctx: &()) {
-        drop(self);
+    /// The task isn't run.
+    fn abandon(self, _ctx: &()) -> BoxedJob {
+        self
     }
 }

@@ -3,10 +3,10 @@ ghost use Rattle.std.specs.Prelude.{◌≡◌, ◌≤◌, [], ◌∷◌, ◌++�
 ghost use Rattle.worker_pool.specs.Callers.{IsCaller, StaysCaller, IsCancelled, roots_of};
 ghost use Rattle.worker_pool.specs.Callers.{started_of, workers_of, stop_of};
 
-use crate::ground::Ground;
 use crate::job::Job;
+use crate::job_queue::JobQueue;
 use crate::lists::Lists;
-use crate::opener::Opener;
+use crate::opener_seats::OpenerSeats;
 use crate::passes::Passes;
 use crate::run::begin;
 use crate::stop;
@@ -25,11 +25,11 @@ pub struct Caller<
     R: Rows<J, A>,
     L: Lists<J::Out, A>,
 > {
-    pub(crate) ground: &'p Ground<W, R>,
+    pub(crate) queue: &'p JobQueue<W, R>,
     pub(crate) stop: &'p StopWord<J>,
     pub(crate) alloc: &'p A,
     pub(crate) ctx: &'p J::Ctx,
-    pub(crate) opener: Opener<J, A, W, R>,
+    pub(crate) seats: OpenerSeats<J, A, W, R>,
     pub(crate) scheduled: StopSeat<J>,
     pub(crate) outs: L::List,
     pub(crate) refused: u64,
@@ -39,8 +39,7 @@ pub struct Caller<
 
 impl<'p, J, A, W, R, L> Caller<'p, J, A, W, R, L>
 where
-    J: Job<A> + Drop,
-    J::Out: Drop,
+    J: Job<A>,
     A: Allocator + Clone,
     W: WaitPoint<A>,
     R: Rows<J, A>,
@@ -55,15 +54,15 @@ where
         ensures stop { stop_of self.new ≡ stop_of self.old }
     {
         stop::note(self.stop, &mut self.scheduled, &job);
-        let Err(job) = self.opener.pass(rt, self.ground, job) else {
+        let Err(job) = self.seats.pass(rt, self.queue, job) else {
             return;
         };
-        let refused = begin::<RT, J, A, L, Opener<J, A, W, R>>(
+        let refused = begin::<RT, J, A, L, OpenerSeats<J, A, W, R>>(
             rt,
             self.alloc,
             self.ctx,
-            self.ground,
-            &mut self.opener,
+            self.queue,
+            &mut self.seats,
             &mut self.outs,
             job,
         );
@@ -80,7 +79,7 @@ where
     {
         stop::cancel(self.stop, &mut self.scheduled);
         self.cancelled = true;
-        self.ground.point.wake_all(rt, &mut self.opener.waker);
+        self.queue.point.wake_all(rt, &mut self.seats.waker);
     }
 
     /// How many workers were started: at most those that the pool was set up with.
@@ -89,6 +88,6 @@ where
         ensures started { result ≡ started_of self.now }
         ensures few { result ≤ workers_of self.now }
     {
-        self.opener.started
+        self.seats.started
     }
 }

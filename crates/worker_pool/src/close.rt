@@ -10,13 +10,13 @@ ghost use Rattle.worker_pool.specs.Works.{IsAtWork};
 
 use crate::closed::Closed;
 use crate::closer::Closer;
-use crate::desk::Desk;
 use crate::gathered::Gathered;
 use crate::job::Job;
 use crate::lists::Lists;
+use crate::opener_state::OpenerState;
 use crate::pool::Pool;
 use crate::run::begin;
-use crate::worker::Hands;
+use crate::worker::WorkerState;
 use event_count::WaitPoint;
 use run_queue::Rows;
 use std::alloc::Allocator;
@@ -29,8 +29,8 @@ pub(crate) fn close<RT, J, A, W, R, L>(
     rt: &RT,
     pool: Pool<J, A, W, R>,
     ctx: &J::Ctx,
-    desk: Desk<J, A, W, R, L>,
-    hands: Vec<Hands<J, A, W, R>, A>,
+    opener: OpenerState<J, A, W, R, L>,
+    states: Vec<WorkerState<J, A, W, R>, A>,
     gathered: Gathered<J, A, W, R>,
 ) -> Closed<J, A>
 where
@@ -41,19 +41,19 @@ where
     W: WaitPoint<A>,
     R: Rows<J, A>,
     L: Lists<J::Out, A>,
-    requires opener { IsOpener R.Rows W.WaitPoint pool.ground desk.opener.row desk.opener.waker }
-    requires took_none { R.keeps_accounts → R.takes_of desk.opener.row ≡ [] }
-    requires at_work { All (IsAtWork R.Rows W.WaitPoint J.Job pool ctx.now) hands.items }
-    requires every_worker { vec_len hands ≡ pool.ground.workers }
+    requires seats { IsOpener R.Rows W.WaitPoint pool.queue opener.seats.row opener.seats.waker }
+    requires took_none { R.keeps_accounts → R.takes_of opener.seats.row ≡ [] }
+    requires at_work { All (IsAtWork R.Rows W.WaitPoint J.Job pool ctx.now) states.items }
+    requires every_worker { vec_len states ≡ pool.queue.workers }
     requires none_gathered { IsEmpty gathered }
-    requires room { HasRoom (pool.ground.workers + 1) gathered }
-    ensures lists { vec_len result.outs ≡ pool.ground.workers + 1 }
-    ensures none_left { desk.cancelled ≡ false → result.left.items ≡ [] }
+    requires room { HasRoom (pool.queue.workers + 1) gathered }
+    ensures lists { vec_len result.outs ≡ pool.queue.workers + 1 }
+    ensures none_left { opener.cancelled ≡ false → result.left.items ≡ [] }
 
     // The jobs that came to the opener came in, and none is passed on any more.
     ensures account { (roots : List J) → Account R.keeps_accounts
-        (IsStep J.weight_of J.allows ctx.now) roots (R.puts_of desk.opener.row)
-        (L.items_of desk.outs) [] desk.refused
+        (IsStep J.weight_of J.allows ctx.now) roots (R.puts_of opener.seats.row)
+        (L.items_of opener.outs) [] opener.refused
         → Account R.keeps_accounts (IsStep J.weight_of J.allows ctx.now) roots []
         (flat_map (λ list. list.items) result.outs.items) result.left.items result.refused }
 {
@@ -62,19 +62,19 @@ where
         mut wakers,
         mut lists,
         refused: workers_refused,
-    } = gather(hands, gathered);
-    let Desk {
-        opener,
+    } = gather(states, gathered);
+    let OpenerState {
+        seats,
         mut outs,
         refused,
         cancelled,
         ..
-    } = desk;
-    rows.push_reserved(opener.row);
-    wakers.push_reserved(opener.waker);
-    let Pool { ground, alloc, .. } = pool;
-    let left = ground.rows.drain_all(rows);
-    ground.point.shut(wakers);
+    } = opener;
+    rows.push_reserved(seats.row);
+    wakers.push_reserved(seats.waker);
+    let Pool { queue, alloc, .. } = pool;
+    let left = queue.rows.drain_all(rows);
+    queue.point.shut(wakers);
     let (unrun, refused) = settle::<RT, J, A, R, L>(
         rt, alloc, ctx, cancelled, left, &mut outs, refused,
     );
@@ -88,7 +88,7 @@ where
 
 // All workers come home, by number.
 fn gather<J, A, W, R>(
-    hands: Vec<Hands<J, A, W, R>, A>,
+    states: Vec<WorkerState<J, A, W, R>, A>,
     mut gathered: Gathered<J, A, W, R>,
 ) -> Gathered<J, A, W, R>
 where
@@ -98,15 +98,15 @@ where
     W: WaitPoint<A>,
     R: Rows<J, A>,
     requires none { IsEmpty gathered }
-    requires room { HasRoom (length hands.items + 1) gathered }
-    ensures many { count_of result ≡ length hands.items }
+    requires room { HasRoom (length states.items + 1) gathered }
+    ensures many { count_of result ≡ length states.items }
     ensures room { HasRoom 1 result }
     ensures home { (pool : _) → (ctx : _)
-        → All (IsAtWork R.Rows W.WaitPoint J.Job pool ctx) hands.items
-        → HasGathered R.Rows W.WaitPoint J.Job pool.ground ctx result }
+        → All (IsAtWork R.Rows W.WaitPoint J.Job pool ctx) states.items
+        → HasGathered R.Rows W.WaitPoint J.Job pool.queue ctx result }
 {
-    for hand in hands {
-        gathered.add(hand);
+    for state in states {
+        gathered.add(state);
     }
     gathered
 }

@@ -1,12 +1,13 @@
 //! Opening a pool, working in it, and closing it.
-ghost use Rattle.std.specs.Prelude.{◌≡◌, ◌+◌, ◌<◌, ◌↔◌, ◌⊎◌, List, [], ◌∷◌, vec_len, IfOk, IsErrOf};
+ghost use Rattle.std.specs.Prelude.{◌≡◌, ◌+◌, ◌<◌, ◌↔◌, [], ◌∷◌, ◌++◌, vec_len, IfOk, IsErrOf};
 ghost use Rattle.std.specs.List.{flat_map};
 ghost use Rattle.std.specs.Fn.{FnOnceReturnsAtMut};
 ghost use Rattle.worker_pool.specs.Accounts.{Account};
 ghost use Rattle.worker_pool.specs.Callers.{IsCaller, StaysCaller, IsCancelled, roots_of};
-ghost use Rattle.worker_pool.specs.Callers.{workers_of};
+ghost use Rattle.worker_pool.specs.Callers.{workers_of, stop_of};
 ghost use Rattle.worker_pool.specs.Setup.{IsPoolSize, IsNoPoolSize, AreNoPartitions};
 ghost use Rattle.worker_pool.specs.Steps.{IsStep};
+ghost use Rattle.worker_pool.specs.Stops.{open_word};
 
 use crate::caller::Caller;
 use crate::close::close;
@@ -16,8 +17,8 @@ use crate::job::Job;
 use crate::lists::Lists;
 use crate::open::open;
 use crate::setup::{PoolFault, Setup};
-use crate::shop::{Lends, Plants, Shop};
 use crate::start::run_all;
+use crate::workplace::{LendsCaller, PoolWorkplace};
 use event_count::WaitPoint;
 use run_queue::Rows;
 use std::alloc::Allocator;
@@ -40,6 +41,7 @@ where
     J: Job<A> + Drop + Send,
     J::Ctx: Sync,
     J::Out: Drop + Send,
+    J::Abandoned: Send,
     A: Allocator + Clone + Send + Sync,
     W: WaitPoint<A> + Sync,
     W::Seat: Send,
@@ -63,24 +65,25 @@ where
         × FnOnceReturnsAtMut F.FnOnce body before tt after
         × (roots_of before ≡ [])
         × (workers_of before ≡ setup.now.workers)
+        × (stop_of before ≡ open_word)
         × (¬ IsCancelled after → closed.left.items ≡ [])
         × Account R.keeps_accounts (IsStep J.weight_of J.allows ctx.now) (roots_of after) []
         (flat_map (λ list. list.items) closed.outs.items) closed.left.items closed.refused) }
 {
     let opened = open::<J, A, W, R, L>(alloc, setup)?;
     let pool = opened.pool;
-    let shop = Shop {
+    let workplace = PoolWorkplace {
         pool: &pool,
         ctx,
         gate,
     };
-    let opening = Lends {
+    let opening = LendsCaller {
         rt,
-        desk: opened.desk,
+        opener: opened.opener,
         body,
     };
-    let (hands, desk) = run_all(rt, &shop, opened.hands, opened.ended, opening);
-    Ok(close(rt, pool, ctx, desk, hands, opened.gathered))
+    let (states, opener) = run_all(rt, &workplace, opened.states, opened.ended, opening);
+    Ok(close(rt, pool, ctx, opener, states, opened.gathered))
 }
 
 /// Opens a pool, schedules a root job in it, and calls what comes then, while workers run the job
@@ -99,6 +102,7 @@ where
     J: Job<A> + Drop + Send,
     J::Ctx: Sync,
     J::Out: Drop + Send,
+    J::Abandoned: Send,
     A: Allocator + Clone + Send + Sync,
     W: WaitPoint<A> + Sync,
     W::Seat: Send,
@@ -118,19 +122,21 @@ where
         (flat_map (λ list. list.items) closed.outs.items) closed.left.items closed.refused) }
     ensures none_left { IfOk result (λ closed. closed.left.items ≡ []) }
 {
-    let opened = open::<J, A, W, R, L>(alloc, setup)?;
-    let pool = opened.pool;
-    let shop = Shop {
-        pool: &pool,
+    with_pool::<W, R, L, RT, J, A, G, _>(
+        rt,
+        alloc,
+        setup,
         ctx,
         gate,
-    };
-    let opening = Plants {
-        rt,
-        desk: opened.desk,
-        root,
-        then,
-    };
-    let (hands, desk) = run_all(rt, &shop, opened.hands, opened.ended, opening);
-    Ok(close(rt, pool, ctx, desk, hands, opened.gathered))
+        |caller: &mut Caller<'_, J, A, W, R, L>|
+            requires caller { IsCaller R.Rows W.WaitPoint J.Job L.Lists caller.old }
+            requires then { F.pre then }
+            ensures stays { StaysCaller R.Rows W.WaitPoint J.Job L.Lists caller.old caller.new }
+            ensures more { roots_of caller.new ≡ roots_of caller.old ++ root ∷ [] }
+            ensures stop { stop_of caller.new ≡ stop_of caller.old }
+        {
+            caller.schedule(rt, root);
+            then();
+        },
+    )
 }

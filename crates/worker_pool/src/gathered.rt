@@ -2,7 +2,7 @@
 ghost use Rattle.std.specs.Prelude.{ℕ, ◌+◌, IfOk};
 
 use crate::job::Job;
-use crate::worker::Hands;
+use crate::worker::WorkerState;
 use event_count::WaitPoint;
 use run_queue::Rows;
 use std::alloc::{AllocError, Allocator};
@@ -46,20 +46,20 @@ where
         })
     }
 
-    /// One more comes home, with these hands.
-    pub(crate) fn add(&mut self, hands: Hands<J, A, W, R>)
+    /// One more comes home, with this state.
+    pub(crate) fn add(&mut self, state: WorkerState<J, A, W, R>)
         requires room { HasRoom 1 self.old }
-        ensures adds { Adds hands self.old self.new }
+        ensures adds { Adds state self.old self.new }
         ensures room { (more : ℕ) → HasRoom (more + 1) self.old → HasRoom more self.new }
     {
-        let Hands {
-            owner,
+        let WorkerState {
+            seats,
             outs,
             refused,
             ..
-        } = hands;
-        self.rows.push_reserved(owner.row);
-        self.wakers.push_reserved(owner.waker);
+        } = state;
+        self.rows.push_reserved(seats.row);
+        self.wakers.push_reserved(seats.waker);
         self.lists.push_reserved(outs);
         self.refused = self.refused.saturating_add(refused);
     }

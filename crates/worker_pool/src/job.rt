@@ -26,10 +26,16 @@ pub trait Job<A: Allocator>: Sized {
     /// What a job leaves.
     type Out;
 
+    /// What is left of a job that was abandoned.
+    type Abandoned: Drop;
+
     ghost weight_of: { Self → ℕ };
 
     // The job's law: which progress a step may make.
     ghost allows: { Self.Ctx → Self → Progress Self Self.Out → Type 0 };
+
+    // What may be left of a job that was abandoned.
+    ghost abandons: { Self.Ctx → Self → Self.Abandoned → Type 0 };
 
     fn weight(&self) -> u64
         ensures { result ≡ weight_of self.now };
@@ -39,6 +45,8 @@ pub trait Job<A: Allocator>: Sized {
         ensures law { IfOk result (allows ctx.now self) }
         ensures lighter { IfOk result (ForksLighter weight_of (weight_of self)) };
 
-    /// Ends a job that isn't run, since there was no room for its result.
-    fn abandon(self, ctx: &Self::Ctx);
+    /// Ends a job that isn't run, since there was no room for its result. What is left shows that
+    /// it has done what it owes.
+    fn abandon(self, ctx: &Self::Ctx) -> Self::Abandoned
+        ensures { abandons ctx.now self result };
 }

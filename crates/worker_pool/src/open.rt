@@ -3,25 +3,25 @@ ghost use Rattle.std.specs.Prelude.{◌≡◌, ◌+◌, ◌<◌, ◌↔◌, [], 
 ghost use Rattle.std.specs.Prelude.{IsErrOf, length};
 ghost use Rattle.std.specs.List.{range_with_len};
 ghost use Rattle.worker_pool.specs.Openings.{AreRowSeats, AreWakers, IsByNumber, IsOpened};
-ghost use Rattle.worker_pool.specs.Seats.{IsGround};
+ghost use Rattle.worker_pool.specs.Seats.{IsJobQueue};
 ghost use Rattle.worker_pool.specs.Setup.{IsPoolSize, IsNoPoolSize, ArePartitions};
 ghost use Rattle.worker_pool.specs.Setup.{AreNoPartitions};
 ghost use Rattle.worker_pool.specs.Stops.{IsStopSeatOf, jobs_of, stored_of};
 ghost use Rattle.worker_pool.specs.Works.{IsAtWork};
 
-use crate::desk::Desk;
 use crate::gathered::Gathered;
-use crate::ground::Ground;
+use crate::home_rows::home_rows_of;
 use crate::job::Job;
+use crate::job_queue::JobQueue;
 use crate::lists::Lists;
-use crate::near::near_of;
-use crate::opener::Opener;
-use crate::owner::Owner;
+use crate::opener_seats::OpenerSeats;
+use crate::opener_state::OpenerState;
 use crate::pool::Pool;
 use crate::setup::{PoolFault, Setup};
 use crate::stop;
 use crate::stop::StopSeat;
-use crate::worker::Hands;
+use crate::worker::WorkerState;
+use crate::worker_seats::WorkerSeats;
 use event_count::{CountFault, WaitPoint};
 use rand_core::SeedableRng;
 use rand_pcg::Lcg64Xsh32;
@@ -42,11 +42,11 @@ where
     L: Lists<J::Out, A>,
 {
     pub(crate) pool: Pool<J, A, W, R>,
-    pub(crate) desk: Desk<J, A, W, R, L>,
-    /// The hands of each worker, by number.
-    pub(crate) hands: Vec<Hands<J, A, W, R>, A>,
-    /// Empty, with room for the hands of all workers once they have ended.
-    pub(crate) ended: Vec<Hands<J, A, W, R>, A>,
+    pub(crate) opener: OpenerState<J, A, W, R, L>,
+    /// The state of each worker, by number.
+    pub(crate) states: Vec<WorkerState<J, A, W, R>, A>,
+    /// Empty, with room for the states of all workers once they have ended.
+    pub(crate) ended: Vec<WorkerState<J, A, W, R>, A>,
     /// Empty, with room for what all workers and the opener bring home.
     pub(crate) gathered: Gathered<J, A, W, R>,
 }
@@ -94,19 +94,19 @@ where
     let workers = setup.workers as u16;
     let gathered = Gathered::with_room(&alloc, usize::from(workers) + 1)?;
     let ended = Vec::with_capacity(alloc.clone()?, usize::from(workers))?;
-    let (ground, mut rows, mut wakers) = open_ground::<J, A, W, R>(&alloc, workers)?;
+    let (queue, mut rows, mut wakers) = open_queue::<J, A, W, R>(&alloc, workers)?;
     let (stop, mut scheduled) = stop::open(alloc.clone()?)?;
     let pool = Pool {
-        ground,
+        queue,
         stop,
         coprimes: Coprimes::new(alloc.clone()?, u32::from(workers))?,
         alloc,
     };
     let row = take_last(&mut rows);
     let waker = take_last(&mut wakers);
-    let hands = deal(&pool, setup, &mut scheduled, rows, wakers)?;
-    let desk = Desk {
-        opener: Opener {
+    let states = deal(&pool, setup, &mut scheduled, rows, wakers)?;
+    let opener = OpenerState {
+        seats: OpenerSeats {
             row,
             waker,
             words: Lcg64Xsh32::seed_from_u64(u64::from(workers)),
@@ -120,8 +120,8 @@ where
     };
     Ok(Opened {
         pool,
-        desk,
-        hands,
+        opener,
+        states,
         ended,
         gathered,
     })
@@ -138,18 +138,18 @@ fn take_last<T, A: Allocator>(list: &mut Vec<T, A>) -> T
     last
 }
 
-// Where so many workers and an opener meet, and the seats there by number: the opener's are the last.
-fn open_ground<J, A, W, R>(
+// A queue for so many workers and an opener, and the seats there by number: the opener's are last.
+fn open_queue<J, A, W, R>(
     alloc: &A,
     workers: u16,
-) -> Result<(Ground<W, R>, Vec<R::Seat, A>, Vec<W::Seat, A>), AllocError>
+) -> Result<(JobQueue<W, R>, Vec<R::Seat, A>, Vec<W::Seat, A>), AllocError>
 where
     A: Allocator + Clone,
     W: WaitPoint<A>,
     R: Rows<J, A>,
     requires { IsPoolSize workers }
     ensures workers { IfOk result (λ made. made.0.workers ≡ workers) }
-    ensures sized { IfOk result (λ made. IsGround R.Rows W.WaitPoint made.0) }
+    ensures sized { IfOk result (λ made. IsJobQueue R.Rows W.WaitPoint made.0) }
     ensures rows { IfOk result (λ made. AreRowSeats R.Rows made.0.rows 0 made.1.items) }
     ensures wakers { IfOk result (λ made. AreWakers W.WaitPoint made.0.point 0 made.2.items) }
     ensures many { IfOk result (λ made.
@@ -165,55 +165,55 @@ where
         Err(CountFault::NoMemory) => return Err(AllocError),
         Err(CountFault::TooManyWaiters) => unreachable!(),
     };
-    let ground = Ground {
+    let queue = JobQueue {
         rows,
         point,
         workers,
     };
-    Ok((ground, row_seats, wakers))
+    Ok((queue, row_seats, wakers))
 }
 
-// The hands of each worker, by number.
+// The state of each worker, by number.
 fn deal<J, A, W, R>(
     pool: &Pool<J, A, W, R>,
     setup: &Setup<A>,
     scheduled: &mut StopSeat<J>,
     rows: Vec<R::Seat, A>,
     wakers: Vec<W::Seat, A>,
-) -> Result<Vec<Hands<J, A, W, R>, A>, AllocError>
+) -> Result<Vec<WorkerState<J, A, W, R>, A>, AllocError>
 where
     J: Job<A> + Drop,
     J::Out: Drop,
     A: Allocator + Clone,
     W: WaitPoint<A>,
     R: Rows<J, A>,
-    requires sized { IsGround R.Rows W.WaitPoint pool.now.ground }
-    requires coprimes { pool.now.coprimes ≡ pool.now.ground.workers }
-    requires same_size { setup.now.workers ≡ pool.now.ground.workers }
+    requires sized { IsJobQueue R.Rows W.WaitPoint pool.now.queue }
+    requires coprimes { pool.now.coprimes ≡ pool.now.queue.workers }
+    requires same_size { setup.now.workers ≡ pool.now.queue.workers }
     requires partitions { ArePartitions setup.now.workers setup.now.partitions.items }
     requires stop { IsStopSeatOf pool.now.stop.shared scheduled.old }
-    requires rows { AreRowSeats R.Rows pool.now.ground.rows 0 rows.items }
-    requires wakers { AreWakers W.WaitPoint pool.now.ground.point 0 wakers.items }
-    requires rows_many { length rows.items ≡ pool.now.ground.workers }
-    requires wakers_many { length wakers.items ≡ pool.now.ground.workers }
+    requires rows { AreRowSeats R.Rows pool.now.queue.rows 0 rows.items }
+    requires wakers { AreWakers W.WaitPoint pool.now.queue.point 0 wakers.items }
+    requires rows_many { length rows.items ≡ pool.now.queue.workers }
+    requires wakers_many { length wakers.items ≡ pool.now.queue.workers }
     ensures stop { IsStopSeatOf pool.now.stop.shared scheduled.new }
     ensures same { jobs_of scheduled.new ≡ jobs_of scheduled.old }
     ensures stored { stored_of scheduled.new ≡ stored_of scheduled.old }
-    ensures at_work { IfOk result (λ hands. (ctx : J.Ctx) →
-        All (IsAtWork R.Rows W.WaitPoint J.Job pool.now ctx) hands.items) }
-    ensures numbers { IfOk result (λ hands.
-        map (λ hand. hand.number) hands.items ≡ range_with_len 0 pool.now.ground.workers) }
-    ensures by_number { IfOk result (λ hands. All (IsByNumber R.Rows W.WaitPoint
-        setup.now.partitions.items setup.now.workers) hands.items) }
+    ensures at_work { IfOk result (λ states. (ctx : J.Ctx) →
+        All (IsAtWork R.Rows W.WaitPoint J.Job pool.now ctx) states.items) }
+    ensures numbers { IfOk result (λ states.
+        map (λ state. state.number) states.items ≡ range_with_len 0 pool.now.queue.workers) }
+    ensures by_number { IfOk result (λ states. All (IsByNumber R.Rows W.WaitPoint
+        setup.now.partitions.items setup.now.workers) states.items) }
 {
-    let mut hands = Vec::with_capacity(pool.alloc.clone()?, rows.len())?;
+    let mut states = Vec::with_capacity(pool.alloc.clone()?, rows.len())?;
     for (row, waker) in rows.into_iter().zip(wakers) {
-        let number = hands.len() as u32;
-        let near = near_of(pool.alloc.clone()?, setup, number)?;
-        hands.push_reserved(Hands {
+        let number = states.len() as u32;
+        let home = home_rows_of(pool.alloc.clone()?, setup, number)?;
+        states.push_reserved(WorkerState {
             number,
-            near,
-            owner: Owner {
+            home,
+            seats: WorkerSeats {
                 row,
                 waker,
                 of: PhantomData,
@@ -224,5 +224,5 @@ where
             refused: 0,
         });
     }
-    Ok(hands)
+    Ok(states)
 }

@@ -1,13 +1,13 @@
 //! What all threads of a pool share.
-use crate::ground::Ground;
+use crate::job_queue::JobQueue;
 use crate::stop::StopTable;
 use std::alloc::Allocator;
 use steal_walk::Coprimes;
 
-/// The ground, the stop word, and what workers walk by.
+/// The queue of jobs, the stop word, and what workers walk by.
 #[derive(Drop)]
 pub(crate) struct Pool<J, A: Allocator, W: Drop, R: Drop> {
-    pub(crate) ground: Ground<W, R>,
+    pub(crate) queue: JobQueue<W, R>,
     pub(crate) stop: StopTable<J, A>,
     pub(crate) coprimes: Coprimes<A>,
     pub(crate) alloc: A,

@@ -22,8 +22,7 @@ pub(crate) fn begin<RT, J, A, L, P>(
 ) -> u64
 where
     RT: Wait,
-    J: Job<A> + Drop,
-    J::Out: Drop,
+    J: Job<A>,
     A: Allocator + Clone,
     L: Lists<J::Out, A>,
     P: Passes<J>,
@@ -56,8 +55,7 @@ fn run<RT, J, A, L, P>(
 ) -> u64
 where
     RT: Wait,
-    J: Job<A> + Drop,
-    J::Out: Drop,
+    J: Job<A>,
     A: Allocator + Clone,
     L: Lists<J::Out, A>,
     P: Passes<J>,

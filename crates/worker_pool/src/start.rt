@@ -6,137 +6,147 @@ ghost use Rattle.worker_pool.specs.Starts.{IsToRun, HasRun};
 use std::alloc::Allocator;
 use std::snapshot::Snapshot;
 use std::sync::Wait;
+use std::sync::atomic::{AtomicU64, Ordering};
 use std::thread;
 use std::thread::{Promise, Scope, Threads};
 
-/// Where workers work, each with hands of its own.
-pub(crate) trait Site<X> {
-    ghost use Rattle.std.specs.Prelude.{ℕ, ◌<◌};
-    ghost use Rattle.run_queue.specs.Limits.{most_rows};
-
-    // These hands are at work here.
+/// Where workers work, each with a state of its own.
+pub(crate) trait Workplace<X> {
+    // A worker in this state is at work here.
     ghost is_at_work: { Self → X → Type 0 };
 
-    /// Works as the worker of this number until there is nothing more to do. One that was left out
-    /// does nothing.
-    fn work<RT: Wait>(&self, rt: &RT, worker: usize, hands: X) -> X
-        requires at_work { is_at_work self.now hands }
-        requires worker { worker < most_rows }
+    /// Works until there is nothing more to do.
+    fn work<RT: Wait>(&self, rt: &RT, state: X) -> X
+        requires { is_at_work self.now state }
         ensures { is_at_work self.now result };
 }
 
-/// What the one that opens a site does while the workers work.
+/// What the one that opens a workplace does while the workers work.
 pub(crate) trait Opening<S> {
-    ghost use Rattle.std.specs.Prelude.{ℕ, ◌<◌};
-    ghost use Rattle.run_queue.specs.Limits.{most_rows};
+    ghost use Rattle.std.specs.Prelude.{ℕ};
 
     /// What is left to it.
-    type Desk;
+    type State;
 
-    // It may begin at this site, where so many workers were started.
+    // It may begin at this workplace, where so many workers were started.
     ghost may_begin: { Self → S → ℕ → Type 0 };
 
     // It has ended, and this is what it left.
-    ghost has_left: { Self → S → Self.Desk → Type 0 };
+    ghost has_left: { Self → S → Self.State → Type 0 };
 
     /// Does it, and lets the workers end.
-    fn run(self, site: &S, started: u32) -> Self::Desk
-        requires { may_begin self site.now started }
-        ensures { has_left self site.now result };
-
-    /// The worker of this number takes no turn.
-    fn leave_out(site: &S, desk: &mut Self::Desk, worker: usize)
-        requires left { (opening : Self) × has_left opening site.now desk.old }
-        requires worker { worker < most_rows }
-        ensures { (opening : Self) → has_left opening site.now desk.old
-            → has_left opening site.now desk.new };
+    fn run(self, workplace: &S, started: u32) -> Self::State
+        requires { may_begin self workplace.now started }
+        ensures { has_left self workplace.now result };
 }
 
-/// Hands that were at work at this site still are.
+/// A worker that was at work here still is.
 #[derive(Drop)]
 struct ComeHome<S>(Snapshot<S>);
 
-impl<X, S: Site<X>> Promise<X> for ComeHome<S> {
-    ghost kept_by = { λ home hands. S.is_at_work home.0.value hands };
+impl<X, S: Workplace<X>> Promise<X> for ComeHome<S> {
+    ghost kept_by = { λ home state. S.is_at_work home.0.value state };
 }
 
-/// Starts a worker for each of the hands, calls the opening with how many were started, and brings
-/// all hands home, by number.
+/// The number of no worker.
+const NOBODY: u64 = u64::MAX;
+
+/// Starts a worker for each of the states, calls the opening with how many were started, and brings
+/// all states home, by number. A worker that couldn't be started does nothing.
 pub(crate) fn run_all<RT, X, A, S, B>(
     rt: &RT,
-    site: &S,
-    hands: Vec<X, A>,
+    workplace: &S,
+    states: Vec<X, A>,
     ended: Vec<X, A>,
     opening: B,
-) -> (Vec<X, A>, B::Desk)
+) -> (Vec<X, A>, B::State)
 where
     RT: Threads + Wait + Sync,
     X: Send + Drop,
     A: Allocator,
-    S: Site<X> + Sync,
+    S: Workplace<X> + Sync,
     B: Opening<S> + Drop,
-    requires at_work { All (S.is_at_work site.now) hands.items }
-    requires few { vec_len hands ≤ most_rows }
+    requires at_work { All (S.is_at_work workplace.now) states.items }
+    requires few { vec_len states ≤ most_rows }
     requires none_ended { vec_len ended ≡ 0 }
-    requires room { vec_len hands ≤ vec_capacity ended }
-    requires begins { (started : ℕ) → started ≤ vec_len hands
-        → B.may_begin opening site.now started }
-    ensures all { vec_len result.0 ≡ vec_len hands }
-    ensures at_work { All (S.is_at_work site.now) result.0.items }
-    ensures left { B.has_left opening site.now result.1 }
+    requires room { vec_len states ≤ vec_capacity ended }
+    requires begins { (started : ℕ) → started ≤ vec_len states
+        → B.may_begin opening workplace.now started }
+    ensures all { vec_len result.0 ≡ vec_len states }
+    ensures at_work { All (S.is_at_work workplace.now) result.0.items }
+    ensures left { B.has_left opening workplace.now result.1 }
 {
+    let left_out = AtomicU64::new(NOBODY);
     thread::scope(
         thread::scope_env(),
         rt,
-        |scope| -> (Vec<X, A>, B::Desk)
-            requires { IsToRun S.is_at_work B.may_begin site.now hands ended 0 opening }
-            ensures { HasRun S.is_at_work B.has_left site.entry.now hands ended opening result }
-        { start_all(rt, scope, site, hands, ended, 0, opening) },
+        |scope| -> (Vec<X, A>, B::State)
+            requires { IsToRun S.is_at_work B.may_begin workplace.now states ended 0 opening }
+            ensures { HasRun S.is_at_work B.has_left workplace.entry.now states ended opening result }
+        { start_all(rt, scope, workplace, &left_out, states, ended, 0, opening) },
     )
 }
 
-// Starts a worker for the last of the hands, and then for the others, so that the first come home
-// first.
+// Starts a worker for the last of the states, and then for the others, so that the first come home
+// first. One whose thread is refused is called all the same, once the opening has ended, so that
+// its state comes home: its number is flagged before, and tells it to do nothing.
 fn start_all<'s, E, RT, X, A, S, B>(
     rt: &'s RT,
     scope: &Scope<'s, E>,
-    site: &'s S,
-    mut hands: Vec<X, A>,
+    workplace: &'s S,
+    left_out: &'s AtomicU64,
+    mut states: Vec<X, A>,
     ended: Vec<X, A>,
     started: u32,
     opening: B,
-) -> (Vec<X, A>, B::Desk)
+) -> (Vec<X, A>, B::State)
 where
     RT: Threads + Wait + Sync,
     X: Send + Drop + 's,
     A: Allocator,
-    S: Site<X> + Sync,
+    S: Workplace<X> + Sync,
     B: Opening<S> + Drop,
-    requires { IsToRun S.is_at_work B.may_begin site.now hands ended started opening }
-    ensures { HasRun S.is_at_work B.has_left site.now hands ended opening result }
+    requires { IsToRun S.is_at_work B.may_begin workplace.now states ended started opening }
+    ensures { HasRun S.is_at_work B.has_left workplace.now states ended opening result }
 {
-    let Some(next) = hands.pop() else {
-        return (ended, opening.run(site, started));
+    let Some(next) = states.pop() else {
+        return (ended, opening.run(workplace, started));
     };
-    let worker = hands.len();
+    let number = states.len() as u64;
     match scope.spawn_with(
-        ComeHome(Snapshot::of(site)),
+        ComeHome(Snapshot::of(workplace)),
         move || -> X
-            requires at_work { S.is_at_work site.now next }
-            requires worker { worker < most_rows }
-            ensures { S.is_at_work site.entry.now result }
-        { site.work(rt, worker, next) },
+            requires { S.is_at_work workplace.now next }
+            ensures { S.is_at_work workplace.entry.now result }
+        {
+            if left_out.load(Ordering::SeqCst) == number {
+                next
+            } else {
+                workplace.work(rt, next)
+            }
+        },
     ) {
         Ok(child) => {
-            let (mut ended, desk) = start_all(rt, scope, site, hands, ended, started + 1, opening);
+            let (mut ended, state) = start_all(
+                rt,
+                scope,
+                workplace,
+                left_out,
+                states,
+                ended,
+                started + 1,
+                opening,
+            );
             ended.push_reserved(child.join(rt));
-            (ended, desk)
+            (ended, state)
         }
         Err(refused) => {
-            let (mut ended, mut desk) = start_all(rt, scope, site, hands, ended, started, opening);
-            B::leave_out(site, &mut desk, worker);
+            let (mut ended, state) = start_all(
+                rt, scope, workplace, left_out, states, ended, started, opening,
+            );
+            left_out.store(number, Ordering::SeqCst);
             ended.push_reserved((refused.value)());
-            (ended, desk)
+            (ended, state)
         }
     }
 }

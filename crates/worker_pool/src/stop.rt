@@ -1,32 +1,19 @@
-//! The stop word, the words of the workers, and what the seats at their table know.
-ghost use Rattle.std.specs.Prelude.{◌≡◌, ◌≢◌, ℕ, ◌+◌, ◌<◌, ◌↔◌, List, [], ◌∷◌, ◌++◌, IfOk, IsTrue};
-ghost use Rattle.run_queue.specs.Limits.{most_rows};
+//! The stop word, and what the seats at its table know.
+ghost use Rattle.std.specs.Prelude.{◌≡◌, ◌≢◌, ◌↔◌, List, [], ◌∷◌, ◌++◌, IfOk, IsTrue};
 ghost use Rattle.worker_pool.specs.Stops.{IsStopSeatOf, jobs_of, stored_of, found_of};
 ghost use Rattle.worker_pool.specs.Stops.{open_word, cancelled_word, closing_word};
 
 use crate::stop_view::StopView;
 use atomic_table::{Play, Seat, Shared, Split, Table, TableRule};
-use run_queue::MOST_ROWS;
 use std::alloc::{AllocError, Allocator};
 use std::marker::{Brand, PhantomData};
 
-/// How many words the table has: two cache lines, and a word for each worker.
-const WORDS: usize = WORKERS + MOST_ROWS as usize;
+/// How many words the table has: two cache lines.
+const WORDS: usize = 16;
 
 /// The place of the stop word. The cache line that it lies in has no memory of others, wherever the
 /// block begins.
 const STOP: usize = 8;
-
-/// The place of the first worker's word. A worker whose thread couldn't be started is called all the
-/// same, so that its seats come home, and this word tells it to take no turn. Each is loaded once,
-/// so they may share their lines.
-const WORKERS: usize = 16;
-
-/// The word of a worker that was started.
-const STARTED: u64 = 0;
-
-/// The word of a worker that was left out, since no thread could be had for it.
-const LEFT_OUT: u64 = 1;
 
 /// The stop word of a pool that is open.
 const OPEN: u64 = 0;
@@ -77,26 +64,6 @@ impl<J> Play<(), StopView<J>> for Stores<J> {
     ghost then = { stores };
 }
 
-/// The place of a worker's word.
-trait WordOfWorker {
-    ghost use Rattle.std.specs.Prelude.{ℕ};
-
-    ghost place: { ℕ };
-}
-
-impl WordOfWorker for Brand {
-    ghost place = { 0 };
-}
-
-/// A worker's word is loaded or stored, of which no view tells.
-struct StepsOnWorker<J, K: WordOfWorker>(PhantomData<(J, K)>);
-
-impl<J, K: WordOfWorker> Play<(), StopView<J>> for StepsOnWorker<J, K> {
-    ghost use Rattle.worker_pool.specs.StopPlays.{keeps_view};
-
-    ghost then = { keeps_view K.place };
-}
-
 /// The jobs that a load schedules.
 trait Scheduled<J> {
     ghost jobs: { List J };
@@ -130,9 +97,7 @@ pub(crate) fn open<J, A: Allocator>(alloc: A) -> Result<(StopTable<J, A>, StopSe
     ensures none { IfOk result (λ made. jobs_of made.1 ≡ []) }
     ensures stored { IfOk result (λ made. stored_of made.1 ≡ open_word) }
 {
-    let mut words = [STARTED; WORDS];
-    words[STOP] = OPEN;
-    Table::of_words(alloc, &words, &())
+    Table::of_words(alloc, &[OPEN; WORDS], &())
 }
 
 /// Another seat.
@@ -204,46 +169,4 @@ fn note_by<J, K: Scheduled<J>>(stop: &StopWord<J>, seat: &mut StopSeat<J>, _job:
     ensures stored { stored_of seat.new ≡ stored_of seat.old }
 {
     stop.load::<Schedules<J, K>>(seat, STOP);
-}
-
-/// Whether the worker of this number had been left out when its word was loaded.
-pub(crate) fn is_left_out<J>(stop: &StopWord<J>, seat: &mut StopSeat<J>, worker: usize) -> bool
-    requires of { IsStopSeatOf stop.now seat.old }
-    requires worker { worker < most_rows }
-    ensures of { IsStopSeatOf stop.now seat.new }
-    ensures same { jobs_of seat.new ≡ jobs_of seat.old }
-{
-    load_by::<J, Brand>(stop, seat, worker) == LEFT_OUT
-}
-
-/// The worker of this number takes no turn.
-pub(crate) fn leave_out<J>(stop: &StopWord<J>, seat: &mut StopSeat<J>, worker: usize)
-    requires of { IsStopSeatOf stop.now seat.old }
-    requires worker { worker < most_rows }
-    ensures of { IsStopSeatOf stop.now seat.new }
-    ensures same { jobs_of seat.new ≡ jobs_of seat.old }
-    ensures stored { stored_of seat.new ≡ stored_of seat.old }
-{
-    store_by::<J, Brand>(stop, seat, worker);
-}
-
-fn load_by<J, K: WordOfWorker>(stop: &StopWord<J>, seat: &mut StopSeat<J>, worker: usize) -> u64
-    requires of { IsStopSeatOf stop.now seat.old }
-    requires worker { worker < most_rows }
-    requires place { K.place ≡ WORKERS + worker }
-    ensures of { IsStopSeatOf stop.now seat.new }
-    ensures same { jobs_of seat.new ≡ jobs_of seat.old }
-{
-    stop.load::<StepsOnWorker<J, K>>(seat, WORKERS + worker)
-}
-
-fn store_by<J, K: WordOfWorker>(stop: &StopWord<J>, seat: &mut StopSeat<J>, worker: usize)
-    requires of { IsStopSeatOf stop.now seat.old }
-    requires worker { worker < most_rows }
-    requires place { K.place ≡ WORKERS + worker }
-    ensures of { IsStopSeatOf stop.now seat.new }
-    ensures same { jobs_of seat.new ≡ jobs_of seat.old }
-    ensures stored { stored_of seat.new ≡ stored_of seat.old }
-{
-    stop.store::<StepsOnWorker<J, K>>(seat, WORKERS + worker, LEFT_OUT);
 }

@@ -1,21 +1,21 @@
 //! A worker's turns.
 ghost use Rattle.std.specs.Prelude.{◌≡◌, ◌<◌, ◌++◌, All};
-ghost use Rattle.worker_pool.specs.Seats.{IsGround, IsOwner};
+ghost use Rattle.worker_pool.specs.Seats.{IsJobQueue, IsOwner};
 ghost use Rattle.worker_pool.specs.Stops.{IsStopSeatOf};
 ghost use Rattle.worker_pool.specs.Turns.{jobs_in};
 ghost use Rattle.worker_pool.specs.Works.{IsAtWork, IsInside};
 
 use crate::gate::Gate;
-use crate::ground::Ground;
+use crate::home_rows::HomeRows;
 use crate::job::Job;
+use crate::job_queue::JobQueue;
 use crate::lists::VecLists;
-use crate::near::Near;
-use crate::owner::Owner;
 use crate::pool::Pool;
 use crate::run::begin;
 use crate::steal::{first_full, steal};
 use crate::stop;
 use crate::stop::StopSeat;
+use crate::worker_seats::WorkerSeats;
 use event_count::WaitPoint;
 use rand_core::utils::NextWord;
 use rand_pcg::Lcg64Xsh32;
@@ -26,9 +26,9 @@ use steal_walk::Walk;
 
 /// What a worker works with.
 #[derive(Drop)]
-pub(crate) struct Hands<J, A, W, R>
+pub(crate) struct WorkerState<J, A, W, R>
 where
-    J: Job<A> + Drop,
+    J: Job<A>,
     J::Out: Drop,
     A: Allocator,
     W: WaitPoint<A>,
@@ -36,8 +36,8 @@ where
 {
     pub(crate) number: u32,
     /// Its partition, where it has one that isn't the whole pool.
-    pub(crate) near: Option<Near<A>>,
-    pub(crate) owner: Owner<J, A, W, R>,
+    pub(crate) home: Option<HomeRows<A>>,
+    pub(crate) seats: WorkerSeats<J, A, W, R>,
     pub(crate) stop: StopSeat<J>,
     pub(crate) words: Lcg64Xsh32,
     pub(crate) outs: Vec<J::Out, A>,
@@ -62,40 +62,40 @@ pub(crate) fn take_turns<RT, J, A, W, R, G>(
     pool: &Pool<J, A, W, R>,
     ctx: &J::Ctx,
     gate: &G,
-    hands: Hands<J, A, W, R>,
-) -> Hands<J, A, W, R>
+    state: WorkerState<J, A, W, R>,
+) -> WorkerState<J, A, W, R>
 where
     RT: Wait,
-    J: Job<A> + Drop,
+    J: Job<A>,
     J::Out: Drop,
     A: Allocator + Clone,
     W: WaitPoint<A>,
     R: Rows<J, A>,
     G: Gate,
-    requires { IsAtWork R.Rows W.WaitPoint J.Job pool.now ctx.now hands }
+    requires { IsAtWork R.Rows W.WaitPoint J.Job pool.now ctx.now state }
     ensures { IsAtWork R.Rows W.WaitPoint J.Job pool.now ctx.now result }
 {
-    let Hands {
+    let WorkerState {
         number,
-        near,
-        mut owner,
+        home,
+        mut seats,
         mut stop,
         mut words,
         mut outs,
         mut refused,
-    } = hands;
+    } = state;
     let mut turn: u64 = 0;
     for _ in rt.forever() {
         gate.before(number, turn);
         turn = turn.saturating_add(1);
-        match take_turn(rt, pool, &near, &mut owner, &mut stop, &mut words) {
+        match take_turn(rt, pool, &home, &mut seats, &mut stop, &mut words) {
             Turn::Found(job) => {
-                let more = begin::<RT, J, A, VecLists, Owner<J, A, W, R>>(
+                let more = begin::<RT, J, A, VecLists, WorkerSeats<J, A, W, R>>(
                     rt,
                     &pool.alloc,
                     ctx,
-                    &pool.ground,
-                    &mut owner,
+                    &pool.queue,
+                    &mut seats,
                     &mut outs,
                     job,
                 );
@@ -103,10 +103,10 @@ where
             }
             Turn::Again => {}
             Turn::Last => {
-                return Hands {
+                return WorkerState {
                     number,
-                    near,
-                    owner,
+                    home,
+                    seats,
                     stop,
                     words,
                     outs,
@@ -123,8 +123,8 @@ where
 fn take_turn<RT, J, A, W, R>(
     rt: &RT,
     pool: &Pool<J, A, W, R>,
-    near: &Option<Near<A>>,
-    owner: &mut Owner<J, A, W, R>,
+    home: &Option<HomeRows<A>>,
+    seats: &mut WorkerSeats<J, A, W, R>,
     stop: &mut StopSeat<J>,
     words: &mut Lcg64Xsh32,
 ) -> Turn<J>
@@ -133,33 +133,33 @@ where
     A: Allocator,
     W: WaitPoint<A>,
     R: Rows<J, A>,
-    requires near { IsInside pool.now.ground.workers near.now }
-    requires owner { IsOwner R.Rows W.WaitPoint pool.now.ground owner.old.row owner.old.waker }
+    requires home { IsInside pool.now.queue.workers home.now }
+    requires seats { IsOwner R.Rows W.WaitPoint pool.now.queue seats.old.row seats.old.waker }
     requires stop { IsStopSeatOf pool.now.stop.shared stop.old }
-    requires coprimes { pool.now.coprimes ≡ pool.now.ground.workers }
-    ensures owner { IsOwner R.Rows W.WaitPoint pool.now.ground owner.new.row owner.new.waker }
+    requires coprimes { pool.now.coprimes ≡ pool.now.queue.workers }
+    ensures seats { IsOwner R.Rows W.WaitPoint pool.now.queue seats.new.row seats.new.waker }
     ensures stop { IsStopSeatOf pool.now.stop.shared stop.new }
-    ensures puts { R.keeps_accounts → R.puts_of owner.new.row ≡ R.puts_of owner.old.row }
+    ensures puts { R.keeps_accounts → R.puts_of seats.new.row ≡ R.puts_of seats.old.row }
     ensures takes { R.keeps_accounts
-        → R.takes_of owner.new.row ≡ R.takes_of owner.old.row ++ jobs_in result }
+        → R.takes_of seats.new.row ≡ R.takes_of seats.old.row ++ jobs_in result }
 {
-    let rows = &pool.ground.rows;
+    let rows = &pool.queue.rows;
     if stop::is_cancelled(&pool.stop.shared, stop) {
         return Turn::Last;
     }
-    if let Some(job) = rows.take_front(rt, &mut owner.row) {
+    if let Some(job) = rows.take_front(rt, &mut seats.row) {
         return Turn::Found(job);
     }
-    if let Some(near) = near {
-        if let Some(job) = steal(rt, rows, &mut owner.row, near.walk(words)) {
+    if let Some(home) = home {
+        if let Some(job) = steal(rt, rows, &mut seats.row, home.walk(words)) {
             return Turn::Found(job);
         }
     }
     let walk = walk_of(pool, words);
-    if let Some(job) = steal(rt, rows, &mut owner.row, walk) {
+    if let Some(job) = steal(rt, rows, &mut seats.row, walk) {
         return Turn::Found(job);
     }
-    wait(rt, pool, owner, stop, words)
+    wait(rt, pool, seats, stop, words)
 }
 
 // Says that it is about to wait, looks once more at the stop word and at all rows, and waits where
@@ -167,7 +167,7 @@ where
 fn wait<RT, J, A, W, R>(
     rt: &RT,
     pool: &Pool<J, A, W, R>,
-    owner: &mut Owner<J, A, W, R>,
+    seats: &mut WorkerSeats<J, A, W, R>,
     stop: &mut StopSeat<J>,
     words: &mut Lcg64Xsh32,
 ) -> Turn<J>
@@ -176,31 +176,31 @@ where
     A: Allocator,
     W: WaitPoint<A>,
     R: Rows<J, A>,
-    requires owner { IsOwner R.Rows W.WaitPoint pool.now.ground owner.old.row owner.old.waker }
+    requires seats { IsOwner R.Rows W.WaitPoint pool.now.queue seats.old.row seats.old.waker }
     requires stop { IsStopSeatOf pool.now.stop.shared stop.old }
-    requires coprimes { pool.now.coprimes ≡ pool.now.ground.workers }
-    ensures owner { IsOwner R.Rows W.WaitPoint pool.now.ground owner.new.row owner.new.waker }
+    requires coprimes { pool.now.coprimes ≡ pool.now.queue.workers }
+    ensures seats { IsOwner R.Rows W.WaitPoint pool.now.queue seats.new.row seats.new.waker }
     ensures stop { IsStopSeatOf pool.now.stop.shared stop.new }
-    ensures puts { R.keeps_accounts → R.puts_of owner.new.row ≡ R.puts_of owner.old.row }
+    ensures puts { R.keeps_accounts → R.puts_of seats.new.row ≡ R.puts_of seats.old.row }
     ensures takes { R.keeps_accounts
-        → R.takes_of owner.new.row ≡ R.takes_of owner.old.row ++ jobs_in result }
+        → R.takes_of seats.new.row ≡ R.takes_of seats.old.row ++ jobs_in result }
 {
-    let Ground { rows, point, .. } = &pool.ground;
-    point.enter(rt, &mut owner.waker);
+    let JobQueue { rows, point, .. } = &pool.queue;
+    point.enter(rt, &mut seats.waker);
     let stopped = stop::is_set(&pool.stop.shared, stop);
     let walk = walk_of(pool, words);
-    if let Some(row) = first_full(rt, rows, &mut owner.row, walk) {
-        point.leave(rt, &mut owner.waker);
-        return match rows.take_back(rt, &mut owner.row, row) {
+    if let Some(row) = first_full(rt, rows, &mut seats.row, walk) {
+        point.leave(rt, &mut seats.waker);
+        return match rows.take_back(rt, &mut seats.row, row) {
             Some(job) => Turn::Found(job),
             None => Turn::Again,
         };
     }
     if stopped {
-        point.leave(rt, &mut owner.waker);
+        point.leave(rt, &mut seats.waker);
         return Turn::Last;
     }
-    point.sleep(rt, &mut owner.waker);
+    point.sleep(rt, &mut seats.waker);
     Turn::Again
 }
 
@@ -210,10 +210,10 @@ where
     A: Allocator,
     W: WaitPoint<A>,
     R: Rows<J, A>,
-    requires sized { IsGround R.Rows W.WaitPoint pool.now.ground }
-    requires coprimes { pool.now.coprimes ≡ pool.now.ground.workers }
-    ensures { All (λ row. row < R.row_count pool.now.ground.rows) result }
+    requires sized { IsJobQueue R.Rows W.WaitPoint pool.now.queue }
+    requires coprimes { pool.now.coprimes ≡ pool.now.queue.workers }
+    ensures { All (λ row. row < R.row_count pool.now.queue.rows) result }
 {
-    let workers = u32::from(pool.ground.workers);
+    let workers = u32::from(pool.queue.workers);
     Walk::of(words.next_word(), 0, workers, &pool.coprimes)
 }

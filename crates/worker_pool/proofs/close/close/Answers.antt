@@ -11,17 +11,17 @@ use Rattle.worker_pool.proofs.close.close.Goals as goal
 pub drain_all-left-requires-clause-ours : goal.drain_all-left-requires-clause-ours
 drain_all-left-requires-clause-ours g c =
     let home = c.gather-rows.ensures.home c.args.pool c.args.ctx.now c.requires.at_work in
-    All-snoc (λ seat. g.R.Rows.rows_of seat ≡ g.R.Rows.identity_of c.args.pool.ground.rows) _ _ _
-    c.push_reserved.ensures.items home.ours c.requires.opener.ours
+    All-snoc (λ seat. g.R.Rows.rows_of seat ≡ g.R.Rows.identity_of c.args.pool.queue.rows) _ _ _
+    c.push_reserved.ensures.items home.ours c.requires.seats.ours
 
 pub shut-requires-clause-ours : goal.shut-requires-clause-ours
 shut-requires-clause-ours g c =
-    let point = c.args.pool.ground.point in
+    let point = c.args.pool.queue.point in
     let home = c.gather-rows.ensures.home c.args.pool c.args.ctx.now c.requires.at_work in
     All-snoc (λ seat. g.W.WaitPoint.point_of seat ≡ g.W.WaitPoint.identity_of point) _ _ _
     c.push_reserved-2.ensures.items
     (All-weaker (IsIdle g.W.WaitPoint point) _ (λ seat is. is.ours) _ home.idle)
-    c.requires.opener.idle.ours
+    c.requires.seats.idle.ours
 
 pub shut-requires-clause-all : goal.shut-requires-clause-all
 shut-requires-clause-all g c =
@@ -29,7 +29,7 @@ shut-requires-clause-all g c =
     let wakers_many = home.wakers_many in
     let many = c.gather-rows.ensures.many in
     let every_worker = c.requires.every_worker in
-    let wakers = c.requires.opener.sized.wakers in
+    let wakers = c.requires.seats.sized.wakers in
     let long = length-snoc _ _ _ c.push_reserved-2.ensures.items in
     omega arith
 
@@ -37,15 +37,15 @@ pub shut-requires-clause-running : goal.shut-requires-clause-running
 shut-requires-clause-running g c =
     let home = c.gather-rows.ensures.home c.args.pool c.args.ctx.now c.requires.at_work in
     All-snoc (λ seat. g.W.WaitPoint.phase_of seat ≡ Running) _ _ _ c.push_reserved-2.ensures.items
-    (All-weaker (IsIdle g.W.WaitPoint c.args.pool.ground.point) _ (λ seat is. is.running) _ home.idle)
-    c.requires.opener.idle.running
+    (All-weaker (IsIdle g.W.WaitPoint c.args.pool.queue.point) _ (λ seat is. is.running) _ home.idle)
+    c.requires.seats.idle.running
 
 pub shut-requires-clause-owe_none : goal.shut-requires-clause-owe_none
 shut-requires-clause-owe_none g c =
     let home = c.gather-rows.ensures.home c.args.pool c.args.ctx.now c.requires.at_work in
     All-snoc (λ seat. g.W.WaitPoint.owing_of seat ≡ []) _ _ _ c.push_reserved-2.ensures.items
-    (All-weaker (IsIdle g.W.WaitPoint c.args.pool.ground.point) _ (λ seat is. is.owes_none) _ home.idle)
-    c.requires.opener.idle.owes_none
+    (All-weaker (IsIdle g.W.WaitPoint c.args.pool.queue.point) _ (λ seat is. is.owes_none) _ home.idle)
+    c.requires.seats.idle.owes_none
 
 pub returns-clause-lists : goal.returns-clause-lists
 returns-clause-lists g c =
@@ -63,7 +63,7 @@ returns-clause-account g c = λ roots start.
     let lists = c.gather-rows.result.lists.items in
     account-closed g.R.Rows.keeps_accounts
     (IsStep g.J.Job.weight_of g.J.Job.allows c.args.ctx.now) g.R.Rows.puts_of g.R.Rows.takes_of
-    roots c.drain_all-left.result.items c.gather-rows.result.rows.items c.args.desk.opener.row
+    roots c.drain_all-left.result.items c.gather-rows.result.rows.items c.args.opener.seats.row
     c.push_reserved.new.self.items _ _ _ _ _ _ _ _ home.account
     (c.settle-unrun.ensures.settled.account roots _ start) c.requires.took_none
     c.push_reserved.ensures.items c.drain_all-left.ensures.account

@@ -3,11 +3,11 @@ use Rattle.std.proofs.lemmas.Bool.{false_from_ne_true}
 use Rattle.worker_pool.proofs.Checks.{error-both_ok}
 use Rattle.worker_pool.proofs.entry.with_pool.Goals as goal
 
-pub run_all-hands-requires-clause-begins : goal.run_all-hands-requires-clause-begins
-run_all-hands-requires-clause-begins g c κs within =
+pub run_all-states-requires-clause-begins : goal.run_all-states-requires-clause-begins
+run_all-states-requires-clause-begins g c κs within =
     let opened = c.in_ok-opened.ensures.opened in
     let many = opened.many in
-    λ started most. (opened.desk, omega arith, c.requires.body, c.requires.stays)
+    λ started most. (opened.opener, omega arith, c.requires.body, c.requires.stays)
 
 pub returns-clause-bad_workers : goal.returns-clause-bad_workers
 returns-clause-bad_workers g c =
@@ -19,12 +19,13 @@ returns-clause-bad_partition g c =
 
 pub returns-clause-account : goal.returns-clause-account
 returns-clause-account g c =
-    let left = c.run_all-hands.ensures.left in (
+    let left = c.run_all-states.ensures.left in (
       left.0,
       left.1,
       left.2,
       left.3.no_roots,
       left.3.workers ∙ c.in_ok-opened.ensures.opened.workers,
+      left.3.stop,
       (λ kept. c.close.ensures.none_left
           (false_from_ne_true _ (λ on. kept (left.3.cancelled.0 on)))),
       c.close.ensures.account _ left.3.worked.account,

@@ -14,9 +14,9 @@ use Rattle.worker_pool.proofs.open.deal.Goals as goal
 
 pub loop-row-preserved : goal.loop-row-preserved
 loop-row-preserved g c =
-    let ground = c.args.pool.now.ground in
+    let queue = c.args.pool.now.queue in
     let before = c.loop-row.invariant in
-    let count = length c.loop-row.hands.items in
+    let count = length c.loop-row.states.items in
     let row_split = c.in-Some.ensures.steps.0.0 in
     let waker_split = c.in-Some.ensures.steps.1.0 in
     let added = c.push_reserved.ensures.items in
@@ -41,9 +41,9 @@ loop-row-preserved g c =
       stop = c.deal.ensures.of.0;
       same = c.deal.ensures.same ∙ before.same;
       stored = c.deal.ensures.stored ∙ before.stored;
-      rows = subst (λ n. AreRowSeats g.R.Rows ground.rows n (into_iter_items (zip_first c.next.new.self)))
+      rows = subst (λ n. AreRowSeats g.R.Rows queue.rows n (into_iter_items (zip_first c.next.new.self)))
           (sym longer) (AreRowSeats-rest g.R.Rows _ _ _ _ _ row_split before.rows);
-      wakers = subst (λ n. AreWakers g.W.WaitPoint ground.point n (into_iter_items (zip_second c.next.new.self)))
+      wakers = subst (λ n. AreWakers g.W.WaitPoint queue.point n (into_iter_items (zip_second c.next.new.self)))
           (sym longer) (AreWakers-rest g.W.WaitPoint _ _ _ _ _ waker_split before.wakers);
       rows_many = omega arith;
       wakers_many = omega arith;
@@ -52,34 +52,34 @@ loop-row-preserved g c =
           All-snoc (IsAtWork g.R.Rows g.W.WaitPoint g.J.Job c.args.pool.now ctx) _ _ _ added
           (before.at_work ctx)
           (record {
-            owner = record {
+            seats = record {
               sized = c.requires.sized;
               owns = record {
-                ours = All-first (λ seat. g.R.Rows.rows_of seat ≡ g.R.Rows.identity_of ground.rows)
+                ours = All-first (λ seat. g.R.Rows.rows_of seat ≡ g.R.Rows.identity_of queue.rows)
                     _ _ _ row_split before.rows.ours;
                 owner = omega arith;
               };
               waits = record {
-                idle = All-first (IsIdle g.W.WaitPoint ground.point) _ _ _ waker_split
+                idle = All-first (IsIdle g.W.WaitPoint queue.point) _ _ _ waker_split
                     before.wakers.idle;
                 waiter = omega arith;
               };
             };
             stop_seat = c.deal.ensures.of.1;
-            near = rw c.requires.same_size at c.in_ok-near.ensures.inside;
+            home = rw c.requires.same_size at c.in_ok-home.ensures.inside;
             walks = c.requires.coprimes;
             account = account-none _ _ _ _ _ (λ on. (untouched on).1) (λ on. (untouched on).0)
                 c.new.ensures.items;
           });
-      numbers = numbers-snoc (λ hand. hand.number) _ _ _ added before.numbers number;
+      numbers = numbers-snoc (λ state. state.number) _ _ _ added before.numbers number;
       by_number = All-snoc (IsByNumber g.R.Rows g.W.WaitPoint c.args.setup.now.partitions.items
           c.args.setup.now.workers) _ _ _ added before.by_number
           (record {
             row_number = row_number ∙ sym number;
             waker_number = waker_number ∙ sym number;
             words = c.seed_from_u64.ensures ∙ ap seeded_by c.from.ensures;
-            no_near = c.in_ok-near.ensures.none;
-            near = c.in_ok-near.ensures.rows;
+            no_home = c.in_ok-home.ensures.none;
+            home = c.in_ok-home.ensures.rows;
           });
     }
 
@@ -90,28 +90,28 @@ returns-clause-numbers g c =
     let wakers_many = end.wakers_many in
     let rows_len = c.loop-row.row-iterator.a.rest.ok.0 in
     let wakers_len = c.loop-row.row-iterator.b.rest.ok.0 in
-    let all : length c.loop-row.hands.items ≡ c.args.pool.now.ground.workers =
+    let all : length c.loop-row.states.items ≡ c.args.pool.now.queue.workers =
     ⊎_elim (λ none. let left = none.1.0 in omega arith) (λ none. let left = none.1.0 in omega arith)
     c.in-None.ensures.steps in
     end.numbers ∙ ap (range_with_len 0) all
 
-pub near_of-requires-clause-size : goal.near_of-requires-clause-size
-near_of-requires-clause-size g c =
+pub home_rows_of-requires-clause-size : goal.home_rows_of-requires-clause-size
+home_rows_of-requires-clause-size g c =
     let some = c.requires.sized.some in
     let few = c.requires.sized.few in
     let same = c.requires.same_size in (omega arith, omega arith)
 
-pub near_of-requires-clause-number : goal.near_of-requires-clause-number
-near_of-requires-clause-number g c =
+pub home_rows_of-requires-clause-number : goal.home_rows_of-requires-clause-number
+home_rows_of-requires-clause-number g c =
     let rows_many = c.loop-row.invariant.rows_many in
     let rows_less = ap length c.in-Some.ensures.steps.0.0 in
-    let number : c.len-number.result ≡ length c.loop-row.hands.items = search rules in
+    let number : c.len-number.result ≡ length c.loop-row.states.items = search rules in
     let same = c.requires.same_size in
     omega arith
 
 pub loop-row-init : goal.loop-row-init
 loop-row-init g c =
-    let none = c.in_ok-hands.ensures.items in
+    let none = c.in_ok-states.ensures.items in
     record {
       can = (tt, tt);
       finite = tt;

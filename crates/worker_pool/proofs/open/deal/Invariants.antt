@@ -7,7 +7,7 @@ use Rattle.worker_pool.specs.Stops.{IsStopSeatOf, jobs_of, stored_of}
 use Rattle.worker_pool.specs.Works.{IsAtWork}
 use Rattle.worker_pool.proofs.open.deal.Given as goal
 
--- the hands so far are by number, and the seats that are left go on from there
+-- the states so far are by number, and the seats that are left go on from there
 abbrev pub invariant-loop-row : goal.invariant-loop-row
 invariant-loop-row g l = record {
   can : (goal.iterator-loop-row g).can_next l.row-iterator;
@@ -15,17 +15,17 @@ invariant-loop-row g l = record {
   stop : IsStopSeatOf l.pool.stop.shared l.scheduled;
   same : jobs_of l.scheduled ≡ jobs_of l.fn.scheduled;
   stored : stored_of l.scheduled ≡ stored_of l.fn.scheduled;
-  rows : AreRowSeats g.R.Rows l.pool.ground.rows (length l.hands.items)
+  rows : AreRowSeats g.R.Rows l.pool.queue.rows (length l.states.items)
       (into_iter_items (zip_first l.row-iterator));
-  wakers : AreWakers g.W.WaitPoint l.pool.ground.point (length l.hands.items)
+  wakers : AreWakers g.W.WaitPoint l.pool.queue.point (length l.states.items)
       (into_iter_items (zip_second l.row-iterator));
-  rows_many : length (into_iter_items (zip_first l.row-iterator)) + length l.hands.items
-      ≡ l.pool.ground.workers;
-  wakers_many : length (into_iter_items (zip_second l.row-iterator)) + length l.hands.items
-      ≡ l.pool.ground.workers;
-  room : vec_capacity l.hands ≡ l.pool.ground.workers;
-  at_work : (ctx : _) → All (IsAtWork g.R.Rows g.W.WaitPoint g.J.Job l.pool ctx) l.hands.items;
-  numbers : map (λ hand. hand.number) l.hands.items ≡ range_with_len 0 (length l.hands.items);
+  rows_many : length (into_iter_items (zip_first l.row-iterator)) + length l.states.items
+      ≡ l.pool.queue.workers;
+  wakers_many : length (into_iter_items (zip_second l.row-iterator)) + length l.states.items
+      ≡ l.pool.queue.workers;
+  room : vec_capacity l.states ≡ l.pool.queue.workers;
+  at_work : (ctx : _) → All (IsAtWork g.R.Rows g.W.WaitPoint g.J.Job l.pool ctx) l.states.items;
+  numbers : map (λ state. state.number) l.states.items ≡ range_with_len 0 (length l.states.items);
   by_number : All (IsByNumber g.R.Rows g.W.WaitPoint l.setup.partitions.items l.setup.workers)
-      l.hands.items;
+      l.states.items;
 }

@@ -9,18 +9,18 @@ use Rattle.worker_pool.proofs.open.open_checked.Goals as goal
 
 pub deal-requires-clause-rows : goal.deal-requires-clause-rows
 deal-requires-clause-rows g c =
-    AreRowSeats-front g.R.Rows c.in_ok-ground.ground.rows _ _ _ c.take_last-row.ensures
-    c.in_ok-ground.ensures.rows
+    AreRowSeats-front g.R.Rows c.in_ok-queue.queue.rows _ _ _ c.take_last-row.ensures
+    c.in_ok-queue.ensures.rows
 
 pub deal-requires-clause-wakers : goal.deal-requires-clause-wakers
 deal-requires-clause-wakers g c =
-    AreWakers-front g.W.WaitPoint c.in_ok-ground.ground.point _ _ _ c.take_last-waker.ensures
-    c.in_ok-ground.ensures.wakers
+    AreWakers-front g.W.WaitPoint c.in_ok-queue.queue.point _ _ _ c.take_last-waker.ensures
+    c.in_ok-queue.ensures.wakers
 
 pub returns : goal.returns
 returns g c =
-    let ground = c.in_ok-ground.ground in
-    let made = c.in_ok-ground.ensures in
+    let queue = c.in_ok-queue.queue in
+    let made = c.in_ok-queue.ensures in
     let row_last = c.take_last-row.ensures in
     let waker_last = c.take_last-waker.ensures in
     let untouched = λ (on : g.R.Rows.keeps_accounts).
@@ -28,16 +28,16 @@ returns g c =
     row_last (made.rows.untouched on) in
     let sized = made.sized in
     let workers = made.workers in
-    let numbers = length-numbered _ _ _ c.in_ok-hands.ensures.numbers in
-    let long = c.in_ok-hands.hands.ok.0 in
+    let numbers = length-numbered _ _ _ c.in_ok-states.ensures.numbers in
+    let long = c.in_ok-states.states.ok.0 in
     record {
       workers = made.workers;
-      desk = record {
-        opener = record {
+      opener = record {
+        seats = record {
           sized = made.sized;
-          ours = All-last (λ seat. g.R.Rows.rows_of seat ≡ g.R.Rows.identity_of ground.rows) _ _ _
+          ours = All-last (λ seat. g.R.Rows.rows_of seat ≡ g.R.Rows.identity_of queue.rows) _ _ _
               row_last made.rows.ours;
-          idle = All-last (IsIdle g.W.WaitPoint ground.point) _ _ _ waker_last made.wakers.idle;
+          idle = All-last (IsIdle g.W.WaitPoint queue.point) _ _ _ waker_last made.wakers.idle;
         };
         stop_seat = c.deal.ensures.stop;
         no_roots = c.deal.ensures.same ∙ c.in_ok-stop.ensures.none;
@@ -47,12 +47,12 @@ returns g c =
         no_outs = c.new-2.ensures;
         none_refused = refl;
       };
-      desk_words = search rules;
-      at_work = c.in_ok-hands.ensures.at_work;
-      numbers = c.in_ok-hands.ensures.numbers ∙ ap (range_with_len 0) made.workers;
+      opener_words = search rules;
+      at_work = c.in_ok-states.ensures.at_work;
+      numbers = c.in_ok-states.ensures.numbers ∙ ap (range_with_len 0) made.workers;
       many = omega arith;
       few = omega arith;
-      by_number = c.in_ok-hands.ensures.by_number;
+      by_number = c.in_ok-states.ensures.by_number;
       none_ended = c.in_ok-ended.ensures.items;
       room_for_ended = omega (arith, c.from-2.ensures, c.in_ok-ended.ensures.exact);
       none_gathered = c.in_ok-gathered.ensures.empty;

@@ -13,7 +13,7 @@ start_all-ended-requires-in-Err-after_bounds g t c κs within =
     let few = c.requires.few in let room = c.requires.room in
     let len = c.in-Some.ensures.len in
     record {
-      at_work = All-front (g.S.Site.is_at_work c.args.site.now) _ _ _ c.in-Some.ensures.items
+      at_work = All-front (g.S.Workplace.is_at_work c.args.workplace.now) _ _ _ c.in-Some.ensures.items
           c.requires.at_work;
       ended_at_work = c.requires.ended_at_work;
       few = omega arith;
@@ -23,16 +23,14 @@ start_all-ended-requires-in-Err-after_bounds g t c κs within =
 
 pub spawn_with-requires-in-Err : goal.spawn_with-requires-in-Err
 spawn_with-requires-in-Err g t c κs within =
-    let few = c.requires.few in let len = c.in-Some.ensures.len in
-    let number = c.len-worker.ensures in
-    let next = All-last (g.S.Site.is_at_work c.args.site.now) _ _ _ c.in-Some.ensures.items
+    let next = All-last (g.S.Workplace.is_at_work c.args.workplace.now) _ _ _ c.in-Some.ensures.items
     c.requires.at_work in (
       search rules,
       (
         search rules,
         (
           search rules,
-          (rw c.in-Err.ensures.err next, rw c.in-Err.ensures.err (omega arith)),
+          rw c.in-Err.ensures.err next,
         ),
       ),
     )
@@ -52,7 +50,7 @@ returns-in-Ok g t c =
     record {
       all = omega arith;
       capacity = c.push_reserved.ensures.capacity ∙ ran.capacity;
-      at_work = All-snoc (g.S.Site.is_at_work c.args.site.now) _ _ _ c.push_reserved.ensures.items
+      at_work = All-snoc (g.S.Workplace.is_at_work c.args.workplace.now) _ _ _ c.push_reserved.ensures.items
           ran.at_work (search rules);
       left = ran.left;
     }
@@ -65,7 +63,7 @@ returns-in-Err g t c =
     record {
       all = omega arith;
       capacity = c.push_reserved-in-Err.ensures.capacity ∙ ran.capacity;
-      at_work = All-snoc (g.S.Site.is_at_work c.args.site.now) _ _ _
+      at_work = All-snoc (g.S.Workplace.is_at_work c.args.workplace.now) _ _ _
           c.push_reserved-in-Err.ensures.items ran.at_work (search rules);
-      left = c.leave_out.ensures _ ran.left;
+      left = ran.left;
     }

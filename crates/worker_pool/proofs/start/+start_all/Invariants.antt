@@ -3,4 +3,4 @@ use Rattle.worker_pool.proofs.start.+start_all.Given as goal
 
 -- one worker fewer is left to start
 abbrev pub decreases-start_all : goal.decreases-start_all
-decreases-start_all g l = vec_len l.hands
+decreases-start_all g l = vec_len l.states

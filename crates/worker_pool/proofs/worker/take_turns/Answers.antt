@@ -6,7 +6,7 @@ pub loop-preserved-in-Found : goal.loop-preserved-in-Found
 loop-preserved-in-Found g c = record {
   can = tt;
   finite = tt;
-  owner = c.begin-more.ensures.ready;
+  seats = c.begin-more.ensures.ready;
   stop_seat = c.in-Found.ensures.stop;
   account = account-more _ _ c.in-Found.job _ _ _ _ _ _ _ _ _ _ _ _ c.loop.invariant.account refl
       c.in-Found.ensures.puts
@@ -16,9 +16,9 @@ loop-preserved-in-Found g c = record {
 
 pub returns-in-Last : goal.returns-in-Last
 returns-in-Last g c = record {
-  owner = c.in-Last.ensures.owner;
+  seats = c.in-Last.ensures.seats;
   stop_seat = c.in-Last.ensures.stop;
-  near = c.requires.near;
+  home = c.requires.home;
   walks = c.requires.walks;
   account = account-same _ _ _ _ _ _ _ _ _ c.loop.invariant.account c.in-Last.ensures.takes
       c.in-Last.ensures.puts;

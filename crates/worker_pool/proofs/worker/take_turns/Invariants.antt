@@ -10,8 +10,8 @@ abbrev pub invariant-loop : goal.invariant-loop
 invariant-loop g l = record {
   can : (goal.iterator-loop g).can_next l.iterator';
   finite : (goal.iterator-loop g).is_finite l.iterator';
-  owner : IsOwner g.R.Rows g.W.WaitPoint l.pool.ground l.owner.row l.owner.waker;
+  seats : IsOwner g.R.Rows g.W.WaitPoint l.pool.queue l.seats.row l.seats.waker;
   stop_seat : IsStopSeatOf l.pool.stop.shared l.stop;
   account : Account g.R.Rows.keeps_accounts (IsStep g.J.Job.weight_of g.J.Job.allows l.ctx)
-      (g.R.Rows.takes_of l.owner.row) (g.R.Rows.puts_of l.owner.row) l.outs.items [] l.refused;
+      (g.R.Rows.takes_of l.seats.row) (g.R.Rows.puts_of l.seats.row) l.outs.items [] l.refused;
 }

@@ -7,7 +7,7 @@ use Rattle.worker_pool.proofs.caller.Caller.schedule.Goals as goal
 pub returns-in_default-clause-caller : goal.returns-in_default-clause-caller
 returns-in_default-clause-caller g c = record {
   still = record {
-    opener = c.in_default.ensures.ready;
+    seats = c.in_default.ensures.ready;
     scheduled = c.note.ensures.of;
     few = rw c.in_default.ensures.number c.requires.few;
     stop = c.note.ensures.stored ∙ c.requires.stop;
@@ -16,7 +16,7 @@ returns-in_default-clause-caller g c = record {
         c.in_default.ensures.puts (λ on. c.note.ensures.more);
   };
   same = record {
-    ground = refl;
+    queue = refl;
     stop = refl;
     ctx = refl;
     started = c.in_default.ensures.number;
@@ -29,7 +29,7 @@ returns-clause-caller g c =
     let number = c.begin-refused.ensures.number ∙ c.in-Err.ensures.number in
     record {
       still = record {
-        opener = c.begin-refused.ensures.ready;
+        seats = c.begin-refused.ensures.ready;
         scheduled = c.note.ensures.of;
         few = rw number c.requires.few;
         stop = c.note.ensures.stored ∙ c.requires.stop;
@@ -42,7 +42,7 @@ returns-clause-caller g c =
             c.begin-refused.ensures.ran (search rules);
       };
       same = record {
-        ground = refl;
+        queue = refl;
         stop = refl;
         ctx = refl;
         started = number;

@@ -1,6 +1,6 @@
 use Rattle.std.proofs.Common.{◌∙◌}
 use Rattle.worker_pool.proofs.StopWords.{told-cancelled}
-use Rattle.worker_pool.proofs.desk.end.Goals as goal
+use Rattle.worker_pool.proofs.opener_state.end.Goals as goal
 
 pub set-requires : goal.set-requires
 set-requires g c = rw c.requires.stop at c.requires.caller.scheduled
@@ -8,13 +8,13 @@ set-requires g c = rw c.requires.stop at c.requires.caller.scheduled
 pub returns-clause-worked : goal.returns-clause-worked
 returns-clause-worked g c =
     let caller = c.requires.caller in
-    let opener = rw c.requires.ground at caller.opener in
+    let seats = rw c.requires.queue at caller.seats in
     record {
-      opener = record {
-        sized = opener.sized;
-        ours = opener.ours;
+      seats = record {
+        sized = seats.sized;
+        ours = seats.ours;
         idle = record {
-          ours = c.wake_all.ensures.ours ∙ opener.idle.ours;
+          ours = c.wake_all.ensures.ours ∙ seats.idle.ours;
           running = c.wake_all.ensures.running;
           owes_none = c.wake_all.ensures.owes_none;
         };

@@ -1,5 +1,5 @@
 use Rattle.std.proofs.Common.{refl}
-use Rattle.worker_pool.proofs.desk.call.Goals as goal
+use Rattle.worker_pool.proofs.opener_state.call.Goals as goal
 
 pub returns-clause-stays : goal.returns-clause-stays
 returns-clause-stays g c =

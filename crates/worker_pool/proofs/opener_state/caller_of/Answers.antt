@@ -1,11 +1,11 @@
 use Rattle.worker_pool.proofs.Tallies.{account-none}
-use Rattle.worker_pool.proofs.desk.caller_of.Goals as goal
+use Rattle.worker_pool.proofs.opener_state.caller_of.Goals as goal
 
 pub returns-clause-caller : goal.returns-clause-caller
 returns-clause-caller g c =
     let fresh = c.requires.fresh in
     record {
-      opener = fresh.opener;
+      seats = fresh.seats;
       scheduled = fresh.stop_seat;
       few = c.requires.few;
       stop = fresh.stored_none;

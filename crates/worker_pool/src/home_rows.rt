@@ -10,13 +10,13 @@ use steal_walk::{Coprimes, Partition, Walk};
 
 /// A worker's partition, and what it walks through it by.
 #[derive(Drop)]
-pub(crate) struct Near<A: Allocator> {
+pub(crate) struct HomeRows<A: Allocator> {
     pub(crate) rows: Partition,
     coprimes: Coprimes<A>,
     ghost sized: { coprimes ≡ rows.limit - rows.start },
 }
 
-impl<A: Allocator> Near<A> {
+impl<A: Allocator> HomeRows<A> {
     /// The walk over the partition that the next random word picks.
     pub(crate) fn walk(&self, words: &mut Lcg64Xsh32) -> Walk
         ensures { All (λ row. row < self.now.rows.limit) result }
@@ -27,20 +27,20 @@ impl<A: Allocator> Near<A> {
 }
 
 /// The partition of the worker of this number, where it isn't the whole pool.
-pub(crate) fn near_of<A: Allocator>(
+pub(crate) fn home_rows_of<A: Allocator>(
     alloc: A,
     setup: &Setup<A>,
     number: u32,
-) -> Result<Option<Near<A>>, AllocError>
+) -> Result<Option<HomeRows<A>>, AllocError>
     requires size { IsPoolSize setup.now.workers }
     requires partitions { ArePartitions setup.now.workers setup.now.partitions.items }
     requires number { number < setup.now.workers }
-    ensures none { IfOk result (λ near. IsNone near
+    ensures none { IfOk result (λ home. IsNone home
         ↔ (home_of setup.now.workers setup.now.partitions.items number
         ≡ whole setup.now.workers)) }
-    ensures rows { IfOk result (λ near. IfSome near (λ n. n.rows
+    ensures rows { IfOk result (λ home. IfSome home (λ n. n.rows
         ≡ home_of setup.now.workers setup.now.partitions.items number)) }
-    ensures inside { IfOk result (λ near. IfSome near (λ n. n.rows.limit ≤ setup.now.workers)) }
+    ensures inside { IfOk result (λ home. IfSome home (λ n. n.rows.limit ≤ setup.now.workers)) }
 {
     let Some(&rows) = setup.partitions.get(number as usize) else {
         return Ok(None);
@@ -50,5 +50,5 @@ pub(crate) fn near_of<A: Allocator>(
         return Ok(None);
     }
     let coprimes = Coprimes::new(alloc, size)?;
-    Ok(Some(Near { rows, coprimes }))
+    Ok(Some(HomeRows { rows, coprimes }))
 }

@@ -1,15 +1,14 @@
 //! What the thread that opened a pool works with.
-ghost use Rattle.std.specs.Prelude.{◌≡◌, ◌<◌, ◌≤◌, ◌↔◌, List, [], ◌∷◌, false, IsTrue};
+ghost use Rattle.std.specs.Prelude.{◌≡◌, ◌≤◌, ◌↔◌, [], IsTrue};
 ghost use Rattle.std.specs.Fn.{FnOnceReturnsAtMut};
-ghost use Rattle.run_queue.specs.Limits.{most_rows};
 ghost use Rattle.worker_pool.specs.Callers.{IsCaller, StaysCaller, IsCancelled, roots_of, stop_of};
-ghost use Rattle.worker_pool.specs.Desks.{IsFresh, IsLent, HasWorked};
-ghost use Rattle.worker_pool.specs.Stops.{IsStopSeatOf, open_word};
+ghost use Rattle.worker_pool.specs.OpenerStates.{IsFresh, IsLent, HasWorked};
+ghost use Rattle.worker_pool.specs.Stops.{open_word};
 
 use crate::caller::Caller;
 use crate::job::Job;
 use crate::lists::Lists;
-use crate::opener::Opener;
+use crate::opener_seats::OpenerSeats;
 use crate::pool::Pool;
 use crate::stop;
 use crate::stop::StopSeat;
@@ -20,7 +19,7 @@ use std::sync::Wait;
 
 /// The seats of the thread that opened a pool, and what the jobs left that it ran itself.
 #[derive(Drop)]
-pub(crate) struct Desk<J, A, W, R, L>
+pub(crate) struct OpenerState<J, A, W, R, L>
 where
     J: Job<A>,
     A: Allocator,
@@ -28,7 +27,7 @@ where
     R: Rows<J, A>,
     L: Lists<J::Out, A>,
 {
-    pub(crate) opener: Opener<J, A, W, R>,
+    pub(crate) seats: OpenerSeats<J, A, W, R>,
     pub(crate) scheduled: StopSeat<J>,
     pub(crate) outs: L::List,
     pub(crate) refused: u64,
@@ -37,14 +36,14 @@ where
 }
 
 /// Calls the body with a caller, and lets the workers end.
-pub(crate) fn lend<W, R, L, RT, J, A, F>(
+pub(crate) fn run_body<W, R, L, RT, J, A, F>(
     rt: &RT,
     pool: &Pool<J, A, W, R>,
     ctx: &J::Ctx,
-    desk: Desk<J, A, W, R, L>,
+    opener: OpenerState<J, A, W, R, L>,
     started: u32,
     body: F,
-) -> Desk<J, A, W, R, L>
+) -> OpenerState<J, A, W, R, L>
 where
     RT: Wait,
     J: Job<A>,
@@ -53,8 +52,8 @@ where
     R: Rows<J, A>,
     L: Lists<J::Out, A>,
     F: FnOnce(&mut Caller<'_, J, A, W, R, L>),
-    requires fresh { IsFresh R.Rows W.WaitPoint L.Lists pool.now desk }
-    requires few { started ≤ pool.now.ground.workers }
+    requires fresh { IsFresh R.Rows W.WaitPoint L.Lists pool.now opener }
+    requires few { started ≤ pool.now.queue.workers }
     requires body { (caller : _) → IsCaller R.Rows W.WaitPoint J.Job L.Lists caller.now
         → F.pre body caller }
     requires stays { (before : _) → (after : _)
@@ -64,70 +63,16 @@ where
     ensures { (before : _) × (after : _) × FnOnceReturnsAtMut F.FnOnce body before tt after
         × IsLent R.Rows W.WaitPoint J.Job L.Lists pool.now ctx.now before after result }
 {
-    let mut caller = caller_of(pool, ctx, desk, started);
+    let mut caller = caller_of(pool, ctx, opener, started);
     call(&mut caller, body);
     end(rt, pool, caller)
 }
 
-/// Schedules the root, calls what comes then, and lets the workers end.
-pub(crate) fn plant<RT, J, A, W, R, L, F>(
-    rt: &RT,
-    pool: &Pool<J, A, W, R>,
-    ctx: &J::Ctx,
-    desk: Desk<J, A, W, R, L>,
-    started: u32,
-    root: J,
-    then: F,
-) -> Desk<J, A, W, R, L>
-where
-    RT: Wait,
-    J: Job<A> + Drop,
-    J::Out: Drop,
-    A: Allocator + Clone,
-    W: WaitPoint<A>,
-    R: Rows<J, A>,
-    L: Lists<J::Out, A>,
-    F: FnOnce(),
-    requires fresh { IsFresh R.Rows W.WaitPoint L.Lists pool.now desk }
-    requires few { started ≤ pool.now.ground.workers }
-    requires then { F.pre then }
-    ensures worked { HasWorked R.Rows W.WaitPoint J.Job L.Lists pool.now ctx.now (root ∷ [])
-        result }
-    ensures not_cancelled { result.cancelled ≡ false }
-{
-    let mut caller = caller_of(pool, ctx, desk, started);
-    caller.schedule(rt, root);
-    then();
-    end(rt, pool, caller)
-}
-
-/// The worker of this number takes no turn. What the desk has done stays.
-pub(crate) fn leave_out<J, A, W, R, L>(
-    pool: &Pool<J, A, W, R>,
-    desk: &mut Desk<J, A, W, R, L>,
-    worker: usize,
-)
-where
-    J: Job<A>,
-    A: Allocator,
-    W: WaitPoint<A>,
-    R: Rows<J, A>,
-    L: Lists<J::Out, A>,
-    requires stop { IsStopSeatOf pool.now.stop.shared desk.old.scheduled }
-    requires worker { worker < most_rows }
-    ensures worked { (ctx : J.Ctx) → (roots : List J)
-        → HasWorked R.Rows W.WaitPoint J.Job L.Lists pool.now ctx roots desk.old
-        → HasWorked R.Rows W.WaitPoint J.Job L.Lists pool.now ctx roots desk.new }
-    ensures cancelled { desk.new.cancelled ≡ desk.old.cancelled }
-{
-    stop::leave_out(&pool.stop.shared, &mut desk.scheduled, worker);
-}
-
-// The caller that works at the desk.
+// The caller that works with this state.
 fn caller_of<'p, J, A, W, R, L>(
     pool: &'p Pool<J, A, W, R>,
     ctx: &'p J::Ctx,
-    desk: Desk<J, A, W, R, L>,
+    opener: OpenerState<J, A, W, R, L>,
     started: u32,
 ) -> Caller<'p, J, A, W, R, L>
 where
@@ -136,29 +81,29 @@ where
     W: WaitPoint<A>,
     R: Rows<J, A>,
     L: Lists<J::Out, A>,
-    requires fresh { IsFresh R.Rows W.WaitPoint L.Lists pool.now desk }
-    requires few { started ≤ pool.now.ground.workers }
+    requires fresh { IsFresh R.Rows W.WaitPoint L.Lists pool.now opener }
+    requires few { started ≤ pool.now.queue.workers }
     ensures caller { IsCaller R.Rows W.WaitPoint J.Job L.Lists result }
     ensures no_roots { roots_of result ≡ [] }
     ensures open { stop_of result ≡ open_word }
-    ensures ground { result.ground.now ≡ pool.now.ground }
+    ensures queue { result.queue.now ≡ pool.now.queue }
     ensures stop { result.stop.now ≡ pool.now.stop.shared }
     ensures ctx { result.ctx.now ≡ ctx.now }
 {
-    let Desk {
-        mut opener,
+    let OpenerState {
+        mut seats,
         scheduled,
         outs,
         refused,
         cancelled: _,
-    } = desk;
-    opener.started = started;
+    } = opener;
+    seats.started = started;
     Caller {
-        ground: &pool.ground,
+        queue: &pool.queue,
         stop: &pool.stop.shared,
         alloc: &pool.alloc,
         ctx,
-        opener,
+        seats,
         scheduled,
         outs,
         refused,
@@ -171,7 +116,7 @@ fn end<RT, J, A, W, R, L>(
     rt: &RT,
     pool: &Pool<J, A, W, R>,
     caller: Caller<'_, J, A, W, R, L>,
-) -> Desk<J, A, W, R, L>
+) -> OpenerState<J, A, W, R, L>
 where
     RT: Wait,
     J: Job<A>,
@@ -180,27 +125,27 @@ where
     R: Rows<J, A>,
     L: Lists<J::Out, A>,
     requires caller { IsCaller R.Rows W.WaitPoint J.Job L.Lists caller }
-    requires ground { caller.ground.now ≡ pool.now.ground }
+    requires queue { caller.queue.now ≡ pool.now.queue }
     requires stop { caller.stop.now ≡ pool.now.stop.shared }
     ensures worked { HasWorked R.Rows W.WaitPoint J.Job L.Lists pool.now caller.entry.ctx.now
         (roots_of caller.entry) result }
     ensures cancelled { IsTrue result.cancelled ↔ IsCancelled caller.entry }
 {
     let Caller {
-        ground: _,
+        queue: _,
         stop: _,
         alloc: _,
         ctx: _,
-        mut opener,
+        mut seats,
         mut scheduled,
         outs,
         refused,
         cancelled,
     } = caller;
     stop::set(&pool.stop.shared, &mut scheduled, cancelled);
-    pool.ground.point.wake_all(rt, &mut opener.waker);
-    Desk {
-        opener,
+    pool.queue.point.wake_all(rt, &mut seats.waker);
+    OpenerState {
+        seats,
         scheduled,
         outs,
         refused,

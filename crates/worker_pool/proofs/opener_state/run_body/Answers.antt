@@ -1,5 +1,5 @@
 use Rattle.std.proofs.Common.{ap, ◌∙◌}
-use Rattle.worker_pool.proofs.desk.lend.Goals as goal
+use Rattle.worker_pool.proofs.opener_state.run_body.Goals as goal
 
 pub returns : goal.returns
 returns g c =
@@ -10,7 +10,8 @@ returns g c =
       c.call.ensures.called,
       record {
         no_roots = c.caller_of-caller.ensures.no_roots;
-        workers = ap (λ ground. ground.workers) c.caller_of-caller.ensures.ground;
+        workers = ap (λ queue. queue.workers) c.caller_of-caller.ensures.queue;
+        stop = c.caller_of-caller.ensures.open;
         cancelled = c.end.ensures.cancelled;
         worked = rw ctx at c.end.ensures.worked;
       },

@@ -1,7 +1,7 @@
 //! How the thread that opened a pool passes jobs on.
 ghost use Rattle.std.specs.Prelude.{◌≡◌, ℕ, ◌+◌, ◌<◌, ◌≤◌, List};
 
-use crate::ground::Ground;
+use crate::job_queue::JobQueue;
 use crate::passes::Passes;
 use event_count::WaitPoint;
 use rand_core::utils::NextWord;
@@ -13,7 +13,7 @@ use std::sync::Wait;
 
 /// The seats of the thread that opened a pool.
 #[derive(Drop)]
-pub(crate) struct Opener<J, A: Allocator, W: WaitPoint<A>, R: Rows<J, A>> {
+pub(crate) struct OpenerSeats<J, A: Allocator, W: WaitPoint<A>, R: Rows<J, A>> {
     pub(crate) row: R::Seat,
     pub(crate) waker: W::Seat,
     pub(crate) words: Lcg64Xsh32,
@@ -22,29 +22,29 @@ pub(crate) struct Opener<J, A: Allocator, W: WaitPoint<A>, R: Rows<J, A>> {
     pub(crate) of: PhantomData<(J, A)>,
 }
 
-impl<J, A: Allocator, W: WaitPoint<A>, R: Rows<J, A>> Passes<J> for Opener<J, A, W, R> {
+impl<J, A: Allocator, W: WaitPoint<A>, R: Rows<J, A>> Passes<J> for OpenerSeats<J, A, W, R> {
     ghost use Rattle.worker_pool.specs.Seats.{IsOpener};
 
-    type Place = Ground<W, R>;
+    type Place = JobQueue<W, R>;
 
-    ghost is_ready = { λ ground opener. IsOpener R.Rows W.WaitPoint ground opener.row opener.waker };
+    ghost is_ready = { λ queue seats. IsOpener R.Rows W.WaitPoint queue seats.row seats.waker };
 
-    ghost number_of = { λ opener. opener.started };
+    ghost number_of = { λ seats. seats.started };
 
     ghost keeps_accounts = { R.keeps_accounts };
 
-    ghost puts_of = { λ opener. R.puts_of opener.row };
+    ghost puts_of = { λ seats. R.puts_of seats.row };
 
-    ghost takes_of = { λ opener. R.takes_of opener.row };
+    ghost takes_of = { λ seats. R.takes_of seats.row };
 
     // To the back of a row that a random word picks, where a worker was started.
-    fn pass<RT: Wait>(&mut self, rt: &RT, ground: &Ground<W, R>, job: J) -> Result<(), J> {
+    fn pass<RT: Wait>(&mut self, rt: &RT, queue: &JobQueue<W, R>, job: J) -> Result<(), J> {
         if self.started == 0 {
             return Err(job);
         }
-        let row = row_at(self.words.next_word(), ground.workers);
-        ground.rows.put_back(rt, &mut self.row, row, job)?;
-        ground.point.wake_one(rt, &mut self.waker);
+        let row = row_at(self.words.next_word(), queue.workers);
+        queue.rows.put_back(rt, &mut self.row, row, job)?;
+        queue.point.wake_one(rt, &mut self.waker);
         Ok(())
     }
 }

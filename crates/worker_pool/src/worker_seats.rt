@@ -1,0 +1,41 @@
+//! How a worker passes jobs on.
+ghost use Rattle.std.specs.Prelude.{◌≡◌};
+
+use crate::job_queue::JobQueue;
+use crate::passes::Passes;
+use event_count::WaitPoint;
+use run_queue::Rows;
+use std::alloc::Allocator;
+use std::marker::PhantomData;
+use std::sync::Wait;
+
+/// The seats of a worker.
+#[derive(Drop)]
+pub(crate) struct WorkerSeats<J, A: Allocator, W: WaitPoint<A>, R: Rows<J, A>> {
+    pub(crate) row: R::Seat,
+    pub(crate) waker: W::Seat,
+    pub(crate) of: PhantomData<(J, A)>,
+}
+
+impl<J, A: Allocator, W: WaitPoint<A>, R: Rows<J, A>> Passes<J> for WorkerSeats<J, A, W, R> {
+    ghost use Rattle.worker_pool.specs.Seats.{IsOwner};
+
+    type Place = JobQueue<W, R>;
+
+    ghost is_ready = { λ queue seats. IsOwner R.Rows W.WaitPoint queue seats.row seats.waker };
+
+    ghost number_of = { λ seats. R.number_of seats.row };
+
+    ghost keeps_accounts = { R.keeps_accounts };
+
+    ghost puts_of = { λ seats. R.puts_of seats.row };
+
+    ghost takes_of = { λ seats. R.takes_of seats.row };
+
+    // To the front of its own row.
+    fn pass<RT: Wait>(&mut self, rt: &RT, queue: &JobQueue<W, R>, job: J) -> Result<(), J> {
+        queue.rows.put_front(rt, &mut self.row, job)?;
+        queue.point.wake_one(rt, &mut self.waker);
+        Ok(())
+    }
+}
