@@ -7,15 +7,11 @@
 #![tactic(auto)]
 
 #[cfg(test)]
-mod barriers;
+mod calls;
 #[cfg(test)]
-mod coprimes;
-#[cfg(test)]
-mod counts;
+mod each_call;
 #[cfg(test)]
 mod halves;
-#[cfg(test)]
-mod leaves;
 #[cfg(test)]
 mod loops;
 #[cfg(test)]
@@ -25,8 +21,4 @@ mod pools;
 #[cfg(test)]
 mod refusing;
 #[cfg(test)]
-mod rows;
-#[cfg(test)]
 mod splits;
-#[cfg(test)]
-mod worlds;

@@ -85,6 +85,7 @@ where
     J: Job<A> + Drop + Send,
     J::Ctx: Sync,
     J::Out: Drop + Send,
+    J::Abandoned: Send,
     A: Allocator + Clone + Send + Sync,
     W: WaitPoint<A> + Sync,
     W::Seat: Send,

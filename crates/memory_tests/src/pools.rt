@@ -2,172 +2,165 @@
 use crate::opened::{Counts, Entry, run_root};
 use crate::refusing::Sparing;
 use crate::splits::Splits;
-use std::alloc::{AllocError, Allocator, Global};
+use std::alloc::{AllocError, Global};
 use std::process::Abort;
+use std::sync::Wait;
 use std::test::Fail;
-use worker_pool::{Closed, PoolFault};
+use std::thread::Threads;
+use worker_pool::PoolFault;
 
 /// How many jobs the root becomes, each with an out.
 const JOBS: u64 = 40;
 
-/// How many allocations beyond its opening's a pool is tried with.
+/// How many allocations beyond its opening's a pool is tried with, which suffice for all jobs.
 const MOST_MORE: u64 = 64;
 
 const ENTRIES: [Entry; 2] = [Entry::Body, Entry::Root];
 
 /// Numbers of workers, and how many allocations an opening takes: the rows three and one for each
-/// worker, the count seven, the stop word two, the coprimes and the hands one each, and four the
+/// worker, the count nine, the stop word two, the coprimes and the hands one each, and four the
 /// lists of what comes home.
-const OPENINGS: [(u32, u64); 2] = [(1, 19), (2, 20)];
+const OPENINGS: [(u32, u64); 2] = [(1, 21), (2, 22)];
 
-fn root() -> Splits {
-    Splits {
+/// What a pool leaves that runs the root.
+#[derive(Drop)]
+struct Ran {
+    fault: Option<PoolFault>,
+    calls: u64,
+    steps: u64,
+    refused: u64,
+    // How many jobs are handed back.
+    left: usize,
+    // How many lists of outs there are.
+    lists: usize,
+    // The outs of the first worker.
+    first: Vec<u64>,
+    // All outs, sorted.
+    outs: Vec<u64>,
+}
+
+// A pool that gets so many allocations.
+fn run_with<RT: Threads + Wait + Sync>(
+    rt: &RT,
+    alloc: Global,
+    allocations: u64,
+    entry: Entry,
+    workers: u32,
+) -> Result<Ran, AllocError> {
+    let heap = Sparing::new(alloc, allocations);
+    let counts = Counts::new();
+    let root = Splits {
         place: 0,
         more: JOBS - 1,
+    };
+    let closed = run_root(rt, &heap, entry, workers, &counts, root);
+    let mut ran = Ran {
+        fault: None,
+        calls: counts.calls(),
+        steps: counts.steps(),
+        refused: 0,
+        left: 0,
+        lists: 0,
+        first: Vec::new(alloc),
+        outs: Vec::new(alloc),
+    };
+    match closed {
+        Ok(closed) => {
+            ran.refused = closed.refused;
+            ran.left = closed.left.len();
+            ran.lists = closed.outs.len();
+            if let Some(list) = closed.outs.first() {
+                ran.first.extend_from_slice(list)?;
+            }
+            for list in closed.outs.iter() {
+                ran.outs.extend_from_slice(list)?;
+            }
+            ran.outs.sort_unstable();
+        }
+        Err(fault) => ran.fault = Some(fault),
     }
+    Ok(ran)
 }
 
-// All outs in one list, sorted.
-fn sorted<A: Allocator>(alloc: Global, closed: &Closed<Splits, A>) -> Result<Vec<u64>, AllocError> {
-    let mut places = Vec::new(alloc);
-    for list in closed.outs.iter() {
-        places.extend_from_slice(list)?;
-    }
-    places.sort_unstable();
-    Ok(places)
-}
-
-// Each job has left its place once or was refused, and none was handed back. The answer counts the
-// outs.
-fn expect_all_ended<R: Abort, A: Allocator>(
-    rt: &R,
-    alloc: Global,
-    workers: u32,
-    closed: &Closed<Splits, A>,
-) -> Result<u64, AllocError> {
-    assert_eq!(rt; closed.outs.len() as u64, u64::from(workers) + 1);
-    assert!(rt; closed.left.is_empty(), "{workers} workers");
-    let places = sorted(alloc, closed)?;
-    let outs = places.len() as u64;
-    assert_eq!(rt;
-        outs.checked_add(closed.refused),
-        Some(JOBS),
-        "{workers} workers"
-    );
-    assert!(rt;
-        places.windows(2).all(|pair| pair[0] < pair[1]),
-        "{workers} workers"
-    );
-    assert!(rt;
-        places.iter().all(|&place| place < JOBS),
-        "{workers} workers"
-    );
-    Ok(outs)
+// Each job has left its place once or was refused, and none was handed back.
+fn expect_all_ended<R: Abort>(rt: &R, workers: u32, ran: &Ran) {
+    let ended = (ran.fault, ran.calls, ran.left, ran.lists as u64);
+    assert_eq!(rt; ended, (None, 1, 0, u64::from(workers) + 1));
+    let jobs = (ran.outs.len() as u64).checked_add(ran.refused);
+    assert_eq!(rt; jobs, Some(JOBS), "{workers} workers");
+    let each_once = ran.outs.windows(2).all(|pair| pair[0] < pair[1]);
+    let each_below = ran.outs.iter().all(|&place| place < JOBS);
+    assert!(rt; each_once && each_below, "{workers} workers");
 }
 
 // Where a pool isn't opened, nothing is called and no step taken.
 #[test]
-fn each_allocation_of_an_opening(rt: HostRuntime) {
+fn each_allocation_of_an_opening(rt: HostRuntime) -> Result<(), Fail> {
     for entry in ENTRIES {
         for (workers, takes) in OPENINGS {
             for left in 0..takes {
-                let heap = Sparing::new(rt.alloc(), left);
-                let counts = Counts::new();
-                let fault = run_root(&rt, &heap, entry, workers, &counts, root()).err();
-                assert_eq!(rt; fault, Some(PoolFault::NoMemory), "{entry:?}, after {left}");
-                assert_eq!(rt; counts.calls(), 0, "{entry:?}, after {left}");
-                assert_eq!(rt; counts.steps(), 0, "{entry:?}, after {left}");
+                let ran = run_with(&rt, rt.alloc(), left, entry, workers)?;
+                let found = (ran.fault, ran.calls, ran.steps);
+                let none = (Some(PoolFault::NoMemory), 0, 0);
+                assert_eq!(rt; found, none, "{entry:?}, after {left}");
             }
         }
     }
+    Ok(())
 }
 
-// The root finds no room for its out, and the pool is closed all the same.
+// Without one more the root finds no room for its out, and takes no step; with ample memory all jobs
+// find room.
 #[test]
-fn an_opening_and_no_allocation_more(rt: HostRuntime) -> Result<(), Fail> {
+fn no_allocation_after_an_opening_and_ample(rt: HostRuntime) -> Result<(), Fail> {
     for entry in ENTRIES {
         for (workers, takes) in OPENINGS {
-            let heap = Sparing::new(rt.alloc(), takes);
-            let counts = Counts::new();
-            let closed = run_root(&rt, &heap, entry, workers, &counts, root())?;
-            assert_eq!(rt; closed.refused, 1, "{entry:?}, {workers} workers");
-            assert!(rt; sorted(rt.alloc(), &closed)?.is_empty(), "{entry:?}");
-            assert!(rt; closed.left.is_empty(), "{entry:?}");
-            assert_eq!(rt; counts.calls(), 1, "{entry:?}, {workers} workers");
-            assert_eq!(rt; counts.steps(), 0, "{entry:?}, {workers} workers");
+            for (allocations, outs, refused) in [(takes, 0, 1), (u64::MAX, JOBS, 0)] {
+                let ran = run_with(&rt, rt.alloc(), allocations, entry, workers)?;
+                let found = (ran.fault, ran.calls, ran.outs.len() as u64, ran.refused);
+                assert_eq!(rt; found, (None, 1, outs, refused), "{entry:?}, {workers}");
+                assert_eq!(rt; (ran.left, ran.steps > 0), (0, outs > 0), "{entry:?}");
+            }
         }
     }
     Ok(())
 }
 
 // Whoever runs the jobs, those that find no room for an out are refused: at one allocation there is
-// room for some, and at the most for all.
+// room for some, and at the most for all. One worker runs the jobs by their places, so those that
+// find room are the first.
 #[test]
-fn allocations_after_an_opening(rt: HostRuntime) -> Result<(), Fail> {
+fn each_allocation_after_an_opening(rt: HostRuntime) -> Result<(), Fail> {
     for entry in ENTRIES {
         for (workers, takes) in OPENINGS {
+            let mut before = 0;
             for more in 1..=MOST_MORE {
-                let heap = Sparing::new(rt.alloc(), takes + more);
-                let counts = Counts::new();
-                let closed = run_root(&rt, &heap, entry, workers, &counts, root())?;
-                let outs = expect_all_ended(&rt, rt.alloc(), workers, &closed)?;
-                assert!(rt; outs > 0, "{entry:?}, {workers} workers");
-                assert!(rt; outs < JOBS || more > 1, "{entry:?}, {workers} workers");
-                assert!(rt;
-                    outs == JOBS || more < MOST_MORE,
-                    "{entry:?}, {workers} workers"
-                );
-                assert_eq!(rt; counts.calls(), 1, "{entry:?}, {workers} workers");
+                let ran = run_with(&rt, rt.alloc(), takes + more, entry, workers)?;
+                expect_all_ended(&rt, workers, &ran);
+                let outs = ran.outs.len() as u64;
+                let some = outs > 0 && (outs < JOBS || more > 1);
+                let all = outs == JOBS || more < MOST_MORE;
+                assert!(rt; some && all, "{entry:?}, {workers} workers, {more} more");
+                if workers == 1 {
+                    assert!(rt; before < outs || outs == JOBS, "{entry:?}, {more} more");
+                    let in_order = (0..outs).eq(ran.first.iter().copied());
+                    assert!(rt; in_order, "{entry:?}, {more} more");
+                }
+                before = outs;
             }
         }
     }
     Ok(())
 }
 
-// One worker runs the jobs by their places, so those that find room are the first.
 #[test]
-fn each_allocation_after_an_opening_for_one(rt: HostRuntime) -> Result<(), Fail> {
-    let (workers, takes) = OPENINGS[0];
-    for entry in ENTRIES {
-        let mut before = 0;
-        for more in 1..=MOST_MORE {
-            let heap = Sparing::new(rt.alloc(), takes + more);
-            let closed = run_root(&rt, &heap, entry, workers, &Counts::new(), root())?;
-            let outs = expect_all_ended(&rt, rt.alloc(), workers, &closed)?;
-            assert!(rt; before < outs || outs == JOBS, "{entry:?}, {more} more");
-            assert_eq!(rt; closed.outs.len(), 2);
-            assert_eq!(rt; closed.outs[0].len() as u64, outs, "{entry:?}, {more} more");
-            for (place, out) in (0..outs).zip(closed.outs[0].iter()) {
-                assert_eq!(rt; *out, place, "{entry:?}, {more} more");
-            }
-            before = outs;
-        }
-        assert_eq!(rt; before, JOBS, "{entry:?}");
-    }
-    Ok(())
-}
-
-#[test]
-fn pools_with_ample_memory(rt: HostRuntime) -> Result<(), Fail> {
-    for entry in ENTRIES {
-        for (workers, _) in OPENINGS {
-            let closed = run_root(&rt, rt.alloc(), entry, workers, &Counts::new(), root())?;
-            let outs = expect_all_ended(&rt, rt.alloc(), workers, &closed)?;
-            assert_eq!(rt; outs, JOBS, "{entry:?}, {workers} workers");
-        }
-    }
-    Ok(())
-}
-
-#[test]
-fn workers_out_of_range_come_before_memory(rt: HostRuntime) {
-    let none = Sparing::new(rt.alloc(), 0);
+fn workers_out_of_range_come_before_memory(rt: HostRuntime) -> Result<(), Fail> {
     for entry in ENTRIES {
         for workers in [0, 65] {
-            let counts = Counts::new();
-            let fault = run_root(&rt, &none, entry, workers, &counts, root()).err();
-            assert_eq!(rt; fault, Some(PoolFault::BadWorkers), "{entry:?}");
-            assert_eq!(rt; counts.calls(), 0, "{entry:?}");
+            let ran = run_with(&rt, rt.alloc(), 0, entry, workers)?;
+            let found = (ran.fault, ran.calls, ran.steps);
+            assert_eq!(rt; found, (Some(PoolFault::BadWorkers), 0, 0), "{entry:?}");
         }
     }
+    Ok(())
 }

@@ -16,9 +16,13 @@ impl<A: Allocator> Job<A> for Splits {
 
     type Out = u64;
 
+    type Abandoned = ();
+
     ghost weight_of = { λ job. job.more };
 
     ghost allows = { λ _ _ _. Unit {0} };
+
+    ghost abandons = { λ _ _ _. Unit {0} };
 
     fn weight(&self) -> u64 {
         self.more

@@ -1,19 +1,31 @@
-//! Tests of the pool's parts by their public calls.
+//! Tests of pools: opened, worked in and closed; of tasks as jobs; and of rows of one's own.
 #![tactic(auto)]
 
 #[cfg(test)]
-mod barriers;
+mod bodies;
 #[cfg(test)]
-mod coprimes;
+mod faults;
 #[cfg(test)]
-mod deques;
+mod gates;
 #[cfg(test)]
-mod partitions;
+mod kinds;
 #[cfg(test)]
-mod rows;
+mod kinds_of_rows;
 #[cfg(test)]
-mod walks;
+mod opened;
 #[cfg(test)]
-mod words;
+mod own_rows;
 #[cfg(test)]
-mod worlds;
+mod pools;
+#[cfg(test)]
+mod refusals;
+#[cfg(test)]
+mod runs;
+#[cfg(test)]
+mod setups;
+#[cfg(test)]
+mod slots;
+#[cfg(test)]
+mod tasks;
+#[cfg(test)]
+mod tree;

@@ -5,6 +5,8 @@
 pub(crate) enum CaseLine<'t> {
     /// Nothing, or a note.
     Note,
+    /// A name and the text that it stands for.
+    Let(&'t str),
     /// The inputs of the expressions behind it.
     Inputs(&'t str),
     /// A whole request text.
@@ -19,6 +21,8 @@ impl<'t> CaseLine<'t> {
     pub(crate) fn of(line: &'t str) -> CaseLine<'t> {
         if line.is_empty() || line.starts_with('#') {
             CaseLine::Note
+        } else if let Some(named) = line.strip_prefix("let ") {
+            CaseLine::Let(named)
         } else if let Some(inputs) = line.strip_prefix("inputs ") {
             CaseLine::Inputs(inputs)
         } else if let Some(text) = line.strip_prefix("text ") {

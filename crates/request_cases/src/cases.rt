@@ -28,6 +28,8 @@ pub(crate) struct Cases {
     pub(crate) count: u64,
     /// A line for each answer that is another one.
     pub(crate) report: String,
+    /// Names in angle brackets, each with the text that it stands for.
+    names: Vec<(String, String)>,
     inputs: String,
     asked: Asked,
     alloc: Global,
@@ -39,6 +41,7 @@ impl Cases {
         Cases {
             count: 0,
             report: String::new(alloc),
+            names: Vec::new(alloc),
             inputs: String::new(alloc),
             asked: Asked::Text(String::new(alloc)),
             alloc,
@@ -64,12 +67,35 @@ impl Cases {
     ) -> Result<(), AllocError> {
         match line {
             CaseLine::Note => {}
-            CaseLine::Inputs(inputs) => self.inputs = inputs.to_string(self.alloc)?,
-            CaseLine::Text(text) => self.asked = Asked::Text(text.to_string(self.alloc)?),
-            CaseLine::Expr(expr) => self.asked = Asked::Expr(expr.to_string(self.alloc)?),
-            CaseLine::Answer(line) => self.compare(rt, line)?,
+            CaseLine::Let(named) => self.name(named)?,
+            CaseLine::Inputs(inputs) => self.inputs = self.written_out(inputs)?,
+            CaseLine::Text(text) => self.asked = Asked::Text(self.written_out(text)?),
+            CaseLine::Expr(expr) => self.asked = Asked::Expr(self.written_out(expr)?),
+            CaseLine::Answer(line) => {
+                let line = self.written_out(line)?;
+                self.compare(rt, line.as_str())?;
+            }
         }
         Ok(())
+    }
+
+    /// Takes a name and the text behind it, in which earlier names may stand.
+    fn name(&mut self, named: &str) -> Result<(), AllocError> {
+        if let Some((name, text)) = named.split_once(' ') {
+            let name = format!(in self.alloc; "<{name}>")?;
+            let text = self.written_out(text)?;
+            self.names.push((name, text))?;
+        }
+        Ok(())
+    }
+
+    /// A text with what each name in it stands for.
+    fn written_out(&self, text: &str) -> Result<String, AllocError> {
+        let mut text = text.to_string(self.alloc)?;
+        for (name, meant) in &self.names {
+            text = text.replace(self.alloc, name.as_str(), meant.as_str())?;
+        }
+        Ok(text)
     }
 
     /// Compares what answers the case with the line that is to answer it.

@@ -1,6 +1,7 @@
 //! Runs the request texts of files of cases, and tells which are answered otherwise than the files
 //! say. A file has a line `inputs` JSON, then an expression a line, and behind each a line `=` and
-//! the line that answers it; `text` JSON is a whole request text, and `#` begins a note.
+//! the line that answers it; `text` JSON is a whole request text, and `#` begins a note. Behind a
+//! line `let` NAME TEXT, `<NAME>` stands for that text.
 #![tactic(auto)]
 
 mod answers;
@@ -11,7 +12,7 @@ use crate::cases::Cases;
 use std::{fs, io};
 
 /// The files of cases.
-const FILES: [&str; 12] = [
+const FILES: [&str; 15] = [
     "arguments.cases",
     "check_order.cases",
     "contractions.cases",
@@ -19,10 +20,13 @@ const FILES: [&str; 12] = [
     "faults.cases",
     "movements.cases",
     "nested.cases",
+    "pieces.cases",
     "ranges.cases",
     "ranks.cases",
     "reductions.cases",
     "tensors.cases",
+    "tiles.cases",
+    "trees.cases",
     "values.cases",
 ];
 

@@ -1,18 +1,31 @@
-//! Tests of the whole way from the bytes of a request text to the line that answers it, where a file
-//! of cases can't hold the text: it has bytes of its own, or is made by a rule.
+//! Tests of dims, expressions and plans by their calls, and of the whole way from the bytes of a
+//! request text to the line that answers it.
+//!
+//! What a file of cases can hold stands in `request_cases`. Here are texts with bytes of their own
+//! or of the greatest length, and runs over readers and writers that give or take little, or fail.
 #![tactic(auto)]
 
 #[cfg(test)]
 mod bytes;
 #[cfg(test)]
+mod dims;
+#[cfg(test)]
 mod evaluation;
 #[cfg(test)]
-mod fixtures;
+mod faults;
 #[cfg(test)]
-mod lengths;
+mod plans;
 #[cfg(test)]
-mod pieces;
+mod ranges;
 #[cfg(test)]
-mod tiles;
+mod readers;
 #[cfg(test)]
-mod trees;
+mod requests;
+#[cfg(test)]
+mod result_dims;
+#[cfg(test)]
+mod tensors;
+#[cfg(test)]
+mod texts;
+#[cfg(test)]
+mod writers;

@@ -1,0 +1,191 @@
+//! Calls that take memory, made with an allocator that refuses.
+
+use crate::refusing::Sparing;
+use event_count::{CountFault, EventCount, LockedCount, WaitPoint};
+use event_word::{Event, World};
+use parallel_for::leaves;
+use pool_barrier::{Barrier, BarrierFault, Notification};
+use run_queue::{Deque, LockedRows, Rows, RowsFault, SlotRows};
+use std::alloc::{AllocError, Global};
+use std::sync::Wait;
+use steal_walk::Coprimes;
+
+type Heap = Sparing<Global>;
+
+/// A call that takes memory.
+#[derive(Clone, Copy, Debug)]
+pub(crate) enum Call {
+    Barrier { notices: u64 },
+    Notification,
+    EventCount { waiters: u16 },
+    EventCountAtTheLastEpoch { waiters: u16 },
+    EventCountAsPoint { waiters: u16 },
+    LockedCount { waiters: u16 },
+    World,
+    Row,
+    LockedRows,
+    SlotRows,
+    TooManyRows,
+    TooManySlotRows,
+    Coprimes,
+    Leaves,
+}
+
+/// What a call answers.
+#[derive(Clone, Copy, Debug, Eq, PartialEq)]
+pub(crate) enum Answer {
+    NoMemory,
+    TooMuch,
+    /// As it is to answer where it has memory.
+    Right,
+    /// Otherwise.
+    Wrong,
+}
+
+impl Answer {
+    fn right_where(is_right: bool) -> Answer {
+        if is_right {
+            Answer::Right
+        } else {
+            Answer::Wrong
+        }
+    }
+
+    // Two waiters and a notifier have three seats, and are closed at this word.
+    fn of_count(counted: Result<(usize, u64), CountFault>) -> Answer {
+        match counted {
+            Ok(seats_and_word) => Answer::right_where(seats_and_word == (3, 0x3FFF)),
+            Err(CountFault::NoMemory) => Answer::NoMemory,
+            Err(CountFault::TooManyWaiters) => Answer::TooMuch,
+        }
+    }
+
+    fn of_rows(answered: Result<bool, RowsFault>) -> Answer {
+        match answered {
+            Ok(is_right) => Answer::right_where(is_right),
+            Err(RowsFault::NoMemory) => Answer::NoMemory,
+            Err(RowsFault::TooManyRows) => Answer::TooMuch,
+        }
+    }
+
+    fn of_memory(answered: Result<bool, AllocError>) -> Answer {
+        match answered {
+            Ok(is_right) => Answer::right_where(is_right),
+            Err(_) => Answer::NoMemory,
+        }
+    }
+}
+
+/// Makes a call.
+pub(crate) fn make<R: Wait>(rt: &R, call: Call, heap: &Heap) -> Answer {
+    match call {
+        Call::Barrier { notices } => barrier(heap, notices),
+        Call::Notification => Answer::of_memory(notification(heap)),
+        Call::EventCount { waiters } => Answer::of_count(count(heap, waiters)),
+        Call::EventCountAtTheLastEpoch { waiters } => {
+            Answer::of_count(count_at_the_last(heap, waiters))
+        }
+        Call::EventCountAsPoint { waiters } => {
+            Answer::of_count(point::<EventCount<&Heap>>(heap, waiters))
+        }
+        Call::LockedCount { waiters } => {
+            Answer::of_count(point::<LockedCount<&Heap>>(heap, waiters))
+        }
+        Call::World => Answer::of_memory(world(heap)),
+        Call::Row => Answer::of_memory(row(heap)),
+        Call::LockedRows => Answer::of_rows(two_rows::<R, LockedRows<u64, &Heap>>(rt, heap)),
+        Call::SlotRows => Answer::of_rows(two_rows::<R, SlotRows<u64, &Heap>>(rt, heap)),
+        Call::TooManyRows => Answer::of_rows(too_many_rows::<LockedRows<u64, &Heap>>(heap)),
+        Call::TooManySlotRows => Answer::of_rows(too_many_rows::<SlotRows<u64, &Heap>>(heap)),
+        Call::Coprimes => Answer::of_memory(coprimes(heap)),
+        Call::Leaves => Answer::of_memory(leaves_of_ten(heap)),
+    }
+}
+
+// The share that is handed out has all notices.
+fn barrier(heap: &Heap, notices: u64) -> Answer {
+    match Barrier::new(heap, notices) {
+        Ok((_barrier, _waiter, share)) => Answer::right_where(share.notices() == notices),
+        Err(BarrierFault::NoMemory) => Answer::NoMemory,
+        Err(BarrierFault::TooLarge) => Answer::TooMuch,
+    }
+}
+
+// The share that is handed out has one notice.
+fn notification(heap: &Heap) -> Result<bool, AllocError> {
+    let (_notification, _waiter, share) = Notification::new(heap)?;
+    Ok(share.notices() == 1)
+}
+
+// How many seats a new count has, and the word that it is closed at.
+fn count(heap: &Heap, waiters: u16) -> Result<(usize, u64), CountFault> {
+    let (count, seats) = EventCount::new(heap, waiters, 1)?;
+    Ok((seats.len(), count.close(seats)))
+}
+
+// The same, of a count whose seats have their last epoch.
+fn count_at_the_last(heap: &Heap, waiters: u16) -> Result<(usize, u64), CountFault> {
+    let (count, seats) = EventCount::new_at(heap, waiters, 1, 4_194_303)?;
+    Ok((seats.len(), count.close(seats)))
+}
+
+// The same, of what a pool waits at. One waits at the least.
+fn point<'h, P: WaitPoint<&'h Heap>>(
+    heap: &'h Heap,
+    waiters: u16,
+) -> Result<(usize, u64), CountFault> {
+    let (point, seats) = P::open(heap, waiters.max(1), 1)?;
+    Ok((seats.len(), point.shut(seats)))
+}
+
+// A World with a row plays six events, which leave one signal.
+fn world(heap: &Heap) -> Result<bool, AllocError> {
+    let mut world = World::new(heap, 2, 1, 1)?;
+    let events = [
+        Event::Prewait { seat: 0 },
+        Event::Prewait { seat: 1 },
+        Event::PassFlag { seat: 1 },
+        Event::Pass { seat: 1, row: 0 },
+        Event::Commit { seat: 1 },
+        Event::NotifyAll { actor: 2 },
+    ];
+    let taken = world.play(&events);
+    Ok((taken, world.signals()) == (6, 1))
+}
+
+// A row takes 1,024 jobs, with no more memory.
+fn row(heap: &Heap) -> Result<bool, AllocError> {
+    let mut row = Deque::new(heap)?;
+    for job in 0..1030u64 {
+        let _ = row.push_back(job);
+    }
+    Ok(row.len() == 1024)
+}
+
+// Two rows have three seats, and give back the job that is put in, with no more memory.
+fn two_rows<'h, R: Wait, Q: Rows<u64, &'h Heap>>(
+    rt: &R,
+    heap: &'h Heap,
+) -> Result<bool, RowsFault> {
+    let (rows, mut seats) = Q::open(heap, 2, 1)?;
+    let put = rows.put_back(rt, &mut seats[0], 1, 7);
+    let count = seats.len();
+    let left = rows.drain_all(seats);
+    Ok(count == 3 && put.is_ok() && left.as_slice() == [7].as_slice())
+}
+
+// Rows that are too many.
+fn too_many_rows<'h, Q: Rows<u64, &'h Heap>>(heap: &'h Heap) -> Result<bool, RowsFault> {
+    let (_rows, _seats) = Q::open(heap, 65, 1)?;
+    Ok(false)
+}
+
+fn coprimes(heap: &Heap) -> Result<bool, AllocError> {
+    let coprimes = Coprimes::new(heap, 12)?;
+    Ok(coprimes.numbers() == [1, 5, 7, 11].as_slice())
+}
+
+fn leaves_of_ten(heap: &Heap) -> Result<bool, AllocError> {
+    let leaves = leaves(heap, 10, 4)?;
+    Ok(leaves.as_slice() == [(0, 4), (4, 8), (8, 10)].as_slice())
+}

@@ -1,0 +1,70 @@
+//! Each call by itself: how many allocations it takes, and that it asks for none where it is
+//! refused for another reason.
+
+use crate::calls::{Answer, Call, make};
+use crate::refusing::Sparing;
+
+/// Calls, and how many allocations each takes.
+const CALLS: [(Call, u64); 12] = [
+    // A table takes two blocks.
+    (Call::Barrier { notices: 2 }, 2),
+    (Call::Notification, 2),
+    // The words take one block, the seats another, and a table two.
+    (Call::EventCount { waiters: 2 }, 4),
+    (Call::EventCountAtTheLastEpoch { waiters: 2 }, 4),
+    (Call::EventCountAsPoint { waiters: 2 }, 4),
+    // The World takes eight blocks, and the seats one.
+    (Call::LockedCount { waiters: 2 }, 9),
+    // Nine lists, one allocation each, and for each of the two workers a list of the rows that it
+    // has passed. The events take none.
+    (Call::World, 11),
+    (Call::Row, 1),
+    // The room of all jobs, the list of rows, each of the two rows, and the seats.
+    (Call::LockedRows, 5),
+    // The backs; the room of what is left, the list that hands it over and the two blocks of its
+    // table; the words, the seats, the slots, and the two blocks of the table.
+    (Call::SlotRows, 10),
+    (Call::Coprimes, 1),
+    (Call::Leaves, 1),
+];
+
+/// More than any of them takes.
+const AMPLE: u64 = 12;
+
+/// Calls that ask for too much.
+const TOO_MUCH: [Call; 7] = [
+    Call::Barrier {
+        notices: 2_147_483_648,
+    },
+    Call::EventCount { waiters: 16_383 },
+    Call::EventCountAtTheLastEpoch { waiters: 16_383 },
+    Call::EventCountAsPoint { waiters: 16_383 },
+    Call::LockedCount { waiters: 16_383 },
+    Call::TooManyRows,
+    Call::TooManySlotRows,
+];
+
+#[test]
+fn each_allocation_of_each_call(rt: HostRuntime) {
+    for (call, takes) in CALLS {
+        for left in 0..=AMPLE {
+            let wanted = if left < takes {
+                Answer::NoMemory
+            } else {
+                Answer::Right
+            };
+            let heap = Sparing::new(rt.alloc(), left);
+            let found = make(&rt, call, &heap);
+            assert_eq!(rt; found, wanted, "{call:?} after {left}");
+        }
+    }
+}
+
+#[test]
+fn too_much_comes_before_memory(rt: HostRuntime) {
+    for call in TOO_MUCH {
+        let none = Sparing::new(rt.alloc(), 0);
+        let found = make(&rt, call, &none);
+        assert_eq!(rt; found, Answer::TooMuch, "{call:?}");
+    }
+}

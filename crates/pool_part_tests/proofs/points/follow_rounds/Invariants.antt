@@ -1,0 +1,11 @@
+use Rattle.std.proofs.Common.{◌≡◌, []}
+use Rattle.event_word.specs.declared.phase.Phase.TheVariants.{Running}
+use Rattle.pool_part_tests.proofs.points.follow_rounds.Given as goal
+
+abbrev pub invariant-loop-turn : goal.invariant-loop-turn
+invariant-loop-turn g l = record {
+  ours : g.P.WaitPoint.point_of l.seat ≡ g.P.WaitPoint.point_of l.fn.seat;
+  number : g.P.WaitPoint.number_of l.seat ≡ g.P.WaitPoint.number_of l.fn.seat;
+  running : g.P.WaitPoint.phase_of l.seat ≡ Running;
+  owes_none : g.P.WaitPoint.owing_of l.seat ≡ [];
+}

@@ -1,0 +1,10 @@
+use Rattle.std.proofs.Common.{◌≡◌, []}
+use Rattle.event_word.specs.declared.phase.Phase.TheVariants.{Running}
+use Rattle.pool_part_tests.proofs.points.produce_often.Given as goal
+
+abbrev pub invariant-loop : goal.invariant-loop
+invariant-loop g l = record {
+  ours : g.P.WaitPoint.point_of l.seat ≡ g.P.WaitPoint.point_of l.fn.seat;
+  running : g.P.WaitPoint.phase_of l.seat ≡ Running;
+  owes_none : g.P.WaitPoint.owing_of l.seat ≡ [];
+}

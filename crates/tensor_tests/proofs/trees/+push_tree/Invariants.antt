@@ -1,4 +1,0 @@
-use Rattle.tensor_tests.proofs.trees.+push_tree.Given as goal
-
-abbrev pub decreases-push_tree : goal.decreases-push_tree
-decreases-push_tree l = l.leaves

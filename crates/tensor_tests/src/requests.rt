@@ -1,0 +1,32 @@
+//! A text that is read.
+
+use expr_reader::{Expr, read_request};
+use std::test::Fail;
+
+/// The number of the input that an expression is.
+fn input_of(expr: &Expr) -> Option<u32> {
+    match expr {
+        Expr::Input(number) => Some(*number),
+        _ => None,
+    }
+}
+
+#[test]
+fn reads_a_request(rt: HostRuntime) -> Result<(), Fail> {
+    let text = concat!(
+        r#"{"version":1,"workers":2,"block":4,"inputs":{"b":{"dims":[1],"data":[-7]},"#,
+        r#""a":{"dims":[2],"data":[5,6]}},"expr":["add","b","b"]}"#,
+    );
+    let request = read_request(rt.alloc(), text.as_bytes())?;
+    let inputs = &request.inputs;
+    let numbers = (request.workers, request.block, inputs.len());
+    assert_eq!(rt; numbers, (2, 4, 2));
+    let values = (inputs.get(0).values(), inputs.get(1).values());
+    assert_eq!(rt; values, ([5, 6].as_slice(), [-7].as_slice()));
+    let operands = match &request.expr {
+        Expr::Add(left, right) => (input_of(left), input_of(right)),
+        _ => (None, None),
+    };
+    assert_eq!(rt; operands, (Some(1), Some(1)));
+    Ok(())
+}

@@ -1,0 +1,78 @@
+//! Result dims, and the faults in their place.
+ghost use Rattle.std.specs.Prelude.{◌≡◌, IfOk, length};
+ghost use Rattle.tensor_ops.specs.Term.{input};
+ghost use Rattle.tensor_ops.specs.Tree.{term_of};
+
+use crate::texts::request;
+use expr_reader::read_request;
+use std::alloc::{AllocError, Global};
+use std::test::Fail;
+use tensor_ops::{Dims, Expr, ExprFault, Inputs, Tensor};
+
+// An input of 2 by 3.
+fn two_by_three(alloc: Global) -> Result<Inputs, Fail>
+    ensures { IfOk result (λ i. length i ≡ 1) }
+{
+    let tensor = Tensor::new(Dims::new(&[2, 3])?, vec![in alloc; 1, 2, 3, 4, 5, 6]?);
+    Ok(Inputs::new(vec![in alloc; tensor]?))
+}
+
+// The input.
+fn input(alloc: Global) -> Result<Box<Expr>, AllocError>
+    ensures { IfOk result (λ b. term_of b.value ≡ input 0) }
+{
+    Ok(Box::new(alloc, Expr::Input(0))?)
+}
+
+#[test]
+fn dims_that_there_are_none_of(rt: HostRuntime) -> Result<(), Fail> {
+    let inputs = two_by_three(rt.alloc())?;
+    let lengths_differ = Expr::Shuffle(input(rt.alloc())?, vec![in rt.alloc(); 0, 1, 2]?);
+    let past_the_end = Expr::Chip(input(rt.alloc())?, 2, 0);
+    let too_many = Expr::Reshape(input(rt.alloc())?, vec![in rt.alloc(); 1048577]?);
+    let found = [
+        lengths_differ.dims(&inputs).err(),
+        past_the_end.dims(&inputs).err(),
+        too_many.dims(&inputs).err(),
+    ];
+    let faults = [
+        ExprFault::ShapeMismatch,
+        ExprFault::OutOfRange,
+        ExprFault::TooLarge,
+    ];
+    assert_eq!(rt; found, [Some(faults[0]), Some(faults[1]), Some(faults[2])]);
+    assert_eq!(rt;
+        [faults[0] as u8, faults[1] as u8, faults[2] as u8],
+        [1, 2, 3]
+    );
+    Ok(())
+}
+
+#[test]
+fn dims_over_those_of_the_operands(rt: HostRuntime) -> Result<(), Fail> {
+    let inputs = r#"{"a":{"dims":[2,3],"data":[1,2,3,4,5,6]}}"#;
+    let text = request(rt.alloc(), inputs, r#"["chip",["add","a","a"],2,1]"#)?;
+    let request = read_request(rt.alloc(), text.as_bytes())?;
+    match &request.expr {
+        Expr::Chip(operand, _, _) => {
+            let known = [operand.dims(&request.inputs)?];
+            let dims = request.expr.dims_over(&request.inputs, &known)?;
+            assert_eq!(rt; dims.as_slice(), [2].as_slice());
+        }
+        _ => assert!(rt; false, "the expression is no chip"),
+    }
+    Ok(())
+}
+
+// 1,024 by 1,024 by 1,024: as many products as there may be.
+#[test]
+fn dims_of_the_largest_contraction(rt: HostRuntime) -> Result<(), Fail> {
+    let square = r#"["broadcast","a",[1024,1024]]"#;
+    let expr = format!(in rt.alloc(); r#"["contract",{square},{square},[[1,0]]]"#)?;
+    let inputs = r#"{"a":{"dims":[1,1],"data":[1]}}"#;
+    let text = request(rt.alloc(), inputs, expr.as_str())?;
+    let request = read_request(rt.alloc(), text.as_bytes())?;
+    let dims = request.expr.dims(&request.inputs)?;
+    assert_eq!(rt; dims.as_slice(), [1024, 1024].as_slice());
+    Ok(())
+}

@@ -1,0 +1,31 @@
+//! Tensors and lists of them.
+
+use std::test::Fail;
+use tensor_ops::{Dims, Inputs, Tensor};
+
+#[test]
+fn value_at_an_index_list(rt: HostRuntime) -> Result<(), Fail> {
+    let values = vec![in rt.alloc(); 10, 11, 12, 13, 14, 15]?;
+    let t = Tensor::new(Dims::new(&[2, 1, 3])?, values);
+    let known = ([2, 1, 3].as_slice(), [10, 11, 12, 13, 14, 15].as_slice());
+    assert_eq!(rt; (t.dims().as_slice(), t.values()), known);
+    let found = [
+        t.value_at(&[1, 0, 0]),
+        t.value_at(&[0, 0, 1]),
+        t.value_at(&[1, 0, 2]),
+    ];
+    assert_eq!(rt; found, [11, 12, 15]);
+    Ok(())
+}
+
+#[test]
+fn inputs_by_number(rt: HostRuntime) -> Result<(), Fail> {
+    let mut inputs = Inputs::new(Vec::new(rt.alloc()));
+    assert_eq!(rt; (inputs.is_empty(), inputs.len()), (true, 0));
+    inputs.push(Tensor::new(Dims::new(&[2])?, vec![in rt.alloc(); 7, 8]?))?;
+    inputs.push(Tensor::new(Dims::new(&[])?, vec![in rt.alloc(); 9]?))?;
+    assert_eq!(rt; (inputs.is_empty(), inputs.len()), (false, 2));
+    let values = (inputs.get(0).values(), inputs.get(1).values());
+    assert_eq!(rt; values, ([7, 8].as_slice(), [9].as_slice()));
+    Ok(())
+}
