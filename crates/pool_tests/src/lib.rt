@@ -10,9 +10,9 @@ mod gates;
 #[cfg(test)]
 mod kinds;
 #[cfg(test)]
-mod kinds_of_rows;
-#[cfg(test)]
 mod opened;
+#[cfg(test)]
+mod over_slots;
 #[cfg(test)]
 mod own_rows;
 #[cfg(test)]

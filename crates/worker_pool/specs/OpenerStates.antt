@@ -29,7 +29,8 @@ module _ {J A W R L C O N T S K : Type 0} (row : rows.Ghosts R J A S)
 
   -- These jobs came in: some were passed on, and the others ran. The pool is closing.
   pub record HasWorked (law : job.Ghosts J A C O N) (list : lists.Ghosts L O A K)
-      (pool : Pool J A W R) (ctx : C) (roots : List J) (opener : OpenerState J A W R L C O N T S K) : Type 0 where
+      (pool : Pool J A W R) (ctx : C) (roots : List J)
+      (opener : OpenerState J A W R L C O N T S K) : Type 0 where
     pub seats : IsOpener row point pool.queue opener.seats.row opener.seats.waker
     pub stop_seat : IsStopSeatOf pool.stop.shared opener.scheduled
     pub closing : stored_of opener.scheduled ≡ closing_word opener.cancelled

@@ -1,8 +1,8 @@
-//! What pools leave of tasks, whatever they wait at and keep their jobs in.
+//! What pools over rows of slots and an event count leave of tasks.
 use crate::bodies::run_all;
 use crate::kinds::{Meets, Tenfold, outs_of, tags_of};
-use event_count::{EventCount, LockedCount, WaitPoint};
-use run_queue::{LockedRows, Rows, SlotRows};
+use event_count::EventCount;
+use run_queue::SlotRows;
 use std::alloc::{AllocError, Global};
 use std::process::Abort;
 use std::sync::atomic::{AtomicU64, Ordering};
@@ -13,8 +13,6 @@ use steal_walk::Partition;
 use worker_pool::{BoxedJob, Closed, Gate, NoGate, PoolFault, Setup, VecLists};
 
 type Slots = SlotRows<BoxedJob>;
-
-type Locked = LockedRows<BoxedJob>;
 
 /// How often a held worker reads the flag at most.
 const READS: u64 = 200_000_000;
@@ -60,7 +58,7 @@ fn meeting(alloc: Global) -> Result<Vec<BoxedJob>, AllocError> {
 }
 
 // What a pool leaves of the first jobs, and of those that are scheduled once it is cancelled.
-fn pool<W, R, RT>(
+fn pool<RT>(
     rt: &RT,
     alloc: Global,
     setup: &Setup,
@@ -69,13 +67,9 @@ fn pool<W, R, RT>(
 ) -> Result<Closed<BoxedJob>, PoolFault>
 where
     RT: Threads + Wait + Sync,
-    W: WaitPoint<Global> + Sync,
-    W::Seat: Send,
-    R: Rows<BoxedJob, Global> + Sync,
-    R::Seat: Send,
 {
     let flag = AtomicU64::new(0);
-    run_all::<W, R, VecLists, RT, BoxedJob, NoGate>(
+    run_all::<EventCount, Slots, VecLists, RT, BoxedJob, NoGate>(
         rt,
         alloc,
         setup,
@@ -88,15 +82,11 @@ where
 }
 
 // Two workers run both at once.
-fn expect_meeting<W, R, RT>(rt: &RT, alloc: Global) -> Result<(), Fail>
+fn expect_meeting<RT>(rt: &RT, alloc: Global) -> Result<(), Fail>
 where
     RT: Threads + Wait + Abort + Sync,
-    W: WaitPoint<Global> + Sync,
-    W::Seat: Send,
-    R: Rows<BoxedJob, Global> + Sync,
-    R::Seat: Send,
 {
-    let closed = pool::<W, R, RT>(rt, alloc, &whole(alloc, 2), meeting(alloc)?, None)?;
+    let closed = pool(rt, alloc, &whole(alloc, 2), meeting(alloc)?, None)?;
     assert_eq!(rt; closed.outs.len(), 3);
     let outs = outs_of(alloc, &closed)?;
     assert_eq!(rt; outs.len(), 2);
@@ -108,34 +98,25 @@ where
 
 #[test]
 fn two_tasks_meet_over_slots(rt: HostRuntime) -> Result<(), Fail> {
-    expect_meeting::<EventCount, Slots, _>(&rt, rt.alloc())
-}
-
-#[test]
-fn two_tasks_meet_over_an_event_count(rt: HostRuntime) -> Result<(), Fail> {
-    expect_meeting::<EventCount, Locked, _>(&rt, rt.alloc())
+    expect_meeting(&rt, rt.alloc())
 }
 
 // A pool that is cancelled before its jobs are scheduled collects or hands back each once, and one
 // that isn't has run all.
-fn expect_collected<W, R, RT>(rt: &RT, alloc: Global) -> Result<(), Fail>
+fn expect_collected<RT>(rt: &RT, alloc: Global) -> Result<(), Fail>
 where
     RT: Threads + Wait + Abort + Sync,
-    W: WaitPoint<Global> + Sync,
-    W::Seat: Send,
-    R: Rows<BoxedJob, Global> + Sync,
-    R::Seat: Send,
 {
     for workers in [1, 2, 64] {
         let setup = whole(alloc, workers);
-        let run = pool::<W, R, RT>(rt, alloc, &setup, tenfolds(alloc, 3)?, None)?;
+        let run = pool(rt, alloc, &setup, tenfolds(alloc, 3)?, None)?;
         assert!(rt; run.left.is_empty());
         assert_eq!(rt; tags_of(alloc, &run)?.as_slice(), [1, 2, 3].as_slice());
         for out in run.outs.iter().flatten() {
             assert_eq!(rt; out.answer, out.tag.wrapping_mul(10));
         }
         let cancelled = Some(tenfolds(alloc, 3)?);
-        let kept = pool::<W, R, RT>(rt, alloc, &setup, Vec::new(alloc), cancelled)?;
+        let kept = pool(rt, alloc, &setup, Vec::new(alloc), cancelled)?;
         assert_eq!(rt; tags_of(alloc, &kept)?.as_slice(), [1, 2, 3].as_slice());
         assert_eq!(rt; (run.refused, kept.refused), (0, 0));
     }
@@ -144,12 +125,7 @@ where
 
 #[test]
 fn cancel_and_collect_over_slots(rt: HostRuntime) -> Result<(), Fail> {
-    expect_collected::<EventCount, Slots, _>(&rt, rt.alloc())
-}
-
-#[test]
-fn cancel_and_collect_over_an_event_count(rt: HostRuntime) -> Result<(), Fail> {
-    expect_collected::<EventCount, Locked, _>(&rt, rt.alloc())
+    expect_collected(&rt, rt.alloc())
 }
 
 // The fault of a setup of so many workers with the partition of the first two rows so often.
@@ -163,7 +139,7 @@ fn fault_of<RT: Threads + Wait + Sync>(
     for _ in 0..partitions {
         setup.partitions.push(Partition::new(0, 2, 2)?)?;
     }
-    let closed = pool::<EventCount, Slots, RT>(rt, alloc, &setup, tenfolds(alloc, 1)?, None);
+    let closed = pool(rt, alloc, &setup, tenfolds(alloc, 1)?, None);
     Ok(closed.err())
 }
 
@@ -206,16 +182,12 @@ impl<'a> Gate for HoldsFirst<'a> {
 }
 
 // While its worker is held a row takes what it has places for; the caller runs the one task more.
-fn expect_full_row<W, R, RT>(rt: &RT, alloc: Global) -> Result<(), Fail>
+fn expect_full_row<RT>(rt: &RT, alloc: Global) -> Result<(), Fail>
 where
     RT: Threads + Wait + Abort + Sync,
-    W: WaitPoint<Global> + Sync,
-    W::Seat: Send,
-    R: Rows<BoxedJob, Global> + Sync,
-    R::Seat: Send,
 {
     let flag = AtomicU64::new(0);
-    let closed = run_all::<W, R, VecLists, RT, BoxedJob, HoldsFirst<'_>>(
+    let closed = run_all::<EventCount, Slots, VecLists, RT, BoxedJob, HoldsFirst<'_>>(
         rt,
         alloc,
         &whole(alloc, 1),
@@ -237,10 +209,5 @@ where
 
 #[test]
 fn a_full_row_over_slots(rt: HostRuntime) -> Result<(), Fail> {
-    expect_full_row::<EventCount, Slots, _>(&rt, rt.alloc())
-}
-
-#[test]
-fn a_full_row_under_locks(rt: HostRuntime) -> Result<(), Fail> {
-    expect_full_row::<LockedCount, Locked, _>(&rt, rt.alloc())
+    expect_full_row(&rt, rt.alloc())
 }
