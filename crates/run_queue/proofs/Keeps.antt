@@ -1,18 +1,17 @@
 -- Each step keeps the account.
-use Rattle.std.proofs.Common.{◌≡◌, ◌≢◌, ℕ, eqb, ◌+◌, ◌-◌, ◌/◌, ◌%◌, ◌^◌, ◌<◌, ◌≤◌, List, [], ◌∷◌}
+use Rattle.std.proofs.Common.{◌≡◌, ◌≢◌, ℕ, eqb, ◌+◌, ◌/◌, ◌^◌, ◌<◌, ◌≤◌, List, [], ◌∷◌}
 use Rattle.std.proofs.Common.{◌++◌, Option}
 use Rattle.std.proofs.Common.{Some, None, ⊎_elim, length, get_or, set, sym, refl, ap, ◌∙◌, subst}
 use Rattle.std.proofs.Common.{arith, length-set, get_or-set_same, get_or-set_other}
 use mathlib.Core.Path.{Path}
 use mathlib.Core.Option.{some, none}
-use mathlib.Core.Option as maybe
 use native.Mathlib.Decide.{ℕ_discrete}
 use prog.Atomic.{either}
 use lib.ListN.{get_elem?}
 use lib.Seq.{set-get_or}
-use Rattle.atomic_table.specs.Table.{State, Act, Valid, Allows, Splits, Joins, step, stepped}
+use Rattle.atomic_table.specs.Table.{State, Act, Valid, Allows, step, stepped}
 use Rattle.atomic_table.specs.Table.{keeps, takes, gives, carried_after}
-use Rattle.atomic_table.proofs.Lists.{at_set, at_snoc, set_here, set_else, exchanged}
+use Rattle.atomic_table.proofs.Lists.{at_set, set_here, set_else, exchanged}
 use Rattle.run_queue.specs.declared.slot_rows.view.View.{View}
 use Rattle.run_queue.specs.declared.slot_rows.view.Notes.{Notes}
 use Rattle.run_queue.specs.Bag.{total}
@@ -20,44 +19,41 @@ use Rattle.run_queue.specs.Elements.{Phase, empty, busy, ready, word_of, home_of
 use Rattle.run_queue.specs.Elements.{weight_at_home}
 use Rattle.run_queue.specs.Lengths.{length_word, in_row, owed_to, total_at}
 use Rattle.run_queue.specs.Lengths.{job_in_row}
-use Rattle.run_queue.specs.Views.{names, claimed, moved, view_of, noted, fresh, nothing}
-use Rattle.run_queue.specs.Views.{after_deal, together}
+use Rattle.run_queue.specs.Views.{names, claimed, moved, view_of, noted, nothing}
 use Rattle.run_queue.specs.RowTable.{Shows, KeepsAccount}
-use Rattle.run_queue.specs.Plays.{Sat, claims_in, raises, makes_ready, claims_out, makes_empty}
-use Rattle.run_queue.specs.Plays.{lowers}
-use Rattle.run_queue.proofs.Totals.{total_set, total_last, total_append, at_most_total}
-use Rattle.run_queue.proofs.Totals.{names_same, names_other, total_below}
-use Rattle.run_queue.proofs.InRows.{total_at_set, total_at_below, in_row_same, in_row_other}
-use Rattle.run_queue.proofs.InRows.{in_row_small}
+use Rattle.run_queue.specs.Plays.{Sat, claims_in, makes_ready, claims_out, makes_empty}
+use Rattle.run_queue.proofs.Totals.{total_set, total_last, at_most_total}
+use Rattle.run_queue.proofs.Totals.{names_same, names_other}
+use Rattle.run_queue.proofs.InRows.{total_at_set}
 
-abbrev St : Type 0 → Type 0
+abbrev pub St : Type 0 → Type 0
 St J = State (Option J) (View J)
 
 module _ {J : Type 0} where
   -- the step is taken, and the word i becomes n
-  abbrev Goes : ℕ → St J → ℕ → ℕ → Sat J → (Sat J → Type 0) → ℕ → Type 0
+  abbrev pub Goes : ℕ → St J → ℕ → ℕ → Sat J → (Sat J → Type 0) → ℕ → Type 0
   Goes c s i id me then n =
       (w : View J) × (a : Act (Option J)) × Valid s.homes me.1 a
       × KeepsAccount c (stepped s i n id me.1 w a) × then (w, carried_after me.1 a)
 
-  abbrev changed : St J → ℕ → ℕ → Phase J → View J → St J
+  abbrev pub changed : St J → ℕ → ℕ → Phase J → View J → St J
   changed s i id p w = record {
     words = set s.words i (word_of p);
     homes = set s.homes i (home_of p);
     views = set s.views id w;
   }
 
-  abbrev Spent : List (View J) → Type 0
+  abbrev pub Spent : List (View J) → Type 0
   Spent vs = (j : ℕ) (v : View J) → get_elem? vs j ≡ some v → v.parts ≡ 0 → v ≡ nothing
 
   -- the words behind those of so many elements have the lengths
-  abbrev Lengths : St J → ℕ → Type 0
+  abbrev pub Lengths : St J → ℕ → Type 0
   Lengths s n =
       (r : ℕ) → r ≤ n / 1024 → get_or s.words (length_word n r) 0
       ≡ total_at (job_in_row r) 0 s.homes + total (λ v. owed_to r v.owes) s.views
 
   -- a view that has a part
-  spent_set : (vs : List (View J)) (id : ℕ) (w : View J) → 0 < w.parts → Spent vs
+  pub spent_set : (vs : List (View J)) (id : ℕ) (w : View J) → 0 < w.parts → Spent vs
       → Spent (set vs id w)
   spent_set vs id w live spent j u at partless =
       ⊎_elim
@@ -65,7 +61,7 @@ module _ {J : Type 0} where
       (λ t. spent j u t.1 partless) (at_set vs id j w u at)
 
   -- one element and one view change
-  turns : {c : ℕ} (s : St J) → KeepsAccount c s → (i id : ℕ) (v w : View J) (p q : Phase J)
+  pub turns : {c : ℕ} (s : St J) → KeepsAccount c s → (i id : ℕ) (v w : View J) (p q : Phase J)
       → i < length s.homes → get_elem? s.views id ≡ some v → w.parts ≡ v.parts → 0 < v.parts
       → Shows s i p → names i w.busy + namers_of p ≡ names i v.busy + namers_of q
       → ((j : ℕ) → j ≢ i → names j w.busy ≡ names j v.busy)
@@ -142,7 +138,7 @@ module _ {J : Type 0} where
           omega arith
 
   -- one length changes, and what one view owes
-  abbrev recounted : St J → ℕ → ℕ → ℕ → View J → St J
+  abbrev pub recounted : St J → ℕ → ℕ → ℕ → View J → St J
   recounted s r m id w = record {
     words = set s.words (length_word (length s.homes) r) m;
     homes = s.homes;
@@ -150,12 +146,12 @@ module _ {J : Type 0} where
   }
 
   -- the length of a row is what it is to be
-  abbrev Counts : St J → ℕ → Type 0
+  abbrev pub Counts : St J → ℕ → Type 0
   Counts s r =
       get_or s.words (length_word (length s.homes) r) 0
       ≡ total_at (job_in_row r) 0 s.homes + total (λ v. owed_to r v.owes) s.views
 
-  counted : {c : ℕ} (s : St J) → KeepsAccount c s → (r m id : ℕ) (v w : View J)
+  pub counted : {c : ℕ} (s : St J) → KeepsAccount c s → (r m id : ℕ) (v w : View J)
       → r ≤ length s.homes / 1024 → get_elem? s.views id ≡ some v → w.parts ≡ v.parts
       → 0 < v.parts → w.busy ≡ v.busy → w.puts ≡ v.puts → w.takes ≡ v.takes
       → m + owed_to r v.owes
@@ -211,7 +207,7 @@ module _ {J : Type 0} where
           (length_word (length s.homes) j) m 0 (λ e. ne (omega arith)) ∙ (omega arith)
 
   -- the views change, and what they name, owe and add up to stays
-  reseated : {c : ℕ} (s : St J) → KeepsAccount c s → (vs : List (View J))
+  pub reseated : {c : ℕ} (s : St J) → KeepsAccount c s → (vs : List (View J))
       → total (λ u. u.parts) vs ≡ total (λ u. u.parts) s.views → Spent vs
       → ((i : ℕ) → total (λ u. names i u.busy) vs ≡ total (λ u. names i u.busy) s.views)
       → ((r : ℕ) → total (λ u. owed_to r u.owes) vs ≡ total (λ u. owed_to r u.owes) s.views)
@@ -399,178 +395,4 @@ module _ {J : Type 0} where
         returned s r i id me.0 w empty near' at refl live works refl refl (λ k. omega arith)
             (λ h. omega arith),
         (refl, refl, refl),
-      )
-
-  -- a fresh view gives one of its parts away
-  pub deal_keeps : {c : ℕ} (id : ℕ) (v : View J) → 0 < v.parts → v ≡ fresh v.parts
-      → Splits (KeepsAccount c) id v (after_deal v) (fresh 1)
-  deal_keeps {c} id v more new s r at =
-      let l = after_deal v in
-      let vs = set s.views id l in
-      let both : (f : View J → ℕ)
-      → total f (vs ++ fresh 1 ∷ []) + f v ≡ total f s.views + (f l + f (fresh 1)) =
-      λ f.
-      let a = total_set f s.views id v l at in
-      let b = total_last f vs (fresh 1) in
-      omega arith in
-      reseated s r (vs ++ fresh 1 ∷ [])
-      (let a = both (λ u. u.parts) in omega arith)
-      (λ j u e partless. ⊎_elim
-      (λ t. ⊎_elim
-      (λ x. sym x.1 ∙ dealt v new (ap (λ y. y.parts) x.1 ∙ partless))
-      (λ x. r.spent j u x.1 partless) (at_set s.views id j l u t))
-      (λ t. let is : 1 ≡ u.parts = ap (λ x. x.parts) t in absurd (omega arith))
-      (at_snoc vs (fresh 1) u j e))
-      (λ i. let a = both (λ u. names i u.busy) in omega arith)
-      (λ k. let a = both (λ u. owed_to k u.owes) in omega arith)
-      (λ h. let a = both (λ u. total h u.puts) in omega arith)
-      (λ h. let a = both (λ u. total h u.takes) in omega arith)
-    where
-      dealt : (v : View J) → v ≡ fresh v.parts → v.parts - 1 ≡ 0 → after_deal v ≡ nothing
-      dealt v new e = ap after_deal new ∙ ap fresh e
-
-  -- a view takes in another's account
-  pub take_in_keeps : {c : ℕ} (id other : ℕ) (v w : View J) → 0 < w.parts → v.busy ≡ None
-      → w.busy ≡ None → v.owes ≡ None → w.owes ≡ None
-      → Joins (KeepsAccount c) id v other w (together v w) nothing
-  take_in_keeps {c} id other v w live rests rests' owes_none owes_none' s r at apart at' =
-      let b = together v w in
-      let vs = set s.views id b in
-      let both : (f : View J → ℕ)
-      → total f (set vs other nothing) + (f v + f w) ≡ total f s.views + (f b + f nothing) =
-      λ f.
-      let x = total_set f s.views id v b at in
-      let y = total_set f vs other w nothing at' in
-      omega arith in
-      reseated s r (set vs other nothing)
-      (let a = both (λ u. u.parts) in omega arith)
-      (λ j u e partless. ⊎_elim (λ t. sym t.1)
-      (λ t. spent_set s.views id b (omega arith) r.spent j u t.1 partless)
-      (at_set vs other j nothing u e))
-      (λ i.
-      let a = both (λ u. names i u.busy) in
-      let x : names i v.busy ≡ 0 = ap (names i) rests in
-      let y : names i w.busy ≡ 0 = ap (names i) rests' in
-      omega arith)
-      (λ k.
-      let a = both (λ u. owed_to k u.owes) in
-      let x : owed_to k v.owes ≡ 0 = ap (owed_to k) owes_none in
-      let y : owed_to k w.owes ≡ 0 = ap (owed_to k) owes_none' in
-      omega arith)
-      (λ h.
-      let a = both (λ u. total h u.puts) in
-      let x = total_append h v.puts w.puts in
-      omega arith)
-      (λ h.
-      let a = both (λ u. total h u.takes) in
-      let x = total_append h v.takes w.takes in
-      omega arith)
-
-  -- a seat comes that has no account
-  pub enter_keeps : {c : ℕ} (s : St J) → KeepsAccount c s
-      → KeepsAccount c record { words = s.words; homes = s.homes; views = s.views ++ nothing ∷ [] }
-  enter_keeps s r =
-      let vs = s.views ++ nothing ∷ [] in
-      let same : (f : View J → ℕ) → f nothing ≡ 0 → total f vs ≡ total f s.views =
-      λ f e. let a = total_last f s.views nothing in omega arith in
-      reseated s r vs (same (λ u. u.parts) refl)
-      (λ j u e partless. ⊎_elim (λ t. r.spent j u t partless) (λ t. sym t)
-      (at_snoc s.views nothing u j e))
-      (λ i. same (λ u. names i u.busy) refl) (λ k. same (λ u. owed_to k u.owes) refl)
-      (λ h. same (λ u. total h u.puts) refl)
-      (λ h. same (λ u. total h u.takes) refl)
-
-  -- views owe a row no more than there are seats
-  pub owed_few : {c : ℕ} (s : St J) → KeepsAccount c s → (r : ℕ)
-      → total (λ u. owed_to r u.owes) s.views ≤ c
-  owed_few {c} s a r =
-      let b =
-      total_below (λ u. owed_to r u.owes) (λ u. u.parts) s.views
-      (λ j u e. owes_small u (a.spent j u e) (ℕ_discrete u.parts 0)) in
-      let e = a.whole in
-      omega arith
-    where
-      owed_small : (o : Option ℕ) → owed_to r o ≤ 1
-      owed_small None = omega arith
-      owed_small (Some k) = in_row_small r k
-
-      owes_small : (u : View J) → (u.parts ≡ 0 → u ≡ nothing) → Dec (u.parts ≡ 0)
-          → owed_to r u.owes ≤ u.parts
-      owes_small u spent (yes e) =
-          let is : owed_to r u.owes ≡ 0 = ap (λ x. owed_to r x.owes) (spent e) in
-          omega arith
-      owes_small u spent (no ne) =
-          let is = owed_small u.owes in
-          omega arith
-
-  -- no length wraps
-  length_small : {c : ℕ} (s : St J) → KeepsAccount c s → (r : ℕ) → r ≤ length s.homes / 1024
-      → get_or s.words (length_word (length s.homes) r) 0 ≤ 2 ^ 33
-  length_small {c} s a r low =
-      let b = total_at_below (job_in_row r) 0 s.homes (λ n y. one_job n y) in
-      let e = owed_few s a r in
-      let d = a.few in
-      let f = a.lengths r low in
-      omega arith
-    where
-      one_job : (n : ℕ) (y : maybe.Option (Option J)) → job_in_row r n y ≤ 1
-      one_job n none = omega arith
-      one_job n (some None) = omega arith
-      one_job n (some (Some x)) = in_row_small r n
-
-  pub raise_keeps : {c : ℕ} (n id : ℕ) (me : Sat J) (k i : ℕ) → i < n
-      → k ≡ length_word n (i / 1024) → 0 < me.0.parts → me.0.busy ≡ Some i → me.0.owes ≡ None
-      → Allows (KeepsAccount c) n id me k (λ y. (y + 1) % 2 ^ 64) (raises (step n k 1 0 none) me)
-  raise_keeps {c} n id me k i near is live works owes_none s a wide at _ =
-      let m : ℕ = length s.homes in
-      let r : ℕ = i / 1024 in
-      let w : View J =
-      view_of me.0.parts me.0.puts me.0.takes me.0.busy me.0.busy me.0.notes in
-      let wide' : m ≡ n = wide in
-      let low : r ≤ m / 1024 = omega arith in
-      let small = length_small s a r low in
-      let none_yet : owed_to r me.0.owes ≡ 0 = ap (owed_to r) owes_none in
-      let one : owed_to r me.0.busy ≡ 1 = ap (owed_to r) works ∙ in_row_same i in
-      let same : k ≡ length_word m r = omega arith in
-      let y : ℕ = get_or s.words (length_word m r) 0 in
-      let more : (y + 1) % 2 ^ 64 + owed_to r me.0.owes ≡ y + owed_to r w.owes = omega arith in
-      subst
-      (λ (z : ℕ). Goes c s z id me
-      (λ me'. raises (step n z 1 0 none) me (get_or s.words z 0) me')
-      ((get_or s.words z 0 + 1) % 2 ^ 64)) (sym same) (
-        w,
-        keeps,
-        tt,
-        counted s a r ((y + 1) % 2 ^ 64) id me.0 w low at refl live refl refl refl more
-            (λ j ne. ap (owed_to j) works ∙ in_row_other j i ne ∙ sym (ap (owed_to j) owes_none)),
-        (refl, refl),
-      )
-
-  pub lower_keeps : {c : ℕ} (n id : ℕ) (me : Sat J) (k i : ℕ) → i < n
-      → k ≡ length_word n (i / 1024) → 0 < me.0.parts → me.0.owes ≡ Some i
-      → Allows (KeepsAccount c) n id me k (λ y. (y + (2 ^ 64 - 1)) % 2 ^ 64)
-      (lowers (step n k 1 0 none) me)
-  lower_keeps {c} n id me k i near is live owed s a wide at _ =
-      let m : ℕ = length s.homes in
-      let r : ℕ = i / 1024 in
-      let w : View J = view_of me.0.parts me.0.puts me.0.takes me.0.busy None me.0.notes in
-      let wide' : m ≡ n = wide in
-      let low : r ≤ m / 1024 = omega arith in
-      let small = length_small s a r low in
-      let one : owed_to r me.0.owes ≡ 1 = ap (owed_to r) owed ∙ in_row_same i in
-      let some_left = at_most_total (λ u. owed_to r u.owes) s.views id me.0 at in
-      let here = a.lengths r low in
-      let same : k ≡ length_word m r = omega arith in
-      let y : ℕ = get_or s.words (length_word m r) 0 in
-      let less : (y + (2 ^ 64 - 1)) % 2 ^ 64 + owed_to r me.0.owes ≡ y + 0 = omega arith in
-      subst
-      (λ (z : ℕ). Goes c s z id me
-      (λ me'. lowers (step n z 1 0 none) me (get_or s.words z 0) me')
-      ((get_or s.words z 0 + (2 ^ 64 - 1)) % 2 ^ 64)) (sym same) (
-        w,
-        keeps,
-        tt,
-        counted s a r ((y + (2 ^ 64 - 1)) % 2 ^ 64) id me.0 w low at refl live refl refl refl less
-            (λ j ne. sym (ap (owed_to j) owed ∙ in_row_other j i ne)),
-        (refl, refl),
       )

@@ -10,13 +10,14 @@ use Rattle.atomic_table.specs.Table.{Allows, step, keeps}
 use Rattle.run_queue.specs.declared.slot_rows.view.Notes.{Notes}
 use Rattle.run_queue.specs.Elements.{Phase, empty, busy, ready, word_of, home_of}
 use Rattle.run_queue.specs.Lengths.{length_word, row_of_length, in_row, total_at, ready_in_row}
-use Rattle.run_queue.specs.Lengths.{ready_in, job_in_row}
+use Rattle.run_queue.specs.Lengths.{job_in_row}
 use Rattle.run_queue.specs.Plays.{Sat, looks}
 use Rattle.run_queue.specs.Views.{looked_at, noted}
 use Rattle.run_queue.specs.RowTable.{KeepsAccount}
 use Rattle.run_queue.specs.Laws.{LengthsCoverReady, LengthsAreBounded}
 use Rattle.run_queue.proofs.InRows.{in_row_other, in_row_small, total_at_none}
-use Rattle.run_queue.proofs.Keeps.{owed_few, stays}
+use Rattle.run_queue.proofs.Keeps.{stays}
+use Rattle.run_queue.proofs.LengthKeeps.{owed_few}
 
 none_there : (r k x : ℕ) → in_row r k ≡ 0 → Dec (x ≡ 2) → ready_in_row r k x ≡ 0
 none_there r k x e (yes two) = ap (ready_in_row r k) two ∙ e

@@ -7,3 +7,5 @@ pub mod Moments
 pub mod Numbers
 pub mod Starts
 pub mod Totals
+pub mod LengthKeeps
+pub mod SeatKeeps

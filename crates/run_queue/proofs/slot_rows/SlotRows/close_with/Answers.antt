@@ -5,7 +5,7 @@ use Rattle.run_queue.specs.Bag.{total}
 use Rattle.run_queue.specs.Views.{nothing}
 use Rattle.run_queue.specs.SlotSeats.{takes_of}
 use Rattle.run_queue.proofs.Totals.{total_append}
-use Rattle.run_queue.proofs.Keeps.{enter_keeps}
+use Rattle.run_queue.proofs.SeatKeeps.{enter_keeps}
 use Rattle.run_queue.proofs.Closing.{settles}
 use Rattle.run_queue.proofs.slot_rows.SlotRows.close_with.Goals as goal
 

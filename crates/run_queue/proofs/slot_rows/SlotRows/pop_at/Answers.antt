@@ -1,7 +1,8 @@
 -- The element is claimed with its job, and made empty, and the length is lowered.
 use Rattle.std.proofs.Common.{rules, arith, subst, ◌<◌, ap, sym, ◌∙◌, ◌∷◌, Some}
 use Rattle.atomic_table.specs.Table.{rest}
-use Rattle.run_queue.proofs.Keeps.{claim_out_keeps, make_empty_keeps, lower_keeps}
+use Rattle.run_queue.proofs.Keeps.{claim_out_keeps, make_empty_keeps}
+use Rattle.run_queue.proofs.LengthKeeps.{lower_keeps}
 use Rattle.run_queue.proofs.slot_rows.SlotRows.pop_at.Goals as goal
 
 pub compare_exchange-requires : goal.compare_exchange-requires

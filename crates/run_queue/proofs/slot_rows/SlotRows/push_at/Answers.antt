@@ -1,6 +1,7 @@
 -- The element is claimed, the length is raised, and the element made ready with the job.
 use Rattle.std.proofs.Common.{rules, arith, subst, ◌<◌, ap, sym, ◌∙◌}
-use Rattle.run_queue.proofs.Keeps.{claim_in_keeps, raise_keeps, make_ready_keeps}
+use Rattle.run_queue.proofs.Keeps.{claim_in_keeps, make_ready_keeps}
+use Rattle.run_queue.proofs.LengthKeeps.{raise_keeps}
 use Rattle.run_queue.proofs.slot_rows.SlotRows.push_at.Goals as goal
 
 pub compare_exchange-requires : goal.compare_exchange-requires

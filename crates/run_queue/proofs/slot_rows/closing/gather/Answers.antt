@@ -7,7 +7,7 @@ use Rattle.run_queue.specs.Bag.{total}
 use Rattle.run_queue.specs.SlotSeats.{table_of, puts_of, takes_of}
 use Rattle.run_queue.proofs.Totals.{total_append}
 use Rattle.run_queue.proofs.Lists.{all_before, all_last, total_flat, snoc_long}
-use Rattle.run_queue.proofs.Keeps.{take_in_keeps}
+use Rattle.run_queue.proofs.SeatKeeps.{take_in_keeps}
 use Rattle.run_queue.proofs.slot_rows.closing.gather.Goals as goal
 
 pub join_seat-requires : goal.join_seat-requires

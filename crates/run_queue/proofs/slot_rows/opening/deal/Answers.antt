@@ -6,7 +6,7 @@ use Rattle.run_queue.specs.Views.{fresh, after_deal}
 use Rattle.run_queue.specs.SlotSeats.{table_of, number_in, puts_of, takes_of, front_of}
 use Rattle.run_queue.proofs.Numbers.{range_with_len_more}
 use Rattle.run_queue.proofs.Lists.{all_more, map_long}
-use Rattle.run_queue.proofs.Keeps.{deal_keeps}
+use Rattle.run_queue.proofs.SeatKeeps.{deal_keeps}
 use Rattle.run_queue.proofs.slot_rows.opening.deal.Goals as goal
 
 pub split_seat-seat-requires : goal.split_seat-seat-requires
