@@ -8,6 +8,8 @@ pub mod Frames
 pub mod Owing
 pub mod Rooms
 pub mod Stored
+pub mod Passing
+pub mod Taken
 pub mod Opening
 pub mod Playing
 pub mod Following

@@ -1,34 +1,33 @@
 -- The lists that the program keeps, before and after each event.
-use Rattle.std.proofs.Common.{◌≡◌, ◌≢◌, ℕ, suc, ◌+◌, ◌-◌, ◌≤◌, ◌<◌, ◌==◌, min, if◌then◌else◌}
+use Rattle.std.proofs.Common.{◌≡◌, ℕ, suc, ◌+◌, ◌-◌, ◌≤◌, ◌<◌, ◌==◌, min, if◌then◌else◌}
 use Rattle.std.proofs.Common.{nat_lt, Bool, true, false, Option, Some, None, List, [], ◌∷◌, ◌++◌}
 use Rattle.std.proofs.Common.{length, map, not, position, get_or, set, replicate, vec_len}
 use Rattle.std.proofs.Common.{vec_capacity, sym, ap, refl, ◌∙◌, subst, ⊎_elim, arith, length-append}
-use Rattle.std.proofs.Common.{length-set, Vec}
+use Rattle.std.proofs.Common.{length-set}
 use Rattle.std.proofs.lemmas.Bool.{cases_eq, cases_lt, cond-true, cond-false, lt-ltb, le-ltb}
 use Rattle.std.proofs.lemmas.Bool.{eq-eqb, ne_eqb, eqb-true}
-use Rattle.std.proofs.lemmas.List.{get_or_past, get_or_read, get_or_default, get_or-map, map-set}
-use Rattle.std.proofs.lemmas.List.{append-nil, length-map}
+use Rattle.std.proofs.lemmas.List.{get_or_past}
+use Rattle.std.proofs.lemmas.List.{append-nil}
 use Rattle.std.proofs.lemmas.List.Quantifiers.{position-Some}
-use Rattle.std.specs.List.{remove, AllPass}
+use Rattle.std.specs.List.{remove}
 use Rattle.std.specs.Option.{is_some}
 use Rattle.event_word.specs.declared.phase.Phase.{Phase}
 use Rattle.event_word.specs.declared.phase.Phase.TheVariants.{Running, Pre, Stacked, Ended}
 use Rattle.event_word.specs.declared.event.Event.{Event}
-use Rattle.event_word.specs.declared.event.Event.TheVariants.{Prewait, Pass, Cancel, Commit}
+use Rattle.event_word.specs.declared.event.Event.TheVariants.{Prewait, Cancel, Commit}
 use Rattle.event_word.specs.declared.event.Event.TheVariants.{Notify, NotifyAll, Unpark, End}
 use Rattle.event_word.specs.declared.world.debts.Debt.{Debt}
 use Rattle.event_word.specs.declared.world.World.TheInside.{Inside}
 use Rattle.event_word.specs.Lists.{without}
-use Rattle.event_word.specs.World.{World, phase_of, rows_passed_by, owed_by, length_of}
-use Rattle.event_word.specs.Step.{IsFree, IsQuiet, HasPassedAll, Possible, effect, leave, announced}
+use Rattle.event_word.specs.World.{World, phase_of, owed_by}
+use Rattle.event_word.specs.Step.{IsFree, Possible, effect, leave, announced}
 use Rattle.event_word.specs.Step.{pop}
 use Rattle.event_word.specs.Step.{unpark}
 use Rattle.event_word.specs.Lawful.{Lawful, HasSizes}
 use Rattle.event_word.specs.Debts.{debt, seats_owed, owed_lists, AreKnown}
 use Rattle.event_word.specs.Stored.{world_view, IsStored}
-use Rattle.event_word.specs.Play.{IsStep}
 use Rattle.event_word.proofs.Lists.{times-append, times-le-length}
-use Rattle.event_word.proofs.Keeps.{lawful_effect, pre_known, is_waiting, owed_is_stacked}
+use Rattle.event_word.proofs.Keeps.{lawful_effect, is_waiting, owed_is_stacked}
 use Rattle.event_word.proofs.Sizes.{sizes_effect}
 use Rattle.event_word.proofs.Owing.{position-None, seats_owed-append, seats_owed-map_debt}
 use Rattle.event_word.proofs.Owing.{seats_owed-map_debt_other, seats_owed-first}
@@ -407,110 +406,3 @@ module _ {A : Type 0} (i : Inside A) (s : IsStored i) where
       (AreKnown-append (length i.phases.items + i.notifiers) i.owed.items
       (map (debt a) seats) s.known
       (AreKnown-map_debt (length i.phases.items + i.notifiers) a seats lt))
-
-  -- the rows that a seat has passed are those of its list
-  pub rows_read : (n place : ℕ) (list : Vec Bool A) → n < length i.phases.items → place ≡ n
-      → list ≡ get_or i.passed.items place list → rows_passed_by (world_view i) n ≡ list.items
-  rows_read n place list h at read = let l = s.sizes.passed in
-      let m = length-map i.passed.items (λ (row : Vec Bool A). row.items) in
-      get_or-map (λ (row : Vec Bool A). row.items) i.passed.items n list [] (omega arith)
-      ∙ ap (λ (row : Vec Bool A). row.items)
-      (ap (λ k. get_or i.passed.items k list) (sym at) ∙ sym read)
-
-  -- a new list of a seat
-  pub rows_set : (n place : ℕ) (list : Vec Bool A) (rows : List Bool) → place ≡ n
-      → list.items ≡ rows → map (λ row. row.items) (set i.passed.items place list) ≡ set
-      (world_view i).passed n rows
-  rows_set n place list rows at is =
-      map-set (λ (row : Vec Bool A). row.items) i.passed.items place list
-      ∙ (ap (λ k. set (world_view i).passed k list.items) at
-      ∙ ap (λ ys. set (world_view i).passed n ys) is)
-
-  -- a pass of a row
-  pub pass_view : (n r place at : ℕ) (list new : Vec Bool A) → n < length i.phases.items
-      → place ≡ n → at ≡ r → list ≡ get_or i.passed.items place list
-      → new.items ≡ set list.items at true
-      → view_of i.phases.items i.flags.items
-      (map (λ row. row.items) (set i.passed.items place new)) i.tokens.items i.pre.items i.signals
-      i.stack.items i.owed.items i.announcing.items i.lengths.items i.notifiers i.stop ≡ effect
-      (world_view i) (Pass n r)
-  pass_view n r place at list new h seat row read is =
-      ap (λ (yss : List (List Bool)). record (world_view i) { passed = yss })
-      (rows_set n place new (set (rows_passed_by (world_view i) n) r true) seat
-      (is ∙ (ap (λ k. set list.items k true) row
-      ∙ ap (λ (ys : List Bool). set ys r true) (sym (rows_read n place list h seat read)))))
-
-  -- how many jobs a row has, as it was read
-  pub jobs_read : (r at jobs : ℕ) → r < length i.lengths.items → at ≡ r
-      → jobs ≡ get_or i.lengths.items at jobs → length_of (world_view i) r ≡ jobs
-  jobs_read r at jobs h is read = get_or_default i.lengths.items r 0 jobs h
-      ∙ (ap (λ k. get_or i.lengths.items k jobs) (sym is) ∙ sym read)
-
-  -- a seat's list has an entry for each row
-  pub rows_long : (n place : ℕ) (list : Vec Bool A) → n < length i.phases.items → place ≡ n
-      → list ≡ get_or i.passed.items place list → length list.items ≡ length i.lengths.items
-  rows_long n place list h at read =
-      ap length (sym (rows_read n place list h at read)) ∙ s.sizes.passed_rows n h
-
-  -- a list of true entries only says that each row was passed, and the other way round
-  pub passed_all : (n place : ℕ) (list : Vec Bool A) → n < length i.phases.items → place ≡ n
-      → list ≡ get_or i.passed.items place list → get_or i.flags.items n false ≡ true
-      → AllPass (λ (b : Bool). b) list.items → HasPassedAll (world_view i) n
-  passed_all n place list h at read flag all = record {
-    flag = flag;
-    rows = λ row lt. ap (λ (ys : List Bool). get_or ys row false) (rows_read n place list h at read)
-        ∙ all row false (let l = rows_long n place list h at read in omega arith);
-  }
-
-  pub all_passed : (n place : ℕ) (list : Vec Bool A) → n < length i.phases.items → place ≡ n
-      → list ≡ get_or i.passed.items place list → HasPassedAll (world_view i) n
-      → AllPass (λ (b : Bool). b) list.items
-  all_passed n place list h at read p k d lt = get_or_default list.items k d false lt
-      ∙ (ap (λ (ys : List Bool). get_or ys k false) (sym (rows_read n place list h at read))
-      ∙ p.rows k (let l = rows_long n place list h at read in omega arith))
-
-  -- a pre-waiter whose flag and rows were read may commit
-  pub may_commit : (n place : ℕ) (flag : Bool) (list : Vec Bool A)
-      → phase_of (world_view i) n ≡ Pre → place ≡ n → flag ≡ get_or i.flags.items place flag
-      → flag ≡ true → list ≡ get_or i.passed.items place list
-      → AllPass (λ (b : Bool). b) list.items → Possible (world_view i) (Commit n)
-  may_commit n place flag list pre at read set_ rows all =
-      let z = s.sizes in let a = z.flags in let known = pre_known (world_view i) n pre in (
-        pre,
-        passed_all n place list known at rows (ap (λ k. get_or i.flags.items k false) (sym at)
-            ∙ (sym (get_or_read i.flags.items place flag (omega arith) read false) ∙ set_)) all,
-      )
-
--- the stop number after a notification of all
-pub stops_now : (stop : ℕ) → stop ≡ 1 → 2 ≡ (if stop == 1 then 2 else stop)
-stops_now stop e = sym (cond-true (stop == 1) 2 stop (eq-eqb stop 1 e))
-
-pub stops_not : (stop : ℕ) → stop ≢ 1 → stop ≡ (if stop == 1 then 2 else stop)
-stops_not stop ne = sym (cond-false (stop == 1) 2 stop (ne_eqb stop 1 ne))
-
--- the same actor is free in the same World
-pub free_same : (w v : World) (a b : ℕ) → v ≡ w → a ≡ b → IsFree w a → IsFree v b
-free_same w v a b e f free = subst (λ x. IsFree x b) (sym e) (subst (IsFree w) f free)
-
-pub quiet_same : (w v : World) (a b : ℕ) → v ≡ w → a ≡ b → IsQuiet w a → IsQuiet v b
-quiet_same w v a b e f quiet = subst (λ x. IsQuiet x b) (sym e) (subst (IsQuiet w) f quiet)
-
--- the phase that a test found
-pub phase_found : (phases found : List Phase) (n place : ℕ) (p : Phase) → found ≡ phases → place ≡ n
-    → get_or found place Ended ≡ p → get_or phases n Ended ≡ p
-phase_found phases found n place p e f at = ap (λ xs. get_or xs n Ended) (sym e)
-    ∙ (ap (λ k. get_or found k Ended) (sym f) ∙ at)
-
-module _ {A : Type 0} where
-  -- an event taken is a step, and one refused is a step to the same World
-  pub stepped : (i : Inside A) (now u : World) (e : Event) → world_view i ≡ now
-      → Possible (world_view i) e → u ≡ effect (world_view i) e → IsStep now e true u
-  stepped i now u e is p eq = (
-    subst (λ w. Possible w e) is p,
-    eq
-        ∙ ap (λ w. effect w e) is,
-  )
-
-  pub refused : (i : Inside A) (now : World) (e : Event) → world_view i ≡ now
-      → (Possible (world_view i) e → ⊥) → IsStep now e false now
-  refused i now e is never = (λ q. never (subst (λ w. Possible w e) (sym is) q), refl)

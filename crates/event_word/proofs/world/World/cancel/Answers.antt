@@ -1,6 +1,7 @@
 use Rattle.std.proofs.Common.{◌-◌, min, refl, ap, ◌∙◌, arith, length-set}
 use Rattle.event_word.specs.declared.phase.Phase.TheVariants.{Pre}
-use Rattle.event_word.proofs.Stored.{stored_step, phase_found, cancel_view}
+use Rattle.event_word.proofs.Stored.{stored_step, cancel_view}
+use Rattle.event_word.proofs.Taken.{phase_found}
 use Rattle.event_word.specs.declared.event.Event.TheVariants.{Cancel}
 use Rattle.event_word.proofs.world.World.cancel.Goals as goal
 

@@ -3,10 +3,14 @@ use Rattle.std.proofs.lemmas.Bool.{cond-true, true≢false}
 use Rattle.std.specs.List.{AllPass}
 use Rattle.std.specs.Result.{is_ok}
 use Rattle.event_word.specs.declared.phase.Phase.TheVariants.{Pre}
-use Rattle.event_word.proofs.Stored.{stored_step, phase_found, may_commit, room_to_push}
+use Rattle.event_word.proofs.Stored.{stored_step, room_to_push}
+use Rattle.event_word.proofs.Passing.{may_commit}
+use Rattle.event_word.proofs.Taken.{phase_found}
 use Rattle.event_word.specs.Stored.{world_view}
 use Rattle.event_word.proofs.Keeps.{pre_known}
-use Rattle.event_word.proofs.Stored.{consume_view, push_view, all_passed, refused}
+use Rattle.event_word.proofs.Stored.{consume_view, push_view}
+use Rattle.event_word.proofs.Passing.{all_passed}
+use Rattle.event_word.proofs.Taken.{refused}
 use Rattle.event_word.specs.declared.event.Event.TheVariants.{Commit}
 use Rattle.event_word.proofs.world.World.commit.Goals as goal
 

@@ -2,8 +2,10 @@ use Rattle.std.proofs.Common.{◌<◌, ◌≤◌, ◌∷◌, [], length, refl, s
 use Rattle.std.proofs.lemmas.Bool.{eqb-true, eqb-false}
 use Rattle.std.proofs.lemmas.List.{nil_from_length}
 use Rattle.event_word.proofs.Lists.{front-remove}
-use Rattle.event_word.proofs.Stored.{stored_step, free_same, free_known, room_to_owe}
-use Rattle.event_word.proofs.Stored.{signal_view, pop_view, nothing_view, known_more, stepped}
+use Rattle.event_word.proofs.Stored.{stored_step, free_known, room_to_owe}
+use Rattle.event_word.proofs.Taken.{free_same}
+use Rattle.event_word.proofs.Stored.{signal_view, pop_view, nothing_view, known_more}
+use Rattle.event_word.proofs.Taken.{stepped}
 use Rattle.event_word.specs.declared.event.Event.TheVariants.{Notify}
 use Rattle.event_word.proofs.world.World.notify.Goals as goal
 

@@ -1,7 +1,9 @@
 use Rattle.std.proofs.Common.{◌++◌, length, map, refl, ap, ◌∙◌, arith}
 use Rattle.event_word.specs.Debts.{debt}
-use Rattle.event_word.proofs.Stored.{stored_step, free_same, free_known, room_to_owe_all}
-use Rattle.event_word.proofs.Stored.{notify_all_view, known_more, stops_now, stops_not, stepped}
+use Rattle.event_word.proofs.Stored.{stored_step, free_known, room_to_owe_all}
+use Rattle.event_word.proofs.Taken.{free_same}
+use Rattle.event_word.proofs.Stored.{notify_all_view, known_more}
+use Rattle.event_word.proofs.Taken.{stops_now, stops_not, stepped}
 use Rattle.event_word.specs.declared.event.Event.TheVariants.{NotifyAll}
 use Rattle.event_word.proofs.world.World.notify_all.Goals as goal
 

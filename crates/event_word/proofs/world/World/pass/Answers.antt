@@ -4,8 +4,10 @@ use Rattle.event_word.specs.declared.event.Event.TheVariants.{Pass}
 use Rattle.event_word.specs.Step.{Possible}
 use Rattle.event_word.specs.Stored.{world_view}
 use Rattle.event_word.proofs.Keeps.{pre_known}
-use Rattle.event_word.proofs.Stored.{stored_step, phase_found, rows_long, pass_view, jobs_read}
-use Rattle.event_word.proofs.Stored.{stepped}
+use Rattle.event_word.proofs.Stored.{stored_step}
+use Rattle.event_word.proofs.Passing.{rows_long, pass_view, jobs_read}
+use Rattle.event_word.proofs.Taken.{phase_found}
+use Rattle.event_word.proofs.Taken.{stepped}
 use Rattle.event_word.proofs.world.World.pass.Goals as goal
 
 pub index_mut-requires-2 : goal.index_mut-requires-2

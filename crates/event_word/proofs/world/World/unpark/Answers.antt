@@ -1,7 +1,8 @@
 use Rattle.std.proofs.Common.{◌<◌, ◌==◌, length, position, refl, sym, ap, ◌∙◌, arith}
 use Rattle.event_word.specs.World.{owed_by}
 use Rattle.event_word.specs.Stored.{world_view}
-use Rattle.event_word.proofs.Stored.{stored_step, unpark_view, owes_nothing_from, stepped, refused}
+use Rattle.event_word.proofs.Stored.{stored_step, unpark_view, owes_nothing_from}
+use Rattle.event_word.proofs.Taken.{stepped, refused}
 use Rattle.event_word.specs.declared.event.Event.TheVariants.{Unpark}
 use Rattle.event_word.proofs.world.World.unpark.Goals as goal
 
