@@ -3,8 +3,7 @@ use Rattle.event_word.specs.Step.{Possible}
 use Rattle.event_word.specs.Stored.{world_view}
 use Rattle.event_word.specs.declared.event.Event.TheVariants.{Prewait}
 use Rattle.event_word.proofs.Stored.{stored_step, room_to_prewait, prewait_view}
-use Rattle.event_word.proofs.Passing.{rows_set}
-use Rattle.event_word.proofs.Passing.{rows_long}
+use Rattle.event_word.proofs.Passing.{rows_set, rows_long}
 use Rattle.event_word.proofs.Taken.{stepped, quiet_same}
 use Rattle.event_word.proofs.world.World.prewait.Goals as goal
 
