@@ -1,5 +1,6 @@
 //! Bodies of pools.
-ghost use Rattle.worker_pool.specs.Callers.{IsCaller, StaysCaller};
+ghost use Rattle.std.specs.Prelude.{◌≤◌};
+ghost use Rattle.worker_pool.specs.Callers.{IsCaller, StaysCaller, started_of};
 
 use event_count::WaitPoint;
 use run_queue::Rows;
@@ -7,7 +8,9 @@ use std::alloc::Global;
 use std::sync::Wait;
 use std::sync::atomic::{AtomicU64, Ordering};
 use std::thread::Threads;
-use worker_pool::{Caller, Closed, Gate, Job, Lists, PoolFault, Setup, with_pool};
+use worker_pool::{
+    Caller, Closed, Gate, Job, Lists, PoolFault, Setup, with_pool, with_pool_limited,
+};
 
 fn schedule_all<RT, J, W, R, L>(rt: &RT, caller: &mut Caller<'_, J, Global, W, R, L>, jobs: Vec<J>)
 where
@@ -88,4 +91,52 @@ where
             ensures { StaysCaller R.Rows W.WaitPoint J.Job L.Lists caller.old caller.new }
         { schedule_both(rt, caller, first, cancelled, flag) },
     )
+}
+
+/// The same of a pool that starts the workers with numbers below `starts`; and how many workers its
+/// body was told of.
+pub(crate) fn run_limited<W, R, L, RT, J, G>(
+    rt: &RT,
+    alloc: Global,
+    setup: &Setup,
+    ctx: &J::Ctx,
+    gate: &G,
+    starts: u32,
+    first: Vec<J>,
+    cancelled: Option<Vec<J>>,
+) -> Result<(Closed<J>, u32), PoolFault>
+where
+    RT: Threads + Wait + Sync,
+    J: Job<Global> + Drop + Send,
+    J::Ctx: Sync,
+    J::Out: Drop + Send,
+    J::Abandoned: Send,
+    W: WaitPoint<Global> + Sync,
+    W::Seat: Send,
+    R: Rows<J, Global> + Sync,
+    R::Seat: Send,
+    L: Lists<J::Out, Global>,
+    G: Gate + Sync,
+{
+    let flag = AtomicU64::new(0);
+    let mut told = u32::MAX;
+    let closed = with_pool_limited::<W, R, L, RT, J, Global, G, _>(
+        rt,
+        alloc,
+        setup,
+        ctx,
+        gate,
+        starts,
+        |caller: &mut Caller<'_, J, Global, W, R, L>|
+            requires caller { IsCaller R.Rows W.WaitPoint J.Job L.Lists caller.old }
+            requires few { started_of caller.old ≤ starts }
+            ensures { StaysCaller R.Rows W.WaitPoint J.Job L.Lists caller.old caller.new }
+        {
+            let workers = caller.workers();
+            prove!(workers <= starts);
+            told = workers;
+            schedule_both(rt, caller, first, cancelled, &flag)
+        },
+    )?;
+    Ok((closed, told))
 }

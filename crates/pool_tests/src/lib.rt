@@ -4,11 +4,15 @@
 #[cfg(test)]
 mod bodies;
 #[cfg(test)]
+mod collected;
+#[cfg(test)]
 mod faults;
 #[cfg(test)]
 mod gates;
 #[cfg(test)]
 mod kinds;
+#[cfg(test)]
+mod limited;
 #[cfg(test)]
 mod opened;
 #[cfg(test)]

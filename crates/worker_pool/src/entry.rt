@@ -1,10 +1,11 @@
 //! Opening a pool, working in it, and closing it.
-ghost use Rattle.std.specs.Prelude.{◌≡◌, ◌+◌, ◌<◌, ◌↔◌, [], ◌∷◌, ◌++◌, vec_len, IfOk, IsErrOf};
+ghost use Rattle.std.specs.Prelude.{◌≡◌, ◌+◌, ◌<◌, ◌≤◌, ◌↔◌, [], ◌∷◌, ◌++◌, vec_len, IfOk};
+ghost use Rattle.std.specs.Prelude.{IsErrOf};
 ghost use Rattle.std.specs.List.{flat_map};
 ghost use Rattle.std.specs.Fn.{FnOnceReturnsAtMut};
 ghost use Rattle.worker_pool.specs.Accounts.{Account};
 ghost use Rattle.worker_pool.specs.Callers.{IsCaller, StaysCaller, IsCancelled, roots_of};
-ghost use Rattle.worker_pool.specs.Callers.{workers_of, stop_of};
+ghost use Rattle.worker_pool.specs.Callers.{started_of, workers_of, stop_of};
 ghost use Rattle.worker_pool.specs.Setup.{IsPoolSize, IsNoPoolSize, AreNoPartitions};
 ghost use Rattle.worker_pool.specs.Steps.{IsStep};
 ghost use Rattle.worker_pool.specs.Stops.{open_word};
@@ -17,7 +18,7 @@ use crate::job::Job;
 use crate::lists::Lists;
 use crate::open::open;
 use crate::setup::{PoolFault, Setup};
-use crate::start::run_all;
+use crate::start::run_first;
 use crate::workplace::{LendsCaller, PoolWorkplace};
 use event_count::WaitPoint;
 use run_queue::Rows;
@@ -70,6 +71,56 @@ where
         × Account R.keeps_accounts (IsStep J.weight_of J.allows ctx.now) (roots_of after) []
         (flat_map (λ list. list.items) closed.outs.items) closed.left.items closed.refused) }
 {
+    with_pool_limited::<W, R, L, RT, J, A, G, F>(rt, alloc, setup, ctx, gate, setup.workers, body)
+}
+
+/// Does what `with_pool` does, and starts only the workers with numbers below `starts`, as if the
+/// other starts had been refused.
+pub fn with_pool_limited<W, R, L, RT, J, A, G, F>(
+    rt: &RT,
+    alloc: A,
+    setup: &Setup<A>,
+    ctx: &J::Ctx,
+    gate: &G,
+    starts: u32,
+    body: F,
+) -> Result<Closed<J, A>, PoolFault>
+where
+    RT: Threads + Wait + Sync,
+    J: Job<A> + Drop + Send,
+    J::Ctx: Sync,
+    J::Out: Drop + Send,
+    J::Abandoned: Send,
+    A: Allocator + Clone + Send + Sync,
+    W: WaitPoint<A> + Sync,
+    W::Seat: Send,
+    R: Rows<J, A> + Sync,
+    R::Seat: Send,
+    L: Lists<J::Out, A>,
+    G: Gate + Sync,
+    F: FnOnce(&mut Caller<'_, J, A, W, R, L>) + Drop,
+    requires body { (caller : _) → IsCaller R.Rows W.WaitPoint J.Job L.Lists caller.now
+        → started_of caller.now ≤ starts
+        → F.pre body caller }
+    requires stays { (before : _) → (after : _)
+        → FnOnceReturnsAtMut F.FnOnce body before tt after
+        → IsCaller R.Rows W.WaitPoint J.Job L.Lists before
+        → started_of before ≤ starts
+        → StaysCaller R.Rows W.WaitPoint J.Job L.Lists before after }
+    ensures bad_workers { IsErrOf result PoolFault.BadWorkers ↔ IsNoPoolSize setup.now.workers }
+    ensures bad_partition { IsErrOf result PoolFault.BadPartition
+        ↔ (IsPoolSize setup.now.workers
+        × AreNoPartitions setup.now.workers setup.now.partitions.items) }
+    ensures lists { IfOk result (λ closed. vec_len closed.outs ≡ setup.now.workers + 1) }
+    ensures account { IfOk result (λ closed. (before : _) × (after : _)
+        × FnOnceReturnsAtMut F.FnOnce body before tt after
+        × (roots_of before ≡ [])
+        × (workers_of before ≡ setup.now.workers)
+        × (stop_of before ≡ open_word)
+        × (¬ IsCancelled after → closed.left.items ≡ [])
+        × Account R.keeps_accounts (IsStep J.weight_of J.allows ctx.now) (roots_of after) []
+        (flat_map (λ list. list.items) closed.outs.items) closed.left.items closed.refused) }
+{
     let opened = open::<J, A, W, R, L>(alloc, setup)?;
     let pool = opened.pool;
     let workplace = PoolWorkplace {
@@ -82,7 +133,7 @@ where
         opener: opened.opener,
         body,
     };
-    let (states, opener) = run_all(rt, &workplace, opened.states, opened.ended, opening);
+    let (states, opener) = run_first(rt, &workplace, starts, opened.states, opened.ended, opening);
     Ok(close(rt, pool, ctx, opener, states, opened.gathered))
 }
 

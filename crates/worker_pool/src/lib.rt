@@ -31,7 +31,7 @@ mod workplace;
 pub use boxed::{BoxedJob, BoxedTask, TaskOut};
 pub use caller::Caller;
 pub use closed::Closed;
-pub use entry::{with_pool, with_root};
+pub use entry::{with_pool, with_pool_limited, with_root};
 pub use gate::{Gate, NoGate};
 pub use job::{Job, Progress};
 pub use lists::{Lists, VecLists};

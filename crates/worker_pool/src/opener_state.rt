@@ -1,7 +1,8 @@
 //! What the thread that opened a pool works with.
 ghost use Rattle.std.specs.Prelude.{◌≡◌, ◌≤◌, ◌↔◌, [], IsTrue};
 ghost use Rattle.std.specs.Fn.{FnOnceReturnsAtMut};
-ghost use Rattle.worker_pool.specs.Callers.{IsCaller, StaysCaller, IsCancelled, roots_of, stop_of};
+ghost use Rattle.worker_pool.specs.Callers.{IsCaller, StaysCaller, IsCancelled, roots_of};
+ghost use Rattle.worker_pool.specs.Callers.{started_of, stop_of};
 ghost use Rattle.worker_pool.specs.OpenerStates.{IsFresh, IsLent, HasWorked};
 ghost use Rattle.worker_pool.specs.Stops.{open_word};
 
@@ -55,10 +56,12 @@ where
     requires fresh { IsFresh R.Rows W.WaitPoint L.Lists pool.now opener }
     requires few { started ≤ pool.now.queue.workers }
     requires body { (caller : _) → IsCaller R.Rows W.WaitPoint J.Job L.Lists caller.now
+        → started_of caller.now ≡ started
         → F.pre body caller }
     requires stays { (before : _) → (after : _)
         → FnOnceReturnsAtMut F.FnOnce body before tt after
         → IsCaller R.Rows W.WaitPoint J.Job L.Lists before
+        → started_of before ≡ started
         → StaysCaller R.Rows W.WaitPoint J.Job L.Lists before after }
     ensures { (before : _) × (after : _) × FnOnceReturnsAtMut F.FnOnce body before tt after
         × IsLent R.Rows W.WaitPoint J.Job L.Lists pool.now ctx.now before after result }
@@ -84,6 +87,7 @@ where
     requires fresh { IsFresh R.Rows W.WaitPoint L.Lists pool.now opener }
     requires few { started ≤ pool.now.queue.workers }
     ensures caller { IsCaller R.Rows W.WaitPoint J.Job L.Lists result }
+    ensures started { started_of result ≡ started }
     ensures no_roots { roots_of result ≡ [] }
     ensures open { stop_of result ≡ open_word }
     ensures queue { result.queue.now ≡ pool.now.queue }
@@ -163,11 +167,13 @@ where
     L: Lists<J::Out, A>,
     F: FnOnce(&mut Caller<'_, J, A, W, R, L>),
     requires caller { IsCaller R.Rows W.WaitPoint J.Job L.Lists caller.old }
-    requires body { (caller : _) → IsCaller R.Rows W.WaitPoint J.Job L.Lists caller.now
-        → F.pre body caller }
+    requires body { (lent : _) → IsCaller R.Rows W.WaitPoint J.Job L.Lists lent.now
+        → started_of lent.now ≡ started_of caller.old
+        → F.pre body lent }
     requires stays { (before : _) → (after : _)
         → FnOnceReturnsAtMut F.FnOnce body before tt after
         → IsCaller R.Rows W.WaitPoint J.Job L.Lists before
+        → started_of before ≡ started_of caller.old
         → StaysCaller R.Rows W.WaitPoint J.Job L.Lists before after }
     ensures called { FnOnceReturnsAtMut F.FnOnce body caller.old tt caller.new }
     ensures stays { StaysCaller R.Rows W.WaitPoint J.Job L.Lists caller.old caller.new }

@@ -22,6 +22,7 @@ use rand_pcg::Lcg64Xsh32;
 use run_queue::Rows;
 use std::alloc::Allocator;
 use std::sync::Wait;
+use std::thread::yield_now;
 use steal_walk::Walk;
 
 /// What a worker works with.
@@ -193,7 +194,10 @@ where
         point.leave(rt, &mut seats.waker);
         return match rows.take_back(rt, &mut seats.row, row) {
             Some(job) => Turn::Found(job),
-            None => Turn::Again,
+            None => {
+                yield_now();
+                Turn::Again
+            }
         };
     }
     if stopped {

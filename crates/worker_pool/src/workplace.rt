@@ -1,5 +1,5 @@
 //! A pool as the workplace of its workers, and what its opener does there.
-ghost use Rattle.std.specs.Prelude.{◌≤◌};
+ghost use Rattle.std.specs.Prelude.{◌≡◌, ◌≤◌};
 
 use crate::caller::Caller;
 use crate::gate::Gate;
@@ -73,7 +73,7 @@ where
     F: FnOnce(&mut Caller<'_, J, A, W, R, L>) + Drop,
 {
     ghost use Rattle.std.specs.Fn.{FnOnceReturnsAtMut};
-    ghost use Rattle.worker_pool.specs.Callers.{IsCaller, StaysCaller};
+    ghost use Rattle.worker_pool.specs.Callers.{IsCaller, StaysCaller, started_of};
     ghost use Rattle.worker_pool.specs.OpenerStates.{IsFresh, IsLent};
 
     type State = OpenerState<J, A, W, R, L>;
@@ -82,10 +82,12 @@ where
         IsFresh R.Rows W.WaitPoint L.Lists workplace.pool.now opening.opener
         × (started ≤ workplace.pool.now.queue.workers)
         × ((caller : _) → IsCaller R.Rows W.WaitPoint J.Job L.Lists caller.now
+        → started_of caller.now ≡ started
         → F.pre opening.body caller)
         × ((before : _) → (after : _)
         → FnOnceReturnsAtMut F.FnOnce opening.body before tt after
         → IsCaller R.Rows W.WaitPoint J.Job L.Lists before
+        → started_of before ≡ started
         → StaysCaller R.Rows W.WaitPoint J.Job L.Lists before after) };
 
     ghost has_left = { λ opening workplace opener. (before : _) × (after : _)

@@ -1,32 +1,5 @@
-use Rattle.std.proofs.Common.{◌∙◌, arith, refl}
-use Rattle.std.proofs.lemmas.Bool.{false_from_ne_true}
-use Rattle.worker_pool.proofs.Checks.{error-both_ok}
 use Rattle.worker_pool.proofs.entry.with_pool.Goals as goal
 
-pub run_all-states-requires-clause-begins : goal.run_all-states-requires-clause-begins
-run_all-states-requires-clause-begins g c κs within =
-    let opened = c.in_ok-opened.ensures.opened in
-    let many = opened.many in
-    λ started most. (opened.opener, omega arith, c.requires.body, c.requires.stays)
-
-pub returns-clause-bad_workers : goal.returns-clause-bad_workers
-returns-clause-bad_workers g c =
-    error-both_ok _ _ _ _ _ c.in_ok-opened.was refl c.«open».ensures.bad_workers
-
-pub returns-clause-bad_partition : goal.returns-clause-bad_partition
-returns-clause-bad_partition g c =
-    error-both_ok _ _ _ _ _ c.in_ok-opened.was refl c.«open».ensures.bad_partition
-
-pub returns-clause-account : goal.returns-clause-account
-returns-clause-account g c =
-    let left = c.run_all-states.ensures.left in (
-      left.0,
-      left.1,
-      left.2,
-      left.3.no_roots,
-      left.3.workers ∙ c.in_ok-opened.ensures.opened.workers,
-      left.3.stop,
-      (λ kept. c.close.ensures.none_left
-          (false_from_ne_true _ (λ on. kept (left.3.cancelled.0 on)))),
-      c.close.ensures.account _ left.3.worked.account,
-    )
+pub with_pool_limited-requires-clause-stays : goal.with_pool_limited-requires-clause-stays
+with_pool_limited-requires-clause-stays g c κs within = λ before after met is few.
+    c.requires.stays before after met is

@@ -1,6 +1,10 @@
 use Rattle.std.proofs.Common.{ap, ◌∙◌}
 use Rattle.worker_pool.proofs.opener_state.run_body.Goals as goal
 
+pub call-requires-clause-stays : goal.call-requires-clause-stays
+call-requires-clause-stays g c = λ before after met is same.
+    c.requires.stays before after met is (same ∙ c.caller_of-caller.ensures.started)
+
 pub returns : goal.returns
 returns g c =
     let same = c.call.ensures.stays.same in

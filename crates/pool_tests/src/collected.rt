@@ -1,0 +1,110 @@
+//! A caller that knows of its jobs what the account of a pool says.
+ghost use Rattle.std.specs.Prelude.{◌≡◌, [], ◌∷◌, ◌++◌, IfOk};
+ghost use Rattle.std.specs.List.{flat_map};
+ghost use Rattle.pool_tests.specs.Counts.{CollectedOnce};
+ghost use Rattle.worker_pool.specs.Accounts.{Account};
+ghost use Rattle.worker_pool.specs.Callers.{IsCaller, StaysCaller, roots_of};
+ghost use Rattle.worker_pool.specs.Steps.{IsStep};
+
+use crate::kinds::{Tenfold, tags_of};
+use event_count::{EventCount, WaitPoint};
+use run_queue::{Rows, SlotRows};
+use std::alloc::Global;
+use std::sync::Wait;
+use std::test::Fail;
+use std::thread::Threads;
+use worker_pool::{
+    BoxedJob, Caller, Closed, Job, Lists, NoGate, PoolFault, Setup, VecLists, with_pool,
+};
+
+// Runs two jobs, and says what the account says of them.
+fn run_both<W, R, L, RT, J>(
+    rt: &RT,
+    alloc: Global,
+    setup: &Setup,
+    ctx: &J::Ctx,
+    first: J,
+    second: J,
+) -> Result<Closed<J>, PoolFault>
+where
+    RT: Threads + Wait + Sync,
+    J: Job<Global> + Drop + Send,
+    J::Ctx: Sync,
+    J::Out: Drop + Send,
+    J::Abandoned: Send,
+    W: WaitPoint<Global> + Sync,
+    W::Seat: Send,
+    R: Rows<J, Global> + Sync,
+    R::Seat: Send,
+    L: Lists<J::Out, Global>,
+    ensures account { IfOk result (λ closed.
+        Account R.keeps_accounts (IsStep J.weight_of J.allows ctx.now) (first ∷ second ∷ []) []
+        (flat_map (λ list. list.items) closed.outs.items) closed.left.items closed.refused) }
+{
+    with_pool::<W, R, L, RT, J, Global, NoGate, _>(
+        rt,
+        alloc,
+        setup,
+        ctx,
+        &NoGate,
+        |caller: &mut Caller<'_, J, Global, W, R, L>|
+            requires { IsCaller R.Rows W.WaitPoint J.Job L.Lists caller.old }
+            ensures stays { StaysCaller R.Rows W.WaitPoint J.Job L.Lists caller.old caller.new }
+            ensures more { roots_of caller.new ≡ roots_of caller.old ++ first ∷ second ∷ [] }
+        {
+            caller.schedule(rt, first);
+            caller.schedule(rt, second);
+        },
+    )
+}
+
+// The same. Jobs that don't fork are each collected once, or left, where none was refused.
+fn collect_both<W, R, L, RT, J>(
+    rt: &RT,
+    alloc: Global,
+    setup: &Setup,
+    ctx: &J::Ctx,
+    first: J,
+    second: J,
+) -> Result<Closed<J>, PoolFault>
+where
+    RT: Threads + Wait + Sync,
+    J: Job<Global> + Drop + Send,
+    J::Ctx: Sync,
+    J::Out: Drop + Send,
+    J::Abandoned: Send,
+    W: WaitPoint<Global> + Sync,
+    W::Seat: Send,
+    R: Rows<J, Global> + Sync,
+    R::Seat: Send,
+    L: Lists<J::Out, Global>,
+    ensures once { IfOk result (λ closed.
+        CollectedOnce R.keeps_accounts (IsStep J.weight_of J.allows ctx.now)
+        (first ∷ second ∷ []) (flat_map (λ list. list.items) closed.outs.items)
+        closed.left.items closed.refused) }
+{
+    let closed = run_both::<W, R, L, RT, J>(rt, alloc, setup, ctx, first, second)?;
+    Ok(closed)
+}
+
+#[test]
+fn both_tasks_are_collected(rt: HostRuntime) -> Result<(), Fail> {
+    let alloc = rt.alloc();
+    let setup = Setup {
+        workers: 2,
+        partitions: Vec::new(alloc),
+    };
+    let first = BoxedJob(Box::new(alloc, Tenfold { tag: 1 })?);
+    let second = BoxedJob(Box::new(alloc, Tenfold { tag: 2 })?);
+    let closed = collect_both::<EventCount, SlotRows<BoxedJob>, VecLists, HostRuntime, BoxedJob>(
+        &rt,
+        alloc,
+        &setup,
+        &(),
+        first,
+        second,
+    )?;
+    assert_eq!(rt; closed.refused, 0);
+    assert_eq!(rt; tags_of(alloc, &closed)?.as_slice(), [1, 2].as_slice());
+    Ok(())
+}

@@ -1,0 +1,36 @@
+use Rattle.std.proofs.Common.{◌∙◌, arith, refl}
+use Rattle.std.proofs.lemmas.Bool.{false_from_ne_true}
+use Rattle.worker_pool.proofs.Checks.{error-both_ok}
+use Rattle.worker_pool.proofs.entry.with_pool_limited.Goals as goal
+
+pub run_first-states-requires-clause-begins : goal.run_first-states-requires-clause-begins
+run_first-states-requires-clause-begins g c κs within =
+    let many = c.in_ok-opened.ensures.opened.many in
+    λ started most few. (
+      c.in_ok-opened.ensures.opened.opener,
+      omega arith,
+      (λ caller is same. c.requires.body caller is (rw same few)),
+      (λ before after met is same. c.requires.stays before after met is (rw same few)),
+    )
+
+pub returns-clause-bad_workers : goal.returns-clause-bad_workers
+returns-clause-bad_workers g c =
+    error-both_ok _ _ _ _ _ c.in_ok-opened.was refl c.«open».ensures.bad_workers
+
+pub returns-clause-bad_partition : goal.returns-clause-bad_partition
+returns-clause-bad_partition g c =
+    error-both_ok _ _ _ _ _ c.in_ok-opened.was refl c.«open».ensures.bad_partition
+
+pub returns-clause-account : goal.returns-clause-account
+returns-clause-account g c =
+    let left = c.run_first-states.ensures.left in (
+      left.0,
+      left.1,
+      left.2,
+      left.3.no_roots,
+      left.3.workers ∙ c.in_ok-opened.ensures.opened.workers,
+      left.3.stop,
+      (λ kept. c.close.ensures.none_left
+          (false_from_ne_true _ (λ on. kept (left.3.cancelled.0 on)))),
+      c.close.ensures.account _ left.3.worked.account,
+    )
