@@ -6,7 +6,11 @@ mod barriers;
 #[cfg(test)]
 mod coprimes;
 #[cfg(test)]
+mod count_moves;
+#[cfg(test)]
 mod deques;
+#[cfg(test)]
+mod drawn;
 #[cfg(test)]
 mod made;
 #[cfg(test)]
@@ -16,13 +20,23 @@ mod partitions;
 #[cfg(test)]
 mod points;
 #[cfg(test)]
+mod replays;
+#[cfg(test)]
+mod row_moves;
+#[cfg(test)]
 mod rows;
 #[cfg(test)]
 mod seats;
 #[cfg(test)]
 mod sequences;
 #[cfg(test)]
+mod sizes;
+#[cfg(test)]
 mod slot_rows;
+#[cfg(test)]
+mod small_worlds;
+#[cfg(test)]
+mod tables;
 #[cfg(test)]
 mod threads;
 #[cfg(test)]
