@@ -1,4 +1,6 @@
+pub mod Combining
 pub mod Cuts
 pub mod Fits
 pub mod Named
 pub mod Planned
+pub mod Sharding

@@ -1,13 +1,21 @@
 pub use Rattle.parallel_for.specs.Items
 pub use Rattle.parallel_for.specs.Setup
 pub use Rattle.tensor_ops.specs.Contents
+pub use Rattle.tensor_ops.specs.Contraction
 pub use Rattle.tensor_ops.specs.Index
+pub use Rattle.tensor_ops.specs.Reduction
 pub use Rattle.tensor_ops.specs.Result
+pub use Rattle.tensor_ops.specs.Scalars
 pub use Rattle.tensor_ops.specs.Term
 pub use Rattle.tensor_ops.specs.Tree
 pub use Rattle.tensor_ops.specs.Value
+pub use Rattle.tensor_ops.specs.Woven
+pub use Rattle.tensor_ops.specs.Wrap
 pub mod Kernels
+pub mod Parts
 pub mod Plan
+pub mod Reducers
+pub mod Shards
 pub mod Steps
 -- for private clauses alone
 pub mod Cutting

@@ -13,17 +13,28 @@
 //!
 //! [`run_plan`] works a plan out on the workers of a pool. The values of a step are those that its
 //! [`StepKernel`] gives for ranges of its places.
+//!
+//! [`Shards`] are ranges of the index lists that a value of a reduction or a contraction is over.
+//! That they meet each of these once, in order, and that what they give apart, combined, is the
+//! value, are laws.
 #![tactic(auto)]
 
 mod cutting;
+mod laws;
 mod plan;
 mod running;
+mod shards;
 mod step;
 mod step_kernel;
 
+pub use laws::{
+    reducers_combine_in_any_grouping, shards_give_the_contraction, shards_give_the_reduction,
+    shards_meet_each_index_list_once,
+};
 pub use parallel_for::{ForFault, Kernel, PoolFault, Setup};
 pub use plan::Plan;
 pub use running::run_plan;
+pub use shards::Shards;
 pub use step::Step;
 pub use step_kernel::StepKernel;
 pub use tensor_ops::{Dims, Expr, Inputs, Reducer, Tensor};

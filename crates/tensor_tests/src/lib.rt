@@ -24,6 +24,8 @@ mod requests;
 #[cfg(test)]
 mod result_dims;
 #[cfg(test)]
+mod shards;
+#[cfg(test)]
 mod tensors;
 #[cfg(test)]
 mod texts;

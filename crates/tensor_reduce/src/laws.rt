@@ -1,0 +1,49 @@
+//! What holds of the definitions: why values may be worked out shard by shard.
+
+ghost use Rattle.std.specs.Prelude.{◌≡◌, ◌-◌, ◌<◌, List, ℕ, ℤ, length, map};
+ghost use Rattle.std.specs.Int.{w64};
+ghost use Rattle.std.specs.Int.RustNames.{FitsSigned};
+ghost use Rattle.std.specs.List.{range_with_len};
+ghost use Rattle.tensor_ops.specs.Index.{size_of};
+ghost use Rattle.tensor_ops.specs.Contraction.{firsts, contracted};
+ghost use Rattle.tensor_reduce.specs.Parts.{reduced_part, contracted_part};
+ghost use Rattle.tensor_ops.specs.Reduction.{unit, combine, combination, reduced};
+ghost use Rattle.tensor_ops.specs.Woven.{among, dims_at};
+ghost use Rattle.tensor_ops.specs.declared.reducer.Reducer.{Reducer};
+ghost use Rattle.tensor_ops.specs.declared.reducer.Reducer.TheVariants.{Sum};
+ghost use Rattle.tensor_reduce.specs.Reducers.{alone};
+ghost use Rattle.tensor_reduce.specs.Shards.{shards_of, lists_of};
+
+/// Values may be combined in any grouping and in any order. The unit gives what the value alone
+/// gives: for a value of the `i64` range itself, but for All and Any whether it is true.
+pub fn reducers_combine_in_any_grouping()
+    ensures grouping { (r : Reducer) (x y z : ℤ)
+        → combine r (combine r x y) z ≡ combine r x (combine r y z) }
+    ensures order { (r : Reducer) (x y : ℤ) → combine r x y ≡ combine r y x }
+    ensures unit { (r : Reducer) (x : ℤ) → FitsSigned w64 x → combine r (unit r) x ≡ alone r x }
+{}
+
+/// Whatever the block, the shards meet each index list once, in order.
+pub fn shards_meet_each_index_list_once()
+    ensures { (inner block : ℕ) → 0 < block
+        → lists_of (shards_of inner block) ≡ range_with_len 0 inner }
+{}
+
+/// What the shards give of a reduction's value, each from the unit, is the value, where it is
+/// combined in order from the unit.
+pub fn shards_give_the_reduction()
+    ensures { (r : Reducer) (axes ds : List ℕ) (a : List ℕ → ℤ) (is : List ℕ) (block : ℕ)
+        → 0 < block
+        → combination r (map (λ s. reduced_part r axes ds a is s.0 (s.1 - s.0))
+        (shards_of (size_of (dims_at (among axes (length ds)) ds)) block))
+        ≡ reduced r axes ds a is }
+{}
+
+/// The same of a contraction's value, whose shards are sums.
+pub fn shards_give_the_contraction()
+    ensures { (pairs : List (ℕ × ℕ)) (ds es : List ℕ) (a b : List ℕ → ℤ) (is : List ℕ) (block : ℕ)
+        → 0 < block
+        → combination Sum (map (λ s. contracted_part pairs ds es a b is s.0 (s.1 - s.0))
+        (shards_of (size_of (dims_at (firsts pairs) ds)) block))
+        ≡ contracted pairs ds es a b is }
+{}

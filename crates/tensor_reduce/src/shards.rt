@@ -1,0 +1,51 @@
+//! Shards: the index lists that a value is over, cut into ranges that are worked out apart.
+
+ghost use Rattle.std.specs.Prelude.{◌≡◌, ◌<◌, ◌≤◌, ◌*◌, length, slice_index_or};
+
+/// The most shards that a value has.
+const MOST_SHARDS: u64 = 1024;
+
+/// So many index lists, of the dropped axes of a reduction or of the paired ones of a contraction,
+/// cut into ranges of one width, of which the last may be shorter. There is one shard at least: of
+/// no index lists it is the empty range.
+#[derive(Clone, Copy, Debug, Drop, Eq, PartialEq)]
+pub struct Shards {
+    inner: u64,
+    width: u64,
+    ghost some: { 0 < width },
+    ghost few: { inner ≤ 1024 * width },
+}
+
+impl Shards {
+    ghost use Rattle.tensor_reduce.specs.Shards.{shards_in, shards_of, most_shards};
+
+    /// The shards of so many index lists: as wide as a block, or wider where there would be more
+    /// than 1,024 of them. Takes no memory.
+    pub fn of(inner: u64, block: u64) -> Shards
+        requires { 0 < block }
+        ensures { shards_in result ≡ shards_of inner block }
+    {
+        Shards {
+            inner,
+            width: block.max(inner.div_ceil(MOST_SHARDS)),
+        }
+    }
+
+    /// How many there are.
+    pub fn count(&self) -> u64
+        ensures count { result ≡ length (shards_in self.now) }
+        ensures few { result ≤ most_shards }
+    {
+        self.inner.div_ceil(self.width).max(1)
+    }
+
+    /// The first index list of a shard, and the one after its last.
+    pub fn range(&self, shard: u64) -> (u64, u64)
+        requires { shard < length (shards_in self.now) }
+        ensures { result ≡ slice_index_or (shards_in self.now) shard (0, 0) }
+    {
+        let first = shard * self.width;
+        let last = first + self.width.min(self.inner - first);
+        (first, last)
+    }
+}
