@@ -6,6 +6,7 @@ pub mod Dropping
 pub mod Evaluated
 pub mod FirstAxes
 pub mod Folding
+pub mod Joints
 pub mod Known
 pub mod Legality
 pub mod ListWrites
@@ -15,6 +16,7 @@ pub mod Operands
 pub mod Others
 pub mod PackedRows
 pub mod PanelPlaces
+pub mod Parting
 pub mod Parts
 pub mod Permutations
 pub mod Placings
@@ -22,6 +24,7 @@ pub mod ProductSums
 pub mod Runs
 pub mod SameTensors
 pub mod SameValues
+pub mod Settled
 pub mod Shapes
 pub mod SimdLanes
 pub mod Soundness

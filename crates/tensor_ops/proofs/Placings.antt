@@ -1,12 +1,12 @@
 -- Expressions placed: each kind of node keeps the values.
-use Rattle.std.proofs.Common.{◌≡◌, ℕ, ℤ, pos, ◌+◌, ◌<◌, ◌≤◌, ◌^◌, List, length, map, Bor, true, Result, Ok, Err, IfOk}
+use Rattle.std.proofs.Common.{◌≡◌, ℕ, ℤ, pos, ◌+◌, ◌<◌, ◌≤◌, ◌^◌, List, length, map, Bor, Result, Ok, Err, IfOk}
 use Rattle.std.proofs.Common.{refl, ap, sym, ◌∙◌, arith}
 use Rattle.std.specs.List.{range_with_len}
 use Rattle.std.proofs.lemmas.List.FromFn.{length-map-range_with_len, get_or-map-range_with_len}
 use Rattle.tensor_shape.specs.Index.{size_of, IsIndexOf, place, index_of}
 use Rattle.tensor_shape.specs.Legal.{most_elements}
 use Rattle.tensor_shape.proofs.Places.{place-below-size_of, index_of-place, place-index_of, IsIndexOf-index_of}
-use Rattle.tensor_ops.specs.Axes.{axes_from, are_along, by_steps, moved_axes, moved_start}
+use Rattle.tensor_ops.specs.Axes.{axes_from, by_steps, moved_axes, moved_start}
 use Rattle.tensor_ops.specs.Contents.{Contents, value_at}
 use Rattle.tensor_ops.specs.Meaning.{meaning, count_of, IsSound, IsListOf}
 use Rattle.tensor_ops.specs.Movement.{moved, moved_dims}
@@ -19,10 +19,9 @@ use Rattle.tensor_ops.specs.declared.operations.UnaryScalar.{UnaryScalar}
 use Rattle.tensor_ops.specs.declared.placed.Placed.{Placed}
 use Rattle.tensor_ops.specs.declared.placed.Placed.TheVariants.{Lent}
 use Rattle.tensor_ops.specs.declared.walk.Axis.{Axis}
-use Rattle.tensor_ops.proofs.AxisLists.{are_along-from, by_steps-from, walk_size-along, reached-along}
+use Rattle.tensor_ops.proofs.AxisLists.{are_along-from, by_steps-from}
 use Rattle.tensor_ops.proofs.Known.{reshape-known}
 use Rattle.tensor_ops.proofs.Moves.{walk_size-moved, reached-moved, index-moved, moved_start-below}
-use Rattle.tensor_ops.proofs.Walks.{reached-start}
 
 -- what is placed gives its own values
 pub gives-itself : (placed : Placed) (ds : List ℕ) → IsSound placed → count_of placed ≡ size_of ds
@@ -48,7 +47,7 @@ gives-input values t same full = record {
   means = λ p below. ap (λ l. value_in l p) same ∙ ap (value_in t.values) (sym (place-index_of t.dims p below));
 }
 
--- an operand read along the axes of its own dims, and one that is a walk along them already
+-- an operand read along the axes of its own dims
 pub view-whole : (placed : Placed) (ds : List ℕ) → IsSound placed → count_of placed ≡ size_of ds → size_of ds ≤ most_elements
     → IsView placed 0 (axes_from 1 ds) placed ds
 view-whole placed ds sound count few = record {
@@ -58,25 +57,6 @@ view-whole placed ds sound count few = record {
   inside = λ index is_index. omega (arith, count, by_steps-from 1 ds index, place-below-size_of ds index is_index);
   means = λ index is_index. ap (meaning placed) (omega (arith, by_steps-from 1 ds index));
 }
-
-pub view-walk : (outer inner : Placed) (start : ℕ) (axes : List Axis) (ds : List ℕ)
-    → ((p : ℕ) → meaning outer p ≡ meaning inner (reached start axes p))
-    → IsSound inner → count_of inner ≤ most_elements → ((p : ℕ) → p < walk_size axes → reached start axes p < count_of inner)
-    → are_along axes ds ≡ true → IsView inner start axes outer ds
-view-walk outer inner start axes ds means sound few inside along =
-    let at : (index : List ℕ) → IsIndexOf ds index → reached start axes (place ds index) ≡ start + by_steps axes index =
-    λ index is_index. reached-start start axes (place ds index)
-    ∙ ap (λ n. start + n) (reached-along axes ds (place ds index) along ∙ ap (by_steps axes) (index_of-place ds index is_index)) in
-    record {
-      sound = sound;
-      few = few;
-      along = along;
-      inside = λ index is_index.
-          let below : place ds index < walk_size axes =
-          omega (arith, walk_size-along axes ds along, place-below-size_of ds index is_index) in
-          omega (arith, at index is_index, inside (place ds index) below);
-      means = λ index is_index. sym (means (place ds index) ∙ ap (meaning inner) (at index is_index));
-    }
 
 -- a walk over such an operand
 pub gives-walk : (m : Movement) (inner outer whole : Placed) (start from : ℕ) (axes along : List Axis) (ds rs : List ℕ)
@@ -160,3 +140,9 @@ gives-other placed rs f g gives same = record {
 pub IfOk-both : {X E : Type 0} (r : Result X E) (P Q R : X → Type 0) → ((x : X) → P x → Q x → R x) → IfOk r P → IfOk r Q → IfOk r R
 IfOk-both (Ok x) P Q R join p q = join x p q
 IfOk-both (Err e) P Q R join p q = p
+
+-- what stands for a placed expression gives what that gives
+pub gives-after : (placed other : Placed) (ds : List ℕ) (f : List ℕ → ℤ) → Gives other ds f → Gives placed ds (meaning_at other ds)
+    → Gives placed ds f
+gives-after placed other ds f first second =
+    gives-other placed ds (meaning_at other ds) f second (λ index is_index. gives-index other ds f index first is_index)

@@ -68,7 +68,7 @@ pub reached-drop : (axes : List Axis) (i rest : ℕ) (d : Axis) → i < length a
 reached-drop axes i rest d within = rw (add-one, drop-cons axes i d within) refl
 
 -- an axis of size 1 has no steps
-steps-alone : (a : Axis) → a.size ≡ 1 → steps_to a 0 ≡ 0
+pub steps-alone : (a : Axis) → a.size ≡ 1 → steps_to a 0 ≡ 0
 steps-alone a alone =
     elim (cases_Bool a.falls) [
       | inl falls ↦ rw (falls, alone) (omega arith)

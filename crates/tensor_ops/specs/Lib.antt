@@ -10,6 +10,7 @@ pub mod Cursor
 pub mod Dots
 pub mod Evaluator
 pub mod Folds
+pub mod Joining
 pub mod Loops
 pub mod Meaning
 pub mod Movement
@@ -25,6 +26,7 @@ pub mod Result
 pub mod Root
 pub mod Rows
 pub mod Scalars
+pub mod Settling
 pub mod Shaped
 pub mod StripDots
 pub mod Strips

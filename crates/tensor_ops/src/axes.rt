@@ -4,7 +4,7 @@ ghost use Rattle.std.specs.Prelude.{◌≡◌, ◌<◌, ◌≤◌, ◌+◌, ◌^
 ghost use Rattle.std.specs.Prelude.{IfOk, OnOk};
 ghost use Rattle.tensor_shape.specs.Index.{size_of};
 ghost use Rattle.tensor_shape.specs.Legal.{most_elements};
-ghost use Rattle.tensor_ops.specs.Axes.{rising, axes_from, are_along, by_steps};
+ghost use Rattle.tensor_ops.specs.Axes.{rising, axes_from, by_steps};
 ghost use Rattle.tensor_ops.specs.Axes.{HasRank, moved_axes, moved_start};
 ghost use Rattle.tensor_ops.specs.Axes.{repeated_axes, cut_axes, shuffled_axes, turned_axes};
 ghost use Rattle.tensor_ops.specs.Tree.{movement_at};
@@ -28,24 +28,6 @@ pub(crate) fn whole_axes(alloc: Global, dims: &Dims) -> Result<Vec<Axis>, AllocE
         step *= size;
     }
     Ok(axes)
-}
-
-/// Whether axes have the sizes of dims, and all go up.
-pub(crate) fn are_along(axes: &[Axis], sizes: &[u64]) -> bool
-    ensures { result ≡ are_along axes.now sizes.now }
-{
-    match axes {
-        [] => match sizes {
-            [] => true,
-            [_, ..] => false,
-        },
-        [axis, axes @ ..] => match sizes {
-            [] => false,
-            [size, sizes @ ..] => {
-                axis.size as u64 == *size && !axis.falls && are_along(axes, sizes)
-            }
-        },
-    }
 }
 
 /// Where the walk of a movement starts, from where that of its operand does.

@@ -18,6 +18,7 @@ use crate::placed::Placed;
 use crate::reducer::Reducer;
 use crate::reduction::Reduction;
 use crate::reduction_dims::reduced_dims;
+use crate::settling::settled_over;
 use std::alloc::{AllocError, Global};
 use std::borrow::CowSlice;
 use tensor_shape::Dims;
@@ -141,7 +142,8 @@ fn all_values<'a>(
         Placed::Lent(values) => Ok(CowSlice::Borrowed(values)),
         Placed::Kept(values) => Ok(CowSlice::Owned(values)),
         placed => {
-            let values = placed.values(alloc, alloc, 0, dims.size() as usize)?;
+            let settled = settled_over(alloc, placed, dims)?;
+            let values = settled.values(alloc, alloc, 0, dims.size() as usize)?;
             Ok(CowSlice::Owned(values))
         }
     }

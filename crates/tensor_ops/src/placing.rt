@@ -13,7 +13,7 @@ ghost use Rattle.tensor_ops.specs.Tree.{term_of, movement_at, unary_at};
 ghost use Rattle.tensor_ops.specs.Scalars.{combined, is_true};
 ghost use Rattle.tensor_ops.specs.Value.{value, unary_value};
 
-use crate::axes::{are_along, moved_axes, moved_start, whole_axes};
+use crate::axes::{moved_axes, moved_start, whole_axes};
 use crate::expr::Expr;
 use crate::kernels::{place_contraction, place_reduction};
 use crate::loops::SelectOrder;
@@ -22,6 +22,7 @@ use crate::node::{Binary, Movement, Node, Ternary, Unary};
 use crate::operations::BinaryScalar;
 use crate::part::Part;
 use crate::placed::Placed;
+use crate::settling::settled_over;
 use crate::tensors::Tensors;
 use crate::walk::Axis;
 use std::alloc::{AllocError, Global};
@@ -261,7 +262,7 @@ fn place_movement<'a>(
         });
     }
     let whole = kept(alloc, operand.placed, &operand.dims, count, room)?;
-    let view = view_of(alloc, whole, &operand.dims)?;
+    let view = whole_view(alloc, whole, &operand.dims)?;
     let start = moved_start(movement, view.start, &view.axes);
     let axes = moved_axes(alloc, movement, view.axes)?;
     Ok(Part {
@@ -296,32 +297,15 @@ fn kept<'a>(
     ensures { IfOk result (λ r. Gives r dims.now (meaning_at placed.entry dims.now)) }
 {
     let count = dims.size() as usize;
-    if count >= reads || count > *room || placed.is_at_hand() {
+    if count >= reads || count > *room {
         return Ok(placed);
     }
-    *room -= count;
-    Ok(Placed::Kept(placed.values(alloc, alloc, 0, count)?))
-}
-
-/// A placed expression of these dims, read along axes.
-fn view_of<'a>(alloc: Global, placed: Placed<'a>, dims: &Dims) -> Result<View<'a>, AllocError>
-    requires sound { IsSound placed }
-    requires count { count_of placed ≡ size_of dims.now }
-    ensures { IfOk result (λ v. IsView v.placed.value v.start v.axes.items placed.entry dims.now) }
-{
-    match placed {
-        Placed::Walk(start, axes, inner) => {
-            if are_along(&axes, dims.as_slice()) {
-                return Ok(View {
-                    start,
-                    axes,
-                    placed: inner,
-                });
-            }
-            whole_view(alloc, Placed::Walk(start, axes, inner), dims)
-        }
-        other => whole_view(alloc, other, dims),
+    let settled = settled_over(alloc, placed, dims)?;
+    if settled.is_at_hand() {
+        return Ok(settled);
     }
+    *room -= count;
+    Ok(Placed::Kept(settled.values(alloc, alloc, 0, count)?))
 }
 
 /// A placed expression, read along the axes of its own dims.

@@ -2,7 +2,7 @@
 
 ghost use Rattle.std.specs.Prelude.{◌≡◌, ◌≤◌, ◌-◌, length, map, IsTrue, IsOk, IfOk};
 ghost use Rattle.std.specs.List.{range_with_len};
-ghost use Rattle.tensor_ops.specs.Placing.{HasValues};
+ghost use Rattle.tensor_ops.specs.Placing.{Gives, HasValues};
 ghost use Rattle.tensor_ops.specs.Result.{dims_of, shape_of};
 ghost use Rattle.tensor_ops.specs.Tensors.{tensors_in};
 ghost use Rattle.tensor_ops.specs.Term.{has_inputs};
@@ -13,9 +13,11 @@ use crate::contraction::Contraction;
 use crate::expr::Expr;
 use crate::kernels::{contraction_of, reduction_of};
 use crate::node::{Binary, Node, Unary};
+use crate::part::Part;
 use crate::placed::Placed;
 use crate::placing::place;
 use crate::reduction::Reduction;
+use crate::settling::settled_over;
 use crate::tensors::Tensors;
 use std::alloc::{AllocError, Allocator, Global};
 use tensor_shape::Dims;
@@ -64,7 +66,7 @@ impl<'a> Root<'a> {
                 Ok((Root::Contraction(contraction), dims))
             }
             _ => {
-                let part = place(alloc, expr, tensors, &mut room)?;
+                let part = place_settled(alloc, expr, tensors, &mut room)?;
                 Ok((Root::Placed(part.placed), part.dims))
             }
         }
@@ -91,4 +93,29 @@ impl<'a> Root<'a> {
             Root::Contraction(contraction) => contraction.values(target, first, last),
         }
     }
+}
+
+/// An expression, placed and settled.
+fn place_settled<'a>(
+    alloc: Global,
+    expr: &Expr,
+    tensors: Tensors<'a>,
+    room: &mut usize,
+) -> Result<Part<'a>, AllocError>
+    requires inputs { IsTrue (has_inputs (term_of expr.now) (length (tensors_in tensors))) }
+    requires dims { IsOk (dims_of (term_of expr.now) (tensors_in tensors)) }
+    ensures placed { IfOk result (λ r.
+        Gives r.placed r.dims (value (term_of expr.now) (tensors_in tensors.entry))) }
+    ensures dims { IfOk result (λ r.
+        r.dims ≡ shape_of (term_of expr.now) (tensors_in tensors.entry)) }
+{
+    let part = place(alloc, expr, tensors, room)?;
+    let dims = part.dims;
+    let pieces = part.pieces;
+    let placed = settled_over(alloc, part.placed, &dims)?;
+    Ok(Part {
+        placed,
+        dims,
+        pieces,
+    })
 }

@@ -3,7 +3,6 @@ use Rattle.tensor_shape.specs.Index.{size_of}
 use Rattle.tensor_ops.specs.Meaning.{meaning, count_of}
 use Rattle.tensor_ops.specs.Placing.{meaning_at}
 use Rattle.tensor_ops.specs.declared.placed.Placed.TheVariants.{Lent, Kept}
-use Rattle.tensor_ops.proofs.Placings.{gives-itself}
 use Rattle.tensor_ops.proofs.Worked.{values-placed, values-list, values-worked}
 use Rattle.tensor_ops.proofs.kernels.all_values.Goals as goal
 
@@ -31,9 +30,9 @@ returns-in-Kept c =
 
 pub returns-in_ok-values-in_default : goal.returns-in_ok-values-in_default
 returns-in_ok-values-in_default c =
-    let own = gives-itself c.args.placed c.args.dims.now c.requires.sound c.requires.count in
-    values-worked (meaning c.args.placed) c.in_ok-values-in_default.values.items
-    (count_of c.args.placed) (c.size.result - 0) c.args.dims.now
-    (meaning_at c.args.placed c.args.dims.now) (values-placed c.args.placed c.args.dims.now
-    (meaning_at c.args.placed c.args.dims.now) own)
+    let settled = c.in_ok-settled-in_default.settled in
+    values-worked (meaning settled) c.in_ok-values-in_default.values.items
+    (count_of settled) (c.size.result - 0) c.args.dims.now
+    (meaning_at c.args.placed c.args.dims.now) (values-placed settled c.args.dims.now
+    (meaning_at c.args.placed c.args.dims.now) c.in_ok-settled-in_default.ensures)
     c.in_ok-values-in_default.ensures (omega (arith, c.size.ensures.value))

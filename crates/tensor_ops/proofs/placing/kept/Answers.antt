@@ -1,5 +1,5 @@
 use Rattle.std.proofs.Common.{◌-◌, refl, arith}
-use Rattle.tensor_ops.proofs.Placings.{gives-itself, gives-list}
+use Rattle.tensor_ops.proofs.Placings.{gives-after, gives-itself, gives-list}
 use Rattle.tensor_ops.proofs.placing.kept.Goals as goal
 
 pub returns-then-count-reads : goal.returns-then-count-reads
@@ -7,5 +7,6 @@ returns-then-count-reads c = gives-itself c.args.placed c.args.dims.now c.requir
 
 pub returns : goal.returns
 returns c =
-    gives-list _ c.args.placed c.in_ok-values.field-0.items c.args.dims.now (c.size-count.result - 0)
-    (record { count = refl; each = λ p. refl }) tt c.in_ok-values.ensures (omega (arith, c.size-count.ensures.value))
+    gives-after _ c.in_ok-settled.settled c.args.dims.now _ c.in_ok-settled.ensures
+    (gives-list _ c.in_ok-settled.settled c.in_ok-values.field-0.items c.args.dims.now (c.size-count.result - 0)
+    (record { count = refl; each = λ p. refl }) tt c.in_ok-values.ensures (omega (arith, c.size-count.ensures.value)))

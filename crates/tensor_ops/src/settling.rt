@@ -1,0 +1,177 @@
+//! Settling: the walks of a placed expression go down to what is read by places, where they become
+//! one walk each; what is worked out is then worked out in order.
+
+ghost use Rattle.std.specs.Prelude.{◌≡◌, ◌<◌, ◌≤◌, ℕ, IfOk};
+ghost use Rattle.tensor_shape.specs.Index.{size_of};
+ghost use Rattle.tensor_shape.specs.Legal.{most_elements};
+ghost use Rattle.tensor_ops.specs.Loops.{either_way, selected};
+ghost use Rattle.tensor_ops.specs.Meaning.{meaning, count_of, IsSound};
+ghost use Rattle.tensor_ops.specs.Placing.{Gives, IsJoined, meaning_at};
+ghost use Rattle.tensor_ops.specs.Scalars.{applied};
+ghost use Rattle.tensor_ops.specs.Settling.{Follows, meaning_along};
+ghost use Rattle.tensor_ops.specs.Walk.{walk_size, reached};
+
+use crate::joining::joined;
+use crate::loops::SelectOrder;
+use crate::operations::{BinaryScalar, UnaryScalar};
+use crate::placed::Placed;
+use crate::route::{Route, places_along};
+use std::alloc::{AllocError, Global};
+use tensor_shape::Dims;
+
+/// A placed expression of these dims, settled.
+pub(crate) fn settled_over<'a>(
+    alloc: Global,
+    placed: Placed<'a>,
+    dims: &Dims,
+) -> Result<Placed<'a>, AllocError>
+    requires sound { IsSound placed }
+    requires count { count_of placed ≡ size_of dims.now }
+    ensures { IfOk result (λ r. Gives r dims.now (meaning_at placed.entry dims.now)) }
+{
+    if dims.size() == 0 {
+        return Ok(placed);
+    }
+    settled(alloc, placed)
+}
+
+/// A placed expression with its walks at what is read by places. One over another walk is left
+/// where the two can't be one.
+#[cycle(settled)]
+fn settled<'a>(alloc: Global, placed: Placed<'a>) -> Result<Placed<'a>, AllocError>
+    requires sound { IsSound placed }
+    requires some { 0 < count_of placed }
+    requires few { count_of placed ≤ most_elements }
+    ensures { IfOk result (λ r. Follows r (count_of placed.entry) (meaning placed.entry)) }
+{
+    match placed {
+        Placed::Unary(operation, operand) => {
+            let operand = settled(alloc, Box::into_inner(operand))?;
+            each(alloc, operation, operand)
+        }
+        Placed::Binary(operation, turned, first, second) => {
+            let first = settled(alloc, Box::into_inner(first))?;
+            let second = settled(alloc, Box::into_inner(second))?;
+            both(alloc, operation, turned, first, second)
+        }
+        Placed::Select(order, first, second, third) => {
+            let first = settled(alloc, Box::into_inner(first))?;
+            let second = settled(alloc, Box::into_inner(second))?;
+            let third = settled(alloc, Box::into_inner(third))?;
+            all(alloc, order, first, second, third)
+        }
+        Placed::Walk(start, axes, operand) => {
+            led(alloc, Box::into_inner(operand), Route { start, axes })
+        }
+        list => Ok(list),
+    }
+}
+
+/// A placed expression at the places of a route, which goes down to what is read by places.
+#[cycle(settled)]
+fn led<'a>(alloc: Global, placed: Placed<'a>, route: Route) -> Result<Placed<'a>, AllocError>
+    requires sound { IsSound placed }
+    requires few { count_of placed ≤ most_elements }
+    requires some { 0 < walk_size route.axes.items }
+    requires short { walk_size route.axes.items ≤ most_elements }
+    requires inside { (p : ℕ) → p < walk_size route.axes.items
+        → reached route.start route.axes.items p < count_of placed }
+    ensures { IfOk result (λ r. Follows r (walk_size route.axes.items)
+        (meaning_along placed.entry route.start route.axes.items)) }
+{
+    match placed {
+        Placed::Same(value, _) => Ok(Placed::Same(value, places_along(&route.axes))),
+        Placed::Unary(operation, operand) => {
+            let operand = led(alloc, Box::into_inner(operand), route)?;
+            each(alloc, operation, operand)
+        }
+        Placed::Binary(operation, turned, first, second) => {
+            let first = led(alloc, Box::into_inner(first), route.copied(alloc)?)?;
+            let second = led(alloc, Box::into_inner(second), route)?;
+            both(alloc, operation, turned, first, second)
+        }
+        Placed::Select(order, first, second, third) => {
+            let first = led(alloc, Box::into_inner(first), route.copied(alloc)?)?;
+            let second = led(alloc, Box::into_inner(second), route.copied(alloc)?)?;
+            let third = led(alloc, Box::into_inner(third), route)?;
+            all(alloc, order, first, second, third)
+        }
+        Placed::Walk(start, axes, operand) => {
+            if let Some(joint) = joined(alloc, &route, start, &axes)? {
+                return led(alloc, Box::into_inner(operand), joint);
+            }
+            let operand = settled(alloc, Box::into_inner(operand))?;
+            let inner = walk_over(alloc, operand, Route { start, axes })?;
+            walk_over(alloc, inner, route)
+        }
+        list => walk_over(alloc, list, route),
+    }
+}
+
+/// A walk over a placed expression.
+fn walk_over<'a>(alloc: Global, placed: Placed<'a>, route: Route) -> Result<Placed<'a>, AllocError>
+    requires sound { IsSound placed }
+    requires few { count_of placed ≤ most_elements }
+    requires inside { (p : ℕ) → p < walk_size route.axes.items
+        → reached route.start route.axes.items p < count_of placed }
+    ensures { IfOk result (λ r. Follows r (walk_size route.axes.items)
+        (meaning_along placed.entry route.start route.axes.items)) }
+{
+    let placed = Box::new(alloc, placed)?;
+    Ok(Placed::Walk(route.start, route.axes, placed))
+}
+
+/// An operation on each value.
+fn each<'a>(
+    alloc: Global,
+    operation: UnaryScalar,
+    operand: Placed<'a>,
+) -> Result<Placed<'a>, AllocError>
+    requires { IsSound operand }
+    ensures { IfOk result (λ r. IsJoined r operand.entry
+        (λ p. applied operation (meaning operand.entry p))) }
+{
+    let operand = Box::new(alloc, operand)?;
+    Ok(Placed::Unary(operation, operand))
+}
+
+/// An operation on each two values.
+fn both<'a>(
+    alloc: Global,
+    operation: BinaryScalar,
+    turned: bool,
+    first: Placed<'a>,
+    second: Placed<'a>,
+) -> Result<Placed<'a>, AllocError>
+    requires first { IsSound first }
+    requires second { IsSound second }
+    requires same { count_of second ≡ count_of first }
+    ensures { IfOk result (λ r. IsJoined r first.entry
+        (λ p. either_way operation turned (meaning first.entry p) (meaning second.entry p))) }
+{
+    let first = Box::new(alloc, first)?;
+    let second = Box::new(alloc, second)?;
+    Ok(Placed::Binary(operation, turned, first, second))
+}
+
+/// Select on each three values.
+fn all<'a>(
+    alloc: Global,
+    order: SelectOrder,
+    first: Placed<'a>,
+    second: Placed<'a>,
+    third: Placed<'a>,
+) -> Result<Placed<'a>, AllocError>
+    requires first { IsSound first }
+    requires second { IsSound second }
+    requires third { IsSound third }
+    requires same_second { count_of second ≡ count_of first }
+    requires same_third { count_of third ≡ count_of first }
+    ensures { IfOk result (λ r. IsJoined r first.entry (λ p. selected order
+        (meaning first.entry p) (meaning second.entry p) (meaning third.entry p))) }
+{
+    let first = Box::new(alloc, first)?;
+    let second = Box::new(alloc, second)?;
+    let third = Box::new(alloc, third)?;
+    Ok(Placed::Select(order, first, second, third))
+}
