@@ -1,0 +1,174 @@
+"""Valid requests at random, by the grammar of docs/REQUEST.md: each part is made for the dims that
+it is to have, from the root down."""
+
+import math
+
+MOST_RANK = 6
+# How many places a part has at most, mostly and now and then; how deep an expression goes.
+FEW, MANY = 64, 2_500
+OF_MANY = 0.005
+DEEPEST = 5
+
+ENDS = [-(2**63), -(2**63) + 1, -(2**32), -(2**31), -(2**31) - 1, 2**31 - 1, 2**31, 2**32, 2**62]
+ENDS += [2**63 - 1, 2**63 - 2, 3037000500, -3037000500]
+NAMES = ["a", "b", "", "add", "A", 'quo"te', "back\\slash", "line\nfeed", "\0", "\x7f", "é"]
+NAMES += ["日本", "\U0001f600", "dims", "sum of all", "\ufeff", "\uffff", "/", "data"]
+
+SIZES = [0, 1, 1, 1, 2, 2, 2, 2, 2, 3, 3, 3, 3, 4, 4, 5, 7]
+LARGE_SIZES = [6, 8, 9, 11, 12, 16, 17, 24, 33, 40, 64, 100, 1_025, 2_049]
+WORKERS = [1, 1, 2, 2, 2, 3, 3, 4, 4, 8, 64]
+BLOCKS = [1, 1, 2, 3, 4, 7, 16, 64, 1_048_576]
+
+UNARY = ["neg", "abs", "square", "not"]
+BINARY = ["add", "sub", "mul", "cwise_max", "cwise_min", "lt", "le", "eq", "ne", "gt", "ge"]
+BINARY += ["and", "or"]
+REDUCTIONS = ["sum", "prod", "maximum", "minimum", "all", "any"]
+# The calls of a grammar that make an operation, the more often the more operations they stand for.
+MAKERS = ["unary"] * 2 + ["binary"] * 5 + ["select", "constant", "broadcast", "slice", "shuffle"]
+MAKERS += ["reshape", "chip", "reverse"] + ["reduction"] * 4 + ["contraction"] * 3
+
+
+def value(random):
+    """A number of the data's range, small or at an end of some range."""
+    kind = random.random()
+    if kind < 0.6:
+        return random.randint(-2, 2)
+    if kind < 0.8:
+        return random.choice(ENDS)
+    return random.randrange(-(2**63), 2**63) >> random.randrange(64)
+
+
+class Grammar:
+    """The inputs of one request, which grow as its expression does."""
+
+    def __init__(self, random):
+        self.random, self.inputs = random, {}
+        self.places = MANY if random.random() < OF_MANY else FEW
+        self.sizes = SIZES + LARGE_SIZES * (self.places == MANY)
+
+    def dimension(self):
+        return self.random.choice(self.sizes)
+
+    def dims(self):
+        """Dims of no more places than there may be."""
+        dims = []
+        while len(dims) < MOST_RANK and self.random.random() < 0.7:
+            dims.append(self.dimension())
+        while not self.fits(dims):
+            dims[self.random.randrange(len(dims))] = 1
+        return dims
+
+    def leaf(self, dims):
+        """The name of an input of these dims, an old one where there is one."""
+        old = [name for name, it in self.inputs.items() if it["dims"] == dims]
+        if old and self.random.random() < 0.6:
+            return self.random.choice(old)
+        name = self.random.choice(NAMES)
+        while name in self.inputs:
+            name += self.random.choice("abxyz")
+        data = [value(self.random) for _ in range(math.prod(dims))]
+        self.inputs[name] = {"dims": dims, "data": data}
+        return name
+
+    def fits(self, dims):
+        return len(dims) <= MOST_RANK and math.prod(max(it, 1) for it in dims) <= self.places
+
+    def node(self, dims, depth):
+        """An expression of these dims."""
+        if depth == 0 or self.random.random() < 0.1:
+            return self.leaf(dims)
+        maker = self.random.choice(MAKERS)
+        return getattr(self, maker)(list(dims), depth - 1) or self.leaf(dims)
+
+    def unary(self, dims, depth):
+        return [self.random.choice(UNARY), self.node(dims, depth)]
+
+    def binary(self, dims, depth):
+        return [self.random.choice(BINARY), self.node(dims, depth), self.node(dims, depth)]
+
+    def select(self, dims, depth):
+        return ["select", *(self.node(dims, depth) for _ in range(3))]
+
+    def constant(self, dims, depth):
+        return ["constant", self.node(dims, depth), value(self.random)]
+
+    def broadcast(self, dims, depth):
+        counts, below = [], []
+        for it in dims:
+            parts = [part for part in range(1, it + 1) if it % part == 0] or [0]
+            below.append(self.random.choice(parts))
+            counts.append(it // below[-1] if it else self.random.randint(1, 4))
+        return ["broadcast", self.node(below, depth), counts]
+
+    def slice(self, dims, depth):
+        offsets, below = [], []
+        for it in dims:
+            offsets.append(self.random.choice([0, 0, 1, 2]))
+            below.append(it + offsets[-1] + self.random.choice([0, 0, 1]))
+        return ["slice", self.node(below, depth), offsets, dims] if self.fits(below) else None
+
+    def shuffle(self, dims, depth):
+        order = self.random.sample(range(len(dims)), len(dims))
+        below = [dims[order.index(axis)] for axis in range(len(dims))]
+        return ["shuffle", self.node(below, depth), order]
+
+    def reshape(self, dims, depth):
+        places, below = math.prod(dims), []
+        while len(below) < MOST_RANK - 1 and self.random.random() < 0.6:
+            parts = [it for it in range(1, places + 1) if places % it == 0]
+            below.append(self.random.choice(parts or [self.dimension()]))
+            places = places // below[-1] if below[-1] else 0
+        below.insert(self.random.randint(0, len(below)), places)
+        return ["reshape", self.node(below, depth), dims] if self.fits(below) else None
+
+    def chip(self, dims, depth):
+        axis, there = self.random.randint(0, len(dims)), self.random.randint(1, 4)
+        below = [*dims[:axis], there, *dims[axis:]]
+        if not self.fits(below):
+            return None
+        return ["chip", self.node(below, depth), self.random.randrange(there), axis]
+
+    def reverse(self, dims, depth):
+        flags = [self.random.random() < 0.5 for _ in dims]
+        return ["reverse", self.node(dims, depth), flags]
+
+    def woven(self, kept, more):
+        """Dims of both lists in some order, and the axes of those of the second, in their order."""
+        below = [(it, None) for it in kept]
+        for number, it in enumerate(more):
+            below.insert(self.random.randint(0, len(below)), (it, number))
+        axes = [[mark for _, mark in below].index(number) for number in range(len(more))]
+        # What was kept stays in order, since the others were put in between.
+        return [it for it, _ in below], axes
+
+    def reduction(self, dims, depth):
+        more = [self.dimension() for _ in range(self.random.choice([0, 1, 1, 2, 3]))]
+        below, axes = self.woven(dims, more)
+        if not self.fits(below):
+            return None
+        return [self.random.choice(REDUCTIONS), self.node(below, depth), axes]
+
+    def contraction(self, dims, depth):
+        cut = self.random.randint(0, len(dims))
+        paired = [self.dimension() for _ in range(self.random.choice([0, 1, 1, 1, 2]))]
+        left, firsts = self.woven(dims[:cut], paired)
+        right, seconds = self.woven(dims[cut:], paired)
+        if not (self.fits(left) and self.fits(right)):
+            return None
+        pairs = [list(it) for it in zip(firsts, seconds)]
+        return ["contract", self.node(left, depth), self.node(right, depth), pairs]
+
+
+def request(random):
+    """A valid request, as a JSON value."""
+    grammar = Grammar(random)
+    expr = grammar.node(grammar.dims(), random.randint(1, DEEPEST))
+    while random.random() < 0.2:
+        grammar.leaf(grammar.dims())
+    return {
+        "version": 1,
+        "workers": random.choice([*WORKERS, random.randint(1, 64)]),
+        "block": random.choice([*BLOCKS, random.randint(1, 1_048_576)]),
+        "inputs": grammar.inputs,
+        "expr": expr,
+    }

@@ -1,0 +1,83 @@
+"""The faults and the limits of a request, and the forms of what stands in it: docs/REQUEST.md."""
+
+import math
+
+MOST_BYTES = 16_777_216
+MOST_NESTING = 127
+MOST_PLACES = 1_048_576
+MOST_PRODUCTS = 1_073_741_824
+MOST_BLOCK = 1_048_576
+MOST_NODES = 1_000
+MOST_RANK = 6
+MOST_WORKERS = 64
+MOST_SIZE = 2**63 - 1
+VALUES = range(-(2**63), 2**63)
+WORDS = range(-(2**63), 2**64)
+
+FAULTS = {
+    1: "TooLong",
+    2: "NotJson",
+    3: "BadField",
+    4: "BadVersion",
+    5: "BadWorkers",
+    6: "BadBlock",
+    7: "BadTensor",
+    8: "UnknownInput",
+    9: "UnknownOp",
+    10: "BadArity",
+    11: "BadArgument",
+    12: "ShapeMismatch",
+    13: "OutOfRange",
+    14: "TooLarge",
+}
+FIELDS = {"version", "workers", "block", "inputs", "expr"}
+
+
+class Fault(Exception):
+    """A fault of a text, by its number."""
+
+    def __init__(self, number):
+        super().__init__(number)
+        self.number = number
+
+
+def need(holds, number):
+    """The fault of this number, unless something holds."""
+    if not holds:
+        raise Fault(number)
+
+
+def is_whole(value, least, most):
+    """Whether a JSON value is a whole number of a range."""
+    return type(value) is int and least <= value <= most
+
+
+def is_list_of(value, is_item):
+    return isinstance(value, list) and all(map(is_item, value))
+
+
+def is_size(value):
+    return is_whole(value, 0, MOST_SIZE)
+
+
+def is_value(value):
+    return is_whole(value, VALUES.start, VALUES.stop - 1)
+
+
+def is_pair(value):
+    return is_list_of(value, is_size) and len(value) == 2
+
+
+def are_legal(dims):
+    """Whether a tensor may have these dims: a 0 counts as 1."""
+    return len(dims) <= MOST_RANK and math.prod(max(it, 1) for it in dims) <= MOST_PLACES
+
+
+# The forms of arguments.
+FORMS = {
+    "size": is_size,
+    "sizes": lambda it: is_list_of(it, is_size),
+    "pairs": lambda it: is_list_of(it, is_pair),
+    "flags": lambda it: is_list_of(it, lambda flag: isinstance(flag, bool)),
+    "value": is_value,
+}

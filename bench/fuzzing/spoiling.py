@@ -1,0 +1,186 @@
+"""Requests that are nearly valid, texts of requests, and bytes that are spoilt."""
+
+import json
+
+# What a part of a request may be replaced by.
+JUNK = [None, True, False, 0, 1, -1, 2, 6, 7, 63, 64, 65, 127, 1_048_576, 1_048_577, 2**31, 2**32]
+JUNK += [2**63 - 1, 2**63, 2**64 - 1, 2**64, -(2**63), -(2**63) - 1, 1.0, 0.5, 1e300, "", "a", "b"]
+JUNK += [[], {}, [0], [1], [[]], [0, 0], [[0, 0]], [True], ["a"], ["neg", "a"], ["add", "a"]]
+JUNK += [["div"], {"a": 1}, {"dims": [], "data": [5]}, {"dims": [0], "data": []}]
+JUNK += [{"dims": [1] * 7, "data": [1]}]
+ENDS = [0, 1, 5, 6, 7, 1_024, 1_048_576, 1_048_577, 2**63 - 1, 2**63]
+WORDS = ["neg", "add", "select", "constant", "broadcast", "slice", "shuffle", "reshape", "chip"]
+WORDS += ["reverse", "sum", "prod", "all", "contract", "div", "Add", "stride", "pad", "concat"]
+WORDS += ["convolve", "version", "workers", "block", "inputs", "expr", "dims", "data", "x"]
+ODD_NUMBERS = ["1.0", "1e0", "-0", "0.0", "1E2", "10e-1", "18446744073709551616", "1e400"]
+ODD_NUMBERS += ["-1e-400", "01", "+1", "1.", ".5", "--1", "1e", "0x10", "NaN", "Infinity"]
+ODD_NUMBERS += ["9" * 400]
+BYTES = [0x00, 0x0A, 0x20, 0x22, 0x2C, 0x2D, 0x30, 0x3A, 0x5B, 0x5C, 0x5D, 0x7B, 0x7D, 0x7F, 0x80]
+BYTES += [0xC0, 0xE2, 0xED, 0xF4, 0xFE, 0xFF]
+
+
+class Odd(float):
+    """A number that is written as this text."""
+
+    def __new__(cls, text):
+        made = super().__new__(cls)
+        made.text = text
+        return made
+
+
+def places_in(value, inside=()):
+    """The ways down to all parts of a value that stand in a list or an object."""
+    if isinstance(value, (list, dict)):
+        for key in range(len(value)) if isinstance(value, list) else list(value):
+            yield (*inside, key)
+            yield from places_in(value[key], (*inside, key))
+
+
+def changed(random, old, whole):
+    """Something in place of a part of a request: a neighbour, another part, or of another kind."""
+    kind = random.random()
+    if kind < 0.15 or isinstance(old, bool) or old is None:
+        return random.choice(JUNK)
+    if isinstance(old, int):
+        if kind < 0.35:
+            return Odd(random.choice(ODD_NUMBERS))
+        return random.choice([old + 1, old - 1, old - 1, -old, old * 2, *ENDS])
+    if isinstance(old, str) and kind < 0.6:
+        return random.choice([random.choice(WORDS), old + random.choice("ab ")])
+    if isinstance(old, list) and old and kind < 0.6:
+        at = random.randrange(len(old))
+        return random.choice([old[:at] + old[at + 1 :], old[: at + 1] + old[at:], old[::-1]])
+    way = random.choice(list(places_in(whole)))
+    for key in way:
+        whole = whole[key]
+    return whole
+
+
+def part_to_change(random, request):
+    """The way down to a part: any, one of the tree, or a number or a list of numbers there."""
+    ways = list(places_in(request))
+    in_tree = [way for way in ways if way[0] == "expr"]
+    numbers = [way for way in in_tree if is_number(request, way)]
+    return random.choice(random.choice([it for it in (ways, in_tree, numbers) if it] or [[()]]))
+
+
+def is_number(value, way):
+    """Whether a number stands at the end of a way, or a list of them."""
+    for key in way:
+        value = value[key]
+    if isinstance(value, list):
+        return all(type(it) in (int, bool, list) for it in value)
+    return type(value) in (int, bool)
+
+
+def nearly(random, request):
+    """A request of which up to three parts were changed, left out or put in."""
+    request = json.loads(json.dumps(request))
+    for _ in range(random.choice([1, 1, 1, 2, 3])):
+        way = part_to_change(random, request)
+        if not way:
+            return changed(random, request, [request])
+        holder = request
+        for key in way[:-1]:
+            holder = holder[key]
+        kind = random.random()
+        if kind < 0.1:
+            del holder[way[-1]]
+        elif kind < 0.2 and isinstance(holder, dict):
+            holder[random.choice(WORDS)] = random.choice(JUNK)
+        else:
+            # A copy, since a part may come from inside or outside of itself.
+            holder[way[-1]] = copied(changed(random, holder[way[-1]], request))
+    return request
+
+
+def copied(value):
+    if isinstance(value, list):
+        return [copied(it) for it in value]
+    return {key: copied(it) for key, it in value.items()} if isinstance(value, dict) else value
+
+
+class Writer:
+    """Writes a JSON value as text, in the plain way or in one of the many others."""
+
+    def __init__(self, random=None):
+        self.random = random
+        chances = {"spaced": 0.2, "escaped": 0.1, "shuffled": 0.5, "doubled": 0.05, "ascii": 0.5}
+        for name, chance in chances.items():
+            setattr(self, name, random is not None and random.random() < chance)
+
+    def space(self):
+        if not self.spaced:
+            return ""
+        count = self.random.choice([0, 0, 1, 2])
+        return "".join(self.random.choice(" \t\n\r") for _ in range(count))
+
+    def text(self, value):
+        return self.space() + self.bare(value) + self.space()
+
+    def bare(self, value):
+        if isinstance(value, str):
+            return self.string(value)
+        if isinstance(value, Odd):
+            return value.text
+        if isinstance(value, list):
+            return "[" + (",".join(map(self.text, value)) or self.space()) + "]"
+        if isinstance(value, dict):
+            return "{" + (",".join(self.members(value)) or self.space()) + "}"
+        return json.dumps(value)
+
+    def members(self, value):
+        pairs = list(value.items())
+        if self.shuffled:
+            self.random.shuffle(pairs)
+        if self.doubled and pairs:
+            # Of a key that stands twice the last one counts, so this changes nothing.
+            at = self.random.randrange(len(pairs))
+            pairs.insert(self.random.randint(0, at), (pairs[at][0], self.random.choice(JUNK)))
+        keys = [self.space() + self.string(key) + self.space() for key, _ in pairs]
+        return [f"{key}:{self.text(it)}" for key, (_, it) in zip(keys, pairs)]
+
+    def string(self, value):
+        if not self.escaped:
+            return json.dumps(value, ensure_ascii=self.ascii)
+        return '"' + "".join(map(self.letter, value)) + '"'
+
+    def letter(self, letter):
+        if self.random.random() < 0.5:
+            return json.dumps(letter, ensure_ascii=False)[1:-1]
+        units = letter.encode("utf-16-be")
+        parts = [units[at : at + 2].hex() for at in range(0, len(units), 2)]
+        return "".join("\\u" + self.random.choice([it, it.upper()]) for it in parts)
+
+
+def written(random, value):
+    """The bytes of a JSON value."""
+    return Writer(random).text(value).encode("utf-8")
+
+
+def spoilt(random, text):
+    """Bytes of which some were turned, cut, doubled, or put in."""
+    text = bytearray(text)
+    for _ in range(random.choice([1, 1, 1, 2, 4])):
+        at = random.randint(0, len(text))
+        to = min(len(text), at + random.choice([1, 1, 2, 3, 8, 50]))
+        kind = random.randrange(9)
+        digits = [it for it, byte in enumerate(text) if 0x30 <= byte <= 0x39]
+        if kind == 8 and digits:
+            text[random.choice(digits)] = random.randrange(0x30, 0x3A)
+        elif kind == 0:
+            del text[at:]
+        elif kind == 1:
+            del text[at:to]
+        elif kind == 2:
+            text[at:at] = text[at:to]
+        elif kind == 3:
+            text[at:at] = bytes([random.choice(BYTES)])
+        elif kind == 4:
+            other = random.randint(0, len(text))
+            text[at:to] = text[other : other + random.choice([1, 2, 8])]
+        elif kind == 5:
+            text[at:to] = random.choice(ODD_NUMBERS).encode()
+        elif at < len(text):
+            text[at] = random.choice(BYTES) if kind == 6 else text[at] ^ (1 << random.randrange(8))
+    return bytes(text)

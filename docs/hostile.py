@@ -1,0 +1,86 @@
+"""What docs/refusals, docs/streams and docs/texts share: the program, some requests, and the
+library that refuses memory and threads."""
+
+import os
+import signal
+import shutil
+import struct
+import subprocess
+import sys
+import tempfile
+
+TOP = os.path.dirname(os.path.dirname(os.path.abspath(__file__)))
+PROGRAM = os.path.join(TOP, "crates", "tensor_run", "out", "tensor_run")
+REFUSALS = os.path.join(TOP, "docs", "refusals.c")
+COMPILERS = ("cc", "gcc", "clang")
+COUNTS = struct.Struct("4Q")
+SECONDS = 20
+# No script here takes longer.
+MOST_SECONDS = 900
+
+NO_MEMORY = "error 15 NoMemory\n"
+
+
+def request(inputs, expr, version=1, workers=2, block=4):
+    """The text of a request."""
+    return (
+        f'{{"version":{version},"workers":{workers},"block":{block},'
+        f'"inputs":{{{inputs}}},"expr":{expr}}}'
+    ).encode()
+
+
+SCALAR = '"a":{"dims":[],"data":[5]}'
+MATRICES = '"l":{"dims":[2,3],"data":[1,4,2,5,3,6]},"r":{"dims":[3,2],"data":[1,3,5,2,4,6]}'
+PRODUCT = '["contract","l","r",[[1,0]]]'
+PRODUCT_LINE = '{"data":[22,49,28,64],"dims":[2,2]}\n'
+
+
+def need_program():
+    """Sees that the program is built, and that this script ends."""
+    signal.alarm(MOST_SECONDS)
+    if not os.access(PROGRAM, os.X_OK):
+        sys.exit(f"{sys.argv[0]}: the program isn't built: ./run < examples/add.json builds it")
+
+
+def status_of(line):
+    return 0 if line.startswith("{") else 1
+
+
+def run(text, env=None, seconds=SECONDS):
+    """Standard output, standard error and the status of the program; a signal is a number below 0,
+    and None stands for no end in time."""
+    try:
+        ran = subprocess.run(
+            [PROGRAM], input=text, env=env or {}, capture_output=True, timeout=seconds, check=False
+        )
+    except subprocess.TimeoutExpired:
+        return "", f"no end in {seconds} s", None
+    return ran.stdout.decode(), ran.stderr.decode(), ran.returncode
+
+
+class Refusals:
+    """The library of docs/refusals.c, and what it counted in the last run."""
+
+    def __init__(self):
+        compiler = next(filter(shutil.which, COMPILERS), None)
+        if compiler is None:
+            sys.exit(f"{sys.argv[0]}: there is no C compiler here, of {', '.join(COMPILERS)}")
+        self.room = tempfile.TemporaryDirectory()
+        self.library = os.path.join(self.room.name, "refusals.so")
+        self.counts = os.path.join(self.room.name, "counts")
+        words = [compiler, "-O1", "-shared", "-fPIC", "-o", self.library, REFUSALS, "-ldl"]
+        if subprocess.run(words, check=False).returncode:
+            sys.exit(f"{sys.argv[0]}: {' '.join(words)} failed")
+
+    def run(self, text, **settings):
+        """A run with these settings, as `memory=3` for REFUSE_MEMORY."""
+        with open(self.counts, "wb") as file:
+            file.write(bytes(COUNTS.size))
+        env = {"LD_PRELOAD": self.library, "REFUSE_COUNTS": self.counts}
+        for name, value in settings.items():
+            env[f"REFUSE_{name.upper()}"] = str(value)
+        ran = run(text, env)
+        with open(self.counts, "rb") as file:
+            counts = COUNTS.unpack(file.read())
+        self.requests, self.refused, self.starts, self.starts_refused = counts
+        return ran
