@@ -1,0 +1,131 @@
+"""The requests that bench/eigen/run times: texts by name, workers and block.
+
+Each ends in a sum, or is a sum, where its answer would be long; so what is timed is starting,
+reading, making the operands and the work itself, and little printing. Those of `numbers` are the
+other way round: all reading and printing. The forms stand in requests.cpp too, which answers no
+others.
+"""
+
+import random
+
+BLOCK = 4096
+SQUARE = '["broadcast","a",[{0},{0}]]'
+LINE = '["broadcast","a",[{0}]]'
+MOST_PLACES = 1_048_576
+
+
+def numbers(count, seed, bound=2**63):
+    """Numbers from -bound up to bound, the same at each call."""
+    source = random.Random(seed)
+    return [source.randrange(-bound, bound) for _ in range(count)]
+
+
+def listed(items):
+    return "[" + ",".join(map(str, items)) + "]"
+
+
+def text(inputs, expr, workers):
+    members = ",".join(
+        f'"{name}":{{"dims":{listed(dims)},"data":{listed(values)}}}'
+        for name, (dims, values) in inputs.items()
+    )
+    return (
+        f'{{"version":1,"workers":{workers},"block":{BLOCK},'
+        f'"inputs":{{{members}}},"expr":{expr}}}'
+    )
+
+
+def nest(count, front, inner, back):
+    return front * count + inner + back * count
+
+
+def squares(times, expr, lowest_bit=0):
+    """A request over squares of 64 by 64 numbers, repeated so often along both axes."""
+    a, b = SQUARE.format(times), SQUARE.format(times).replace('"a"', '"b"')
+    inputs = {"a": ([64, 64], [it | lowest_bit for it in numbers(4096, 3)])}
+    if "{b}" in expr:
+        inputs["b"] = [64, 64], numbers(4096, 4)
+    return inputs, expr.replace("{a}", a).replace("{b}", b)
+
+
+def cubes(dims, times, expr):
+    count = dims[0] * dims[1] * dims[2]
+    return {"a": (dims, numbers(count, 5))}, expr.replace(
+        "{a}", f'["broadcast","a",{listed(times)}]'
+    )
+
+
+def whole(expr):
+    return f'["sum",{expr},[0,1]]'
+
+
+def added(count, bound=2**63):
+    """Two lists of so many numbers, added and printed."""
+    inputs = {"a": ([count], numbers(count, 1, bound)), "b": ([count], numbers(count, 2, bound))}
+    return inputs, '["add","a","b"]'
+
+
+def worked_out(places):
+    """(x + x) * x over so many places, added up; the text has at most 64 numbers."""
+    count = min(places, 64)
+    a = LINE.format(places // count)
+    return {"a": ([count], numbers(count, 6))}, f'["sum",["mul",["add",{a},{a}],{a}],[0]]'
+
+
+def nested():
+    return {"a": ([MOST_PLACES], [1] * MOST_PLACES)}, nest(124, '["add","a",', '"a"', "]")
+
+
+CHIP = '["chip",["slice",["reverse",{a},[true,true,false]],[1,1,0],[1023,511,2]],1,2]'
+# What each is, and its inputs and expression.
+REQUESTS = {
+    "numbers-2": ("2 numbers and 2, added", lambda: added(2)),
+    "numbers-40000": ("40,000 numbers and as many, added", lambda: added(40_000)),
+    "numbers-400000": ("400,000 numbers and as many, added", lambda: added(400_000)),
+    "nested-124": ("124 sums of a list, nested", nested),
+    "sums-20": (
+        "20 sums in a chain",
+        lambda: squares(16, whole(nest(20, '["add",', "{a}", ",{a}]"))),
+    ),
+    "products-20": (
+        "20 products in a chain",
+        lambda: squares(16, whole(nest(20, '["mul",', "{a}", ",{a}]"))),
+    ),
+    "select": (
+        "a select over a comparison",
+        lambda: squares(16, whole('["select",["lt",{a},{b}],{a},{b}]')),
+    ),
+    "sum": ("the sum of all", lambda: squares(16, whole("{a}"))),
+    "sums-over-the-first": ("sums over the first axis", lambda: squares(16, '["sum",{a},[0]]')),
+    "sums-over-the-second": ("sums over the second axis", lambda: squares(16, '["sum",{a},[1]]')),
+    # Of odd numbers: others would soon have the product 0.
+    "product": ("the product of all", lambda: squares(16, '["prod",{a},[0,1]]', lowest_bit=1)),
+    "inner-product": (
+        "an inner product",
+        lambda: squares(16, '["contract",{a},{b},[[0,0],[1,1]]]'),
+    ),
+    "shuffle": (
+        "a shuffle of three axes",
+        lambda: cubes([10] * 3, [10] * 3, '["sum",["shuffle",{a},[2,0,1]],[0,1,2]]'),
+    ),
+    "steps-50": (
+        "50 tiny steps",
+        lambda: squares(1, whole(nest(50, '["sum",', '"a"', ",[]]"))),
+    ),
+    "chip": (
+        "a chip of a slice of a reverse",
+        lambda: cubes([64, 64, 1], [16, 8, 2], whole(CHIP)),
+    ),
+    "contraction-512": (
+        "a contraction of 512 by 512 by 512",
+        lambda: squares(8, whole('["contract",{a},{a},[[1,0]]]')),
+    ),
+    "contraction-1024": (
+        "a contraction of 1,024 by 1,024 by 1,024",
+        lambda: squares(16, whole('["contract",{a},{a},[[1,0]]]')),
+    ),
+}
+# The same for each size: all reading and printing, and all work.
+SIZES = [4**power for power in range(11)]
+PRINTED = {size: lambda size=size: added(size, 100_000) for size in SIZES}
+WORKED = {size: lambda size=size: worked_out(size) for size in SIZES}
