@@ -41,8 +41,8 @@ pub fn shards_give_the_reduction()
 
 /// The same of a contraction's value, whose shards are sums.
 pub fn shards_give_the_contraction()
-    ensures { (pairs : List (ℕ × ℕ)) (ds es : List ℕ) (a b : List ℕ → ℤ) (is : List ℕ) (block : ℕ)
-        → 0 < block
+    ensures { (pairs : List (ℕ × ℕ)) (ds es : List ℕ) (a b : List ℕ → ℤ) (is : List ℕ)
+        (block : ℕ) → 0 < block
         → combination Sum (map (λ s. contracted_part pairs ds es a b is s.0 (s.1 - s.0))
         (shards_of (size_of (dims_at (firsts pairs) ds)) block))
         ≡ contracted pairs ds es a b is }
