@@ -52,11 +52,11 @@ fn faults_by_number(rt: HostRuntime) {
         (1, 0, 0, Some(ForFault::BadBlock)),
         (1, 2_147_483_648, 1, Some(ForFault::BadBlock)),
         (0, 8, 4, bad_workers),
-        (65, 8, 4, bad_workers),
+        (257, 8, 4, bad_workers),
         (0, 8, 8, bad_workers),
         (0, 0, 4, bad_workers),
         (1, 0, 4, None),
-        (64, 0, 1, None),
+        (256, 0, 1, None),
         (1, 8, 8, None),
     ] {
         let fault = fault_of(&rt, rt.alloc(), workers, n, block);

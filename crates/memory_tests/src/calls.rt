@@ -176,7 +176,7 @@ fn two_rows<'h, R: Wait, Q: Rows<u64, &'h Heap>>(
 
 // Rows that are too many.
 fn too_many_rows<'h, Q: Rows<u64, &'h Heap>>(heap: &'h Heap) -> Result<bool, RowsFault> {
-    let (_rows, _seats) = Q::open(heap, 65, 1)?;
+    let (_rows, _seats) = Q::open(heap, 257, 1)?;
     Ok(false)
 }
 

@@ -89,7 +89,7 @@ fn faults_of_range_come_before_memory(rt: HostRuntime) {
         (1, 0, ForFault::BadBlock),
         (0, 0, ForFault::BadBlock),
         (0, BLOCK, bad_workers),
-        (65, BLOCK, bad_workers),
+        (257, BLOCK, bad_workers),
     ] {
         let none = Sparing::new(rt.alloc(), 0);
         let answer = halves(&rt, &none, workers, block);

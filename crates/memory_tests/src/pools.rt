@@ -156,7 +156,7 @@ fn each_allocation_after_an_opening(rt: HostRuntime) -> Result<(), Fail> {
 #[test]
 fn workers_out_of_range_come_before_memory(rt: HostRuntime) -> Result<(), Fail> {
     for entry in ENTRIES {
-        for workers in [0, 65] {
+        for workers in [0, 257] {
             let ran = run_with(&rt, rt.alloc(), 0, entry, workers)?;
             let found = (ran.fault, ran.calls, ran.steps);
             assert_eq!(rt; found, (Some(PoolFault::BadWorkers), 0, 0), "{entry:?}");

@@ -78,11 +78,11 @@ fn full_row_gives_the_job_back(rt: HostRuntime) -> Result<(), Fail> {
 fn the_most_rows(rt: HostRuntime) -> Result<(), Fail> {
     assert_eq!(rt; RowsFault::TooManyRows as u8, 1);
     assert_eq!(rt; RowsFault::NoMemory as u8, 2);
-    let too_many = LockedRows::<u8>::open(rt.alloc(), 65, 1);
+    let too_many = LockedRows::<u8>::open(rt.alloc(), 257, 1);
     assert_eq!(rt; too_many.err(), Some(RowsFault::TooManyRows));
-    let (_rows, seats) = LockedRows::<u8>::open(rt.alloc(), 64, 1)?;
-    assert_eq!(rt; seats.len(), 65);
+    let (_rows, seats) = LockedRows::<u8>::open(rt.alloc(), 256, 1)?;
+    assert_eq!(rt; seats.len(), 257);
     let text = format!(in rt.alloc(); "{}, {}", RowsFault::TooManyRows, RowsFault::NoMemory)?;
-    assert_eq!(rt; text.as_str(), "more than 64 rows, out of memory");
+    assert_eq!(rt; text.as_str(), "more than 256 rows, out of memory");
     Ok(())
 }

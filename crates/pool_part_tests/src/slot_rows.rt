@@ -60,10 +60,10 @@ fn both_ends(rt: HostRuntime) -> Result<(), Fail> {
 
 #[test]
 fn the_most_rows(rt: HostRuntime) -> Result<(), Fail> {
-    let too_many = SlotRows::<u8>::open(rt.alloc(), 65, 1);
+    let too_many = SlotRows::<u8>::open(rt.alloc(), 257, 1);
     assert_eq!(rt; too_many.err(), Some(RowsFault::TooManyRows));
-    let (rows, seats) = SlotRows::<u8>::open(rt.alloc(), 64, 1)?;
-    assert_eq!(rt; seats.len(), 65);
+    let (rows, seats) = SlotRows::<u8>::open(rt.alloc(), 256, 1)?;
+    assert_eq!(rt; seats.len(), 257);
     rows_may_be_shared(&rows);
     Ok(())
 }

@@ -17,13 +17,13 @@ const LEAF: Tree = Tree {
 /// Numbers of workers, the rows of their partitions, and why no pool is opened.
 const OPENINGS: [(u32, &[(u32, u32)], Option<PoolFault>); 8] = [
     (0, &[], Some(PoolFault::BadWorkers)),
-    (65, &[], Some(PoolFault::BadWorkers)),
+    (257, &[], Some(PoolFault::BadWorkers)),
     (u32::MAX, &[], Some(PoolFault::BadWorkers)),
     (2, &[(0, 2)], Some(PoolFault::BadPartition)),
     (2, &[(0, 1)], Some(PoolFault::BadPartition)),
     (2, &[(2, 4), (2, 4)], Some(PoolFault::BadPartition)),
     (1, &[], None),
-    (64, &[], None),
+    (256, &[], None),
 ];
 
 // Both ways to open a pool end with the same fault.

@@ -150,14 +150,14 @@ fn pool_faults_over_slots(rt: HostRuntime) -> Result<(), Fail> {
     for (count, partitions, fault) in [
         (0, 0, workers),
         (0, 1, workers),
-        (65, 0, workers),
+        (257, 0, workers),
         (u32::MAX, 2, workers),
         (1, 1, partition),
         (2, 1, partition),
         (2, 3, partition),
         (1, 0, None),
         (2, 2, None),
-        (64, 0, None),
+        (256, 0, None),
     ] {
         assert_eq!(rt; fault_of(&rt, rt.alloc(), count, partitions)?, fault);
     }

@@ -25,11 +25,11 @@ pub(crate) fn setup_of(
 /// Numbers of workers, the rows of their partitions, and whether a pool takes them.
 const SETUPS: [(u32, &[(u32, u32)], Result<(), PoolFault>); 11] = [
     (1, &[], Ok(())),
-    (64, &[], Ok(())),
+    (256, &[], Ok(())),
     (2, &[(0, 1), (1, 2)], Ok(())),
     (2, &[(0, 2), (0, 2)], Ok(())),
     (0, &[], Err(PoolFault::BadWorkers)),
-    (65, &[], Err(PoolFault::BadWorkers)),
+    (257, &[], Err(PoolFault::BadWorkers)),
     (0, &[(0, 1)], Err(PoolFault::BadWorkers)),
     (2, &[(0, 1)], Err(PoolFault::BadPartition)),
     (1, &[(0, 1), (0, 1)], Err(PoolFault::BadPartition)),

@@ -96,8 +96,8 @@ fn pools_of_two_workers(rt: HostRuntime) -> Result<(), Fail> {
     open_often(&rt, rt.alloc(), 2, 10_000)
 }
 
-// Fewer, since starting 64 threads takes longest.
+// Fewer, since starting 256 threads takes longest.
 #[test]
 fn pools_of_the_most_workers(rt: HostRuntime) -> Result<(), Fail> {
-    open_often(&rt, rt.alloc(), 64, 1000)
+    open_often(&rt, rt.alloc(), 256, 100)
 }

@@ -3,7 +3,7 @@ use Rattle.std.specs.Prelude.{ℕ}
 
 -- the most rows
 abbrev pub most_rows : ℕ
-most_rows = 64
+most_rows = 256
 
 -- the most jobs of one row
 abbrev pub most_jobs : ℕ

@@ -10,7 +10,7 @@ use std::sync::Wait;
 use thiserror::Error;
 
 /// How many rows there are at most.
-pub const MOST_ROWS: u16 = 64;
+pub const MOST_ROWS: u16 = 256;
 
 /// Why rows were not made.
 #[derive(Clone, Copy, Debug, PartialEq, Eq, Hash, Error)]
