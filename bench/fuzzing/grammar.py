@@ -3,7 +3,8 @@ it is to have, from the root down."""
 
 import math
 
-MOST_RANK = 6
+from .rules import MOST_SIZE, VERSIONS
+
 # How many places a part has at most, mostly and now and then; how deep an expression goes.
 FEW, MANY = 64, 2_500
 OF_MANY = 0.005
@@ -16,7 +17,7 @@ NAMES += ["日本", "\U0001f600", "dims", "sum of all", "\ufeff", "\uffff", "/",
 
 SIZES = [0, 1, 1, 1, 2, 2, 2, 2, 2, 3, 3, 3, 3, 4, 4, 5, 7]
 LARGE_SIZES = [6, 8, 9, 11, 12, 16, 17, 24, 33, 40, 64, 100, 1_025, 2_049]
-WORKERS = [1, 1, 2, 2, 2, 3, 3, 4, 4, 8, 64]
+WORKERS = [1, 1, 2, 2, 2, 3, 3, 4, 4, 8]
 BLOCKS = [1, 1, 2, 3, 4, 7, 16, 64, 1_048_576]
 
 UNARY = ["neg", "abs", "square", "not"]
@@ -26,6 +27,7 @@ REDUCTIONS = ["sum", "prod", "maximum", "minimum", "all", "any"]
 # The calls of a grammar that make an operation, the more often the more operations they stand for.
 MAKERS = ["unary"] * 2 + ["binary"] * 5 + ["select", "constant", "broadcast", "slice", "shuffle"]
 MAKERS += ["reshape", "chip", "reverse"] + ["reduction"] * 4 + ["contraction"] * 3
+MAKERS_OF = {1: MAKERS, 2: MAKERS + ["stride", "pad", "concat", "convolution"] * 2}
 
 
 def value(random):
@@ -41,8 +43,8 @@ def value(random):
 class Grammar:
     """The inputs of one request, which grow as its expression does."""
 
-    def __init__(self, random):
-        self.random, self.inputs = random, {}
+    def __init__(self, random, version):
+        self.random, self.version, self.inputs = random, version, {}
         self.places = MANY if random.random() < OF_MANY else FEW
         self.sizes = SIZES + LARGE_SIZES * (self.places == MANY)
 
@@ -52,7 +54,7 @@ class Grammar:
     def dims(self):
         """Dims of no more places than there may be."""
         dims = []
-        while len(dims) < MOST_RANK and self.random.random() < 0.7:
+        while len(dims) < self.version.most_rank and self.random.random() < 0.7:
             dims.append(self.dimension())
         while not self.fits(dims):
             dims[self.random.randrange(len(dims))] = 1
@@ -71,13 +73,14 @@ class Grammar:
         return name
 
     def fits(self, dims):
-        return len(dims) <= MOST_RANK and math.prod(max(it, 1) for it in dims) <= self.places
+        is_rank = len(dims) <= self.version.most_rank
+        return is_rank and math.prod(max(it, 1) for it in dims) <= self.places
 
     def node(self, dims, depth):
         """An expression of these dims."""
         if depth == 0 or self.random.random() < 0.1:
             return self.leaf(dims)
-        maker = self.random.choice(MAKERS)
+        maker = self.random.choice(MAKERS_OF[self.version.number])
         return getattr(self, maker)(list(dims), depth - 1) or self.leaf(dims)
 
     def unary(self, dims, depth):
@@ -114,7 +117,7 @@ class Grammar:
 
     def reshape(self, dims, depth):
         places, below = math.prod(dims), []
-        while len(below) < MOST_RANK - 1 and self.random.random() < 0.6:
+        while len(below) < self.version.most_rank - 1 and self.random.random() < 0.6:
             parts = [it for it in range(1, places + 1) if places % it == 0]
             below.append(self.random.choice(parts or [self.dimension()]))
             places = places // below[-1] if below[-1] else 0
@@ -131,6 +134,41 @@ class Grammar:
     def reverse(self, dims, depth):
         flags = [self.random.random() < 0.5 for _ in dims]
         return ["reverse", self.node(dims, depth), flags]
+
+    def stride(self, dims, depth):
+        steps, below = [], []
+        for it in dims:
+            steps.append(self.random.choice([1, 1, 2, 3] + [7, MOST_SIZE] * (it < 2)))
+            few = min(steps[-1], 4)
+            below.append((it - 1) * steps[-1] + self.random.randint(1, few) if it else 0)
+        return ["stride", self.node(below, depth), steps] if self.fits(below) else None
+
+    def pad(self, dims, depth):
+        pairs, below = [], []
+        for it in dims:
+            there = self.random.choice([it, self.random.randint(0, it)])
+            before = self.random.randint(0, it - there)
+            pairs.append([before, it - there - before])
+            below.append(there)
+        return ["pad", self.node(below, depth), pairs]
+
+    def concat(self, dims, depth):
+        if not dims:
+            return None
+        axis = self.random.randrange(len(dims))
+        cut = self.random.randint(0, dims[axis])
+        parts = [[*dims[:axis], it, *dims[axis + 1 :]] for it in (cut, dims[axis] - cut)]
+        return ["concat", *(self.node(it, depth) for it in parts), axis]
+
+    def convolution(self, dims, depth):
+        there = [axis for axis, it in enumerate(dims) if it]
+        axes = self.random.sample(there, min(len(there), self.random.choice([0, 1, 1, 2, 3])))
+        kernel, below = [self.random.choice([1, 1, 2, 2, 3, 5]) for _ in axes], list(dims)
+        for axis, it in zip(axes, kernel):
+            below[axis] += it - 1
+        if not (self.fits(kernel) and self.fits(below)):
+            return None
+        return ["convolve", self.node(below, depth), self.node(kernel, depth), axes]
 
     def woven(self, kept, more):
         """Dims of both lists in some order, and the axes of those of the second, in their order."""
@@ -161,13 +199,15 @@ class Grammar:
 
 def request(random):
     """A valid request, as a JSON value."""
-    grammar = Grammar(random)
+    version = random.choice(list(VERSIONS.values()))
+    grammar = Grammar(random, version)
     expr = grammar.node(grammar.dims(), random.randint(1, DEEPEST))
     while random.random() < 0.2:
         grammar.leaf(grammar.dims())
+    most = version.most_workers
     return {
-        "version": 1,
-        "workers": random.choice([*WORKERS, random.randint(1, 64)]),
+        "version": version.number,
+        "workers": random.choice([*WORKERS, most, random.randint(1, most)]),
         "block": random.choice([*BLOCKS, random.randint(1, 1_048_576)]),
         "inputs": grammar.inputs,
         "expr": expr,

@@ -44,12 +44,12 @@ class Tensor:
         return self.values[place(self.dims, index)]
 
 
-# Operations. Each has a function of its operands' dims and its arguments, which answers the result
-# dims or raises the fault, and one of its operands, arguments and result dims, which answers the
-# result.
+# Operations. Each has a function of the version, its operands' dims and its arguments, which
+# answers the result dims or raises the fault, and one of the result dims, its operands and its
+# arguments, which answers the result.
 
 
-def same_dims(*dims):
+def same_dims(_version, *dims):
     need(all(it == dims[0] for it in dims), 12)
     return dims[0]
 
@@ -61,7 +61,7 @@ def pointwise(function):
     return same_dims, work
 
 
-def constant_dims(dims, _value):
+def constant_dims(_version, dims, _value):
     return dims
 
 
@@ -69,14 +69,14 @@ def constant(dims, _x, value):
     return Tensor.of(dims, lambda _index: value)
 
 
-def broadcast_dims(dims, counts):
+def broadcast_dims(version, dims, counts):
     need(len(counts) == len(dims), 12)
     need(all(it >= 1 for it in counts), 13)
-    return legal([it * count for it, count in zip(dims, counts)])
+    return legal(version, [it * count for it, count in zip(dims, counts)])
 
 
-def legal(dims):
-    need(are_legal(dims), 14)
+def legal(version, dims):
+    need(are_legal(version, dims), 14)
     return dims
 
 
@@ -84,7 +84,7 @@ def broadcast(dims, x, _counts):
     return Tensor.of(dims, lambda index: x.at([i % d for i, d in zip(index, x.dims)]))
 
 
-def slice_dims(dims, offsets, extents):
+def slice_dims(_version, dims, offsets, extents):
     need(len(offsets) == len(extents) == len(dims), 12)
     need(all(o + e <= d for o, e, d in zip(offsets, extents, dims)), 13)
     return extents
@@ -94,7 +94,7 @@ def slice_of(dims, x, offsets, _extents):
     return Tensor.of(dims, lambda index: x.at([i + o for i, o in zip(index, offsets)]))
 
 
-def shuffle_dims(dims, order):
+def shuffle_dims(_version, dims, order):
     need(len(order) == len(dims), 12)
     need(sorted(order) == list(range(len(dims))), 13)
     return [dims[axis] for axis in order]
@@ -104,8 +104,8 @@ def shuffle(dims, x, order):
     return Tensor.of(dims, lambda index: x.at([index[order.index(k)] for k in range(len(dims))]))
 
 
-def reshape_dims(dims, sizes):
-    legal(sizes)
+def reshape_dims(version, dims, sizes):
+    legal(version, sizes)
     need(size(sizes) == size(dims), 12)
     return sizes
 
@@ -114,7 +114,7 @@ def reshape(dims, x, _sizes):
     return Tensor(dims, x.values)
 
 
-def chip_dims(dims, offset, axis):
+def chip_dims(_version, dims, offset, axis):
     need(axis < len(dims), 13)
     need(offset < dims[axis], 13)
     return dims[:axis] + dims[axis + 1 :]
@@ -124,7 +124,7 @@ def chip(dims, x, offset, axis):
     return Tensor.of(dims, lambda index: x.at([*index[:axis], offset, *index[axis:]]))
 
 
-def reverse_dims(dims, flags):
+def reverse_dims(_version, dims, flags):
     need(len(flags) == len(dims), 12)
     return dims
 
@@ -136,6 +136,44 @@ def reverse(dims, x, flags):
     return Tensor.of(dims, lambda index: x.at(turned(index)))
 
 
+def stride_dims(_version, dims, steps):
+    need(len(steps) == len(dims), 12)
+    need(all(it >= 1 for it in steps), 13)
+    return [(it + step - 1) // step for it, step in zip(dims, steps)]
+
+
+def stride(dims, x, steps):
+    return Tensor.of(dims, lambda index: x.at([i * step for i, step in zip(index, steps)]))
+
+
+def pad_dims(version, dims, pairs):
+    need(len(pairs) == len(dims), 12)
+    return legal(version, [before + it + after for it, (before, after) in zip(dims, pairs)])
+
+
+def pad(dims, x, pairs):
+    def value_at(index):
+        inner = [i - before for i, (before, _) in zip(index, pairs)]
+        return x.at(inner) if all(0 <= i < d for i, d in zip(inner, x.dims)) else 0
+
+    return Tensor.of(dims, value_at)
+
+
+def concat_dims(version, first, second, axis):
+    need(len(first) == len(second), 12)
+    need(axis < len(first), 13)
+    need(all(first[k] == second[k] for k in range(len(first)) if k != axis), 12)
+    return legal(version, [*first[:axis], first[axis] + second[axis], *first[axis + 1 :]])
+
+
+def concat(dims, x, y, axis):
+    def value_at(index):
+        past = index[axis] - x.dims[axis]
+        return x.at(index) if past < 0 else y.at([*index[:axis], past, *index[axis + 1 :]])
+
+    return Tensor.of(dims, value_at)
+
+
 def axes_are_there(axes, dims):
     need(all(it < len(dims) for it in axes) and len(set(axes)) == len(axes), 13)
 
@@ -144,7 +182,7 @@ def others(axes, dims):
     return [axis for axis in range(len(dims)) if axis not in axes]
 
 
-def reduced_dims(dims, axes):
+def reduced_dims(_version, dims, axes):
     axes_are_there(axes, dims)
     return [dims[axis] for axis in others(axes, dims)]
 
@@ -172,13 +210,13 @@ def reduction(combine):
     return reduced_dims, work
 
 
-def contract_dims(left, right, pairs):
+def contract_dims(version, left, right, pairs):
     firsts, seconds = [it[0] for it in pairs], [it[1] for it in pairs]
     axes_are_there(firsts, left)
     axes_are_there(seconds, right)
     need(all(left[i] == right[j] for i, j in pairs), 12)
     kept = [left[axis] for axis in others(firsts, left)]
-    dims = legal(kept + [right[axis] for axis in others(seconds, right)])
+    dims = legal(version, kept + [right[axis] for axis in others(seconds, right)])
     need(size(dims) * size([left[axis] for axis in firsts]) <= MOST_PRODUCTS, 14)
     return dims
 
@@ -199,6 +237,27 @@ def contract(dims, x, y, pairs):
     return Tensor.of(dims, value_at)
 
 
+def convolve_dims(_version, dims, kernel, axes):
+    axes_are_there(axes, dims)
+    need(len(kernel) == len(axes), 12)
+    need(all(1 <= k <= dims[axis] for k, axis in zip(kernel, axes)), 13)
+    along = dict(zip(axes, kernel))
+    found = [it - along.get(axis, 1) + 1 for axis, it in enumerate(dims)]
+    need(size(found) * size(kernel) <= MOST_PRODUCTS, 14)
+    return found
+
+
+def convolve(dims, x, kernel, axes):
+    def under(index, it):
+        along = dict(zip(axes, it))
+        return x.at([i + along.get(axis, 0) for axis, i in enumerate(index)])
+
+    def value_at(index):
+        return wrap(sum(under(index, it) * kernel.at(it) for it in index_lists(kernel.dims)))
+
+    return Tensor.of(dims, value_at)
+
+
 LEAST, GREATEST = VALUES.start, VALUES.stop - 1
 
 # By name: how many operands, the forms of the arguments, and both functions.
@@ -211,6 +270,13 @@ OPERATIONS = {
     "chip": (1, ["size", "size"], chip_dims, chip),
     "reverse": (1, ["flags"], reverse_dims, reverse),
     "contract": (2, ["pairs"], contract_dims, contract),
+}
+# Those that version 2 adds.
+ADDED = {
+    "stride": (1, ["sizes"], stride_dims, stride),
+    "pad": (1, ["pairs"], pad_dims, pad),
+    "concat": (2, ["size"], concat_dims, concat),
+    "convolve": (2, ["sizes"], convolve_dims, convolve),
 }
 POINTWISE = {
     "neg": (1, lambda x: -x),
@@ -244,10 +310,13 @@ for _name, (_operands, _function) in POINTWISE.items():
     OPERATIONS[_name] = (_operands, [], *pointwise(_function))
 for _name, _combine in REDUCTIONS.items():
     OPERATIONS[_name] = (1, ["sizes"], *reduction(_combine))
+OPERATIONS_OF = {1: OPERATIONS, 2: {**OPERATIONS, **ADDED}}
 
 
-def cost_of(name, dims, first, arguments):
-    """How many index lists an operation goes over, whose first operand has these dims."""
+def cost_of(name, dims, operands, arguments):
+    """How many index lists an operation goes over, whose operands have these dims."""
     if name == "contract":
-        return size(dims) * (1 + size([first[it[0]] for it in arguments[0]]))
-    return size(dims) + size(first)
+        return size(dims) * (1 + size([operands[0][it[0]] for it in arguments[0]]))
+    if name == "convolve":
+        return size(dims) * (1 + size(operands[1]))
+    return size(dims) + size(operands[0])

@@ -6,7 +6,7 @@ Nothing here is shared with the program.
 import json
 import math
 
-from .operations import OPERATIONS, Tensor, cost_of, size
+from .operations import OPERATIONS_OF, Tensor, cost_of, size
 from .rules import (
     FAULTS,
     FIELDS,
@@ -15,7 +15,7 @@ from .rules import (
     MOST_BYTES,
     MOST_NESTING,
     MOST_NODES,
-    MOST_WORKERS,
+    VERSIONS,
     WORDS,
     Fault,
     are_legal,
@@ -87,12 +87,12 @@ def parse(text):
     return value
 
 
-def is_tensor(value):
+def is_tensor(version, value):
     return (
         isinstance(value, dict)
         and value.keys() == {"dims", "data"}
         and is_list_of(value["dims"], lambda it: is_whole(it, 0, WORDS.stop))
-        and are_legal(value["dims"])
+        and are_legal(version, value["dims"])
         and is_list_of(value["data"], is_value)
         and len(value["data"]) == size(value["dims"])
     )
@@ -101,7 +101,8 @@ def is_tensor(value):
 class Walk:
     """The walk over a tree: its nodes, each with its dims, or the first fault."""
 
-    def __init__(self, inputs):
+    def __init__(self, version, inputs):
+        self.version, self.operations = version, OPERATIONS_OF[version.number]
         self.inputs, self.nodes, self.places = inputs, 0, 0
 
     def node(self, tree):
@@ -117,15 +118,16 @@ class Walk:
 
     def operation(self, tree):
         need(isinstance(tree, list) and tree and isinstance(tree[0], str), 9)
-        need(tree[0] in OPERATIONS, 9)
-        operands, forms, dims_of, work = OPERATIONS[tree[0]]
+        need(tree[0] in self.operations, 9)
+        operands, forms, dims_of, work = self.operations[tree[0]]
         need(len(tree) == 1 + operands + len(forms), 10)
         below = [self.node(it) for it in tree[1 : 1 + operands]]
         arguments = tree[1 + operands :]
         for form, argument in zip(forms, arguments):
             need(FORMS[form](argument), 11)
-        dims = dims_of(*(it for it, _ in below), *arguments)
-        self.places += cost_of(tree[0], dims, below[0][0], arguments)
+        dims_below = [it for it, _ in below]
+        dims = dims_of(self.version, *dims_below, *arguments)
+        self.places += cost_of(tree[0], dims, dims_below, arguments)
         return dims, lambda: work(dims, *(then() for _, then in below), *arguments)
 
 
@@ -133,12 +135,13 @@ def read(text):
     """The dims of a text's answer, the function that works it out, and the walk over its tree."""
     fields = parse(text)
     need(isinstance(fields, dict) and fields.keys() == FIELDS, 3)
-    need(is_whole(fields["version"], 1, 1), 4)
-    need(is_whole(fields["workers"], 1, MOST_WORKERS), 5)
+    need(is_whole(fields["version"], min(VERSIONS), max(VERSIONS)), 4)
+    version = VERSIONS[fields["version"]]
+    need(is_whole(fields["workers"], 1, version.most_workers), 5)
     need(is_whole(fields["block"], 1, MOST_BLOCK), 6)
     inputs = fields["inputs"]
-    need(isinstance(inputs, dict) and all(map(is_tensor, inputs.values())), 7)
-    walk = Walk(inputs)
+    need(isinstance(inputs, dict) and all(is_tensor(version, it) for it in inputs.values()), 7)
+    walk = Walk(version, inputs)
     return *walk.node(fields["expr"]), walk
 
 

@@ -1,6 +1,7 @@
 """The faults and the limits of a request, and the forms of what stands in it: docs/REQUEST.md."""
 
 import math
+from typing import NamedTuple
 
 MOST_BYTES = 16_777_216
 MOST_NESTING = 127
@@ -8,8 +9,6 @@ MOST_PLACES = 1_048_576
 MOST_PRODUCTS = 1_073_741_824
 MOST_BLOCK = 1_048_576
 MOST_NODES = 1_000
-MOST_RANK = 6
-MOST_WORKERS = 64
 MOST_SIZE = 2**63 - 1
 VALUES = range(-(2**63), 2**63)
 WORDS = range(-(2**63), 2**64)
@@ -31,6 +30,17 @@ FAULTS = {
     14: "TooLarge",
 }
 FIELDS = {"version", "workers", "block", "inputs", "expr"}
+
+
+class Version(NamedTuple):
+    """What a version of the request allows, beside its operations."""
+
+    number: int
+    most_rank: int
+    most_workers: int
+
+
+VERSIONS = {it.number: it for it in (Version(1, 6, 64), Version(2, 8, 256))}
 
 
 class Fault(Exception):
@@ -68,9 +78,10 @@ def is_pair(value):
     return is_list_of(value, is_size) and len(value) == 2
 
 
-def are_legal(dims):
-    """Whether a tensor may have these dims: a 0 counts as 1."""
-    return len(dims) <= MOST_RANK and math.prod(max(it, 1) for it in dims) <= MOST_PLACES
+def are_legal(version, dims):
+    """Whether a tensor of a version may have these dims: a 0 counts as 1."""
+    is_rank = len(dims) <= version.most_rank
+    return is_rank and math.prod(max(it, 1) for it in dims) <= MOST_PLACES
 
 
 # The forms of arguments.

@@ -3,12 +3,13 @@
 import json
 
 # What a part of a request may be replaced by.
-JUNK = [None, True, False, 0, 1, -1, 2, 6, 7, 63, 64, 65, 127, 1_048_576, 1_048_577, 2**31, 2**32]
+JUNK = [None, True, False, 0, 1, -1, 2, 3, 6, 7, 8, 9, 63, 64, 65, 127, 255, 256, 257]
+JUNK += [1_048_576, 1_048_577, 2**31, 2**32]
 JUNK += [2**63 - 1, 2**63, 2**64 - 1, 2**64, -(2**63), -(2**63) - 1, 1.0, 0.5, 1e300, "", "a", "b"]
 JUNK += [[], {}, [0], [1], [[]], [0, 0], [[0, 0]], [True], ["a"], ["neg", "a"], ["add", "a"]]
 JUNK += [["div"], {"a": 1}, {"dims": [], "data": [5]}, {"dims": [0], "data": []}]
-JUNK += [{"dims": [1] * 7, "data": [1]}]
-ENDS = [0, 1, 5, 6, 7, 1_024, 1_048_576, 1_048_577, 2**63 - 1, 2**63]
+JUNK += [{"dims": [1] * rank, "data": [1]} for rank in (7, 8, 9)]
+ENDS = [0, 1, 5, 6, 7, 8, 9, 1_024, 1_048_576, 1_048_577, 2**63 - 1, 2**63]
 WORDS = ["neg", "add", "select", "constant", "broadcast", "slice", "shuffle", "reshape", "chip"]
 WORDS += ["reverse", "sum", "prod", "all", "contract", "div", "Add", "stride", "pad", "concat"]
 WORDS += ["convolve", "version", "workers", "block", "inputs", "expr", "dims", "data", "x"]
@@ -36,6 +37,18 @@ def places_in(value, inside=()):
             yield from places_in(value[key], (*inside, key))
 
 
+def at_end(value, way):
+    """The part at the end of a way."""
+    for key in way:
+        value = value[key]
+    return value
+
+
+def in_tree(request):
+    """The ways down to the expression and to all parts of it."""
+    return [way for way in places_in(request) if way[0] == "expr"]
+
+
 def changed(random, old, whole):
     """Something in place of a part of a request: a neighbour, another part, or of another kind."""
     kind = random.random()
@@ -50,39 +63,30 @@ def changed(random, old, whole):
     if isinstance(old, list) and old and kind < 0.6:
         at = random.randrange(len(old))
         return random.choice([old[:at] + old[at + 1 :], old[: at + 1] + old[at:], old[::-1]])
-    way = random.choice(list(places_in(whole)))
-    for key in way:
-        whole = whole[key]
-    return whole
+    return at_end(whole, random.choice(list(places_in(whole))))
 
 
 def part_to_change(random, request):
     """The way down to a part: any, one of the tree, or a number or a list of numbers there."""
-    ways = list(places_in(request))
-    in_tree = [way for way in ways if way[0] == "expr"]
-    numbers = [way for way in in_tree if is_number(request, way)]
-    return random.choice(random.choice([it for it in (ways, in_tree, numbers) if it] or [[()]]))
+    ways, tree = list(places_in(request)), in_tree(request)
+    numbers = [way for way in tree if is_number(at_end(request, way))]
+    return random.choice(random.choice([it for it in (ways, tree, numbers) if it] or [[()]]))
 
 
-def is_number(value, way):
-    """Whether a number stands at the end of a way, or a list of them."""
-    for key in way:
-        value = value[key]
+def is_number(value):
+    """Whether a value is a number, or a list of them."""
     if isinstance(value, list):
         return all(type(it) in (int, bool, list) for it in value)
     return type(value) in (int, bool)
 
 
-def nearly(random, request):
+def with_changes(random, request):
     """A request of which up to three parts were changed, left out or put in."""
-    request = json.loads(json.dumps(request))
     for _ in range(random.choice([1, 1, 1, 2, 3])):
         way = part_to_change(random, request)
         if not way:
             return changed(random, request, [request])
-        holder = request
-        for key in way[:-1]:
-            holder = holder[key]
+        holder = at_end(request, way[:-1])
         kind = random.random()
         if kind < 0.1:
             del holder[way[-1]]
@@ -91,6 +95,80 @@ def nearly(random, request):
         else:
             # A copy, since a part may come from inside or outside of itself.
             holder[way[-1]] = copied(changed(random, holder[way[-1]], request))
+    return request
+
+
+def of_other_version(random, request):
+    """A request that says the other version, at times with workers or a rank at the limits."""
+    request["version"] = 3 - request["version"]
+    if random.random() < 0.3:
+        request["workers"] = random.choice([64, 65, 256, 257])
+    if random.random() < 0.3:
+        request["inputs"]["ones"] = {"dims": [1] * random.randint(6, 9), "data": [1]}
+        request["expr"] = random.choice(["ones", request["expr"]])
+    return request
+
+
+# A tensor of as many places as there may be, and one of half of them.
+LARGE = ["broadcast", "one", [1_048_576]]
+HALF = ["broadcast", "one", [524_288]]
+
+
+def broken_strides(x, steps):
+    return [["stride", x, it] for it in ([*steps, 1], steps[1:], [0] * len(steps), [*steps[1:], 0])]
+
+
+def broken_pads(x, pairs):
+    far = [[it, 2**63 - 1] for it, _ in pairs]
+    return [["pad", x, it] for it in ([*pairs, [0, 0]], pairs[1:], far, [it[:1] for it in pairs])]
+
+
+def broken_concats(x, y, axis):
+    broken = [["concat", x, ["sum", y, [0]], axis], ["concat", ["sum", x, [0]], y, axis]]
+    broken += [["concat", x, y, it] for it in (axis + 1, max(axis - 1, 0), 8, 2**63 - 1)]
+    return [*broken, ["concat", LARGE, LARGE, 0], ["concat", LARGE, HALF, 1]]
+
+
+def broken_convolutions(x, kernel, axes):
+    none, other_axes = [0] * len(axes), [axes[1:], axes * 2, [*axes, 8], [7, *axes[1:]]]
+    other_kernels = [["sum", kernel, [0]], ["slice", kernel, none, none], x]
+    broken = [["convolve", x, kernel, it] for it in other_axes]
+    broken += [["convolve", x, it, axes] for it in other_kernels]
+    return [*broken, ["convolve", kernel, x, axes], ["convolve", LARGE, HALF, [0]]]
+
+
+# By name: what an operation may be replaced by, most of which fails one of its checks.
+BROKEN = {"stride": broken_strides, "pad": broken_pads}
+BROKEN.update({"concat": broken_concats, "convolve": broken_convolutions})
+
+
+def has_checks_to_break(node):
+    return isinstance(node, list) and node and isinstance(node[0], str) and node[0] in BROKEN
+
+
+def with_broken_check(random, request):
+    """A request of which one of these operations was replaced so, if it has any."""
+    ways = [way for way in in_tree(request) if has_checks_to_break(at_end(request, way))]
+    if not ways:
+        return with_changes(random, request)
+    way = random.choice(ways)
+    holder = at_end(request, way[:-1])
+    name, *parts = holder[way[-1]]
+    holder[way[-1]] = copied(random.choice(BROKEN[name](*parts)))
+    request["inputs"].setdefault("one", {"dims": [1], "data": [1]})
+    return request
+
+
+# What is done to a request, one after the other.
+SPOILERS = [[with_changes]] * 6 + [[of_other_version], [of_other_version, with_changes]]
+SPOILERS += [[with_broken_check]] * 3 + [[with_broken_check, with_changes]]
+
+
+def nearly(random, request):
+    """A request that is nearly valid."""
+    request = json.loads(json.dumps(request))
+    for spoil in random.choice(SPOILERS):
+        request = spoil(random, request)
     return request
 
 

@@ -27,6 +27,8 @@ PROGRAM = os.path.normpath(os.path.join(os.path.realpath(__file__), "..", "..", 
 
 LEAST, GREATEST = -(2**63), 2**63 - 1
 MAX_TEXT = 16_777_216
+# What version 1 of the request allows; more is asked for by version 2.
+FIRST_RANK, FIRST_WORKERS = 6, 64
 SHOWN = 8
 
 
@@ -223,6 +225,23 @@ class Expr:
         """Counted from the other end along each axis whose flag is True."""
         return Expr("reverse", [self], [listed(flags, flag)])
 
+    def stride(self, *steps):
+        """Each so many-th index along each axis, from the first: x[::2, ::3] of numpy."""
+        return Expr("stride", [self], [listed(steps)])
+
+    def pad(self, pairs):
+        """So many zeros before and behind along each axis: x.pad([(1, 2), (0, 0)])."""
+        return Expr("pad", [self], [paired(pairs)])
+
+    def concat(self, other, axis):
+        """The other behind this, along an axis."""
+        return concat(self, other, axis)
+
+    def convolve(self, kernel, *axes):
+        """The sums of products of a kernel and what lies under it, where its axes lie along these
+        axes: x.convolve(kernel, 0, 1)."""
+        return Expr("convolve", [self, an_expr(kernel)], [listed(axes)])
+
     def sum(self, *axes):
         """The sums over these axes, or over all: x.sum(0), x.sum(0, 1), x.sum()."""
         return reduced("sum", self, axes)
@@ -313,6 +332,11 @@ def without(dims, axes):
     return tuple(it for axis, it in enumerate(dims) if axis not in axes)
 
 
+def slid(dims, kernel, axes):
+    along = dict(zip(axes, kernel))
+    return tuple(it - along.get(axis, 1) + 1 for axis, it in enumerate(dims))
+
+
 # The result dims of each operation, where the program finds no fault. An operation of a later
 # version has its line here, its version below, and its method above.
 DIMS = {
@@ -329,9 +353,17 @@ DIMS = {
     "contract": lambda left, right, pairs: (
         without(left, [pair[0] for pair in pairs]) + without(right, [pair[1] for pair in pairs])
     ),
+    "stride": lambda dims, steps: tuple(-(-it // step) for it, step in zip(dims, steps)),
+    "pad": lambda dims, pairs: tuple(it + sum(pair) for it, pair in zip(dims, pairs)),
+    "concat": lambda left, right, axis: (
+        *left[:axis],
+        left[axis] + right[axis],
+        *left[axis + 1 :],
+    ),
+    "convolve": slid,
 }
 # The version of a request that has an operation, where that isn't 1.
-VERSIONS = {}
+VERSIONS = dict.fromkeys("stride pad concat convolve".split(), 2)
 
 
 def dims_of(operation, operands, arguments):
@@ -340,7 +372,7 @@ def dims_of(operation, operands, arguments):
         return None
     try:
         return DIMS[operation](*dims, *arguments)
-    except (IndexError, TypeError):
+    except (IndexError, TypeError, ZeroDivisionError):
         return None
 
 
@@ -418,10 +450,22 @@ def where(condition, x, y):
     return Expr("select", [beside(it, some) for it in (condition, x, y)])
 
 
+def an_expr(value):
+    return value if isinstance(value, Expr) else tensor(value)
+
+
+def paired(pairs):
+    return [listed([pair]) for pair in pairs]
+
+
 def contract(x, y, pairs):
     """The sums of products over paired axes, each pair an axis of x and one of y."""
-    operands = [it if isinstance(it, Expr) else tensor(it) for it in (x, y)]
-    return Expr("contract", operands, [[listed([pair]) for pair in pairs]])
+    return Expr("contract", [an_expr(x), an_expr(y)], [paired(pairs)])
+
+
+def concat(x, y, axis):
+    """y behind x along an axis."""
+    return Expr("concat", [an_expr(x), an_expr(y)], [whole(axis)])
 
 
 def reduced(operation, expr, axes):
@@ -436,16 +480,23 @@ def compact(value):
     return json.dumps(value, separators=(",", ":"))
 
 
+def version_of(expr):
+    """The least version that has an expression's operation and its rank."""
+    has_high_rank = expr.dims is not None and len(expr.dims) > FIRST_RANK
+    return 2 if has_high_rank else VERSIONS.get(expr.operation, 1)
+
+
 def expression(expr, names):
     """The text of an expression and the version it asks for. Gives each of its inputs a name, in
     `names`. It walks by a list of what is left: no depth of a tree is too great for it."""
     pieces, length, version, left = [], 0, 1, [expr]
     while left and length <= MAX_TEXT:
         it = left.pop()
+        if isinstance(it, Expr):
+            version = max(version, version_of(it))
         if isinstance(it, Tensor):
             it = names.setdefault(id(it), (f'"x{len(names)}"', it))[0]
         elif isinstance(it, Expr):
-            version = max(version, VERSIONS.get(it.operation, 1))
             left.append("".join("," + compact(more) for more in it.arguments) + "]")
             for operand in reversed(it.operands):
                 left += [operand, ","]
@@ -456,11 +507,14 @@ def expression(expr, names):
 
 
 def request(expr, workers=1, block=4096, version=None):
-    """The text that asks for an expression. Its version is the least that has its operations."""
-    names, expr = {}, expr if isinstance(expr, Expr) else tensor(expr)
+    """The text that asks for an expression. Its version is the least that has its operations and
+    ranks, and so many workers."""
+    names, expr = {}, an_expr(expr)
     if expr.nodes > MAX_TEXT:
         raise TooLong("it was not sent")
     asked, least = expression(expr, names)
+    if whole(workers) > FIRST_WORKERS:
+        least = max(least, 2)
     inputs = (
         f'{name}:{{"dims":{compact(it.dims)},"data":[{",".join(map(str, it.values))}]}}'
         for name, it in names.values()
@@ -496,7 +550,7 @@ def answer(line, why=""):
 def run(expr, workers=1, block=4096, version=None, program=None):
     """The tensor of an expression's values, by so many workers, which take so many places at a
     time; neither changes a value. Raises the program's fault, by its class."""
-    expr = expr if isinstance(expr, Expr) else tensor(expr)
+    expr = an_expr(expr)
     program = os.fspath(program or PROGRAM)
     text = request(expr, workers, block, version)
     env = {"TENSOR_RUN_BUILD": "no", **os.environ}

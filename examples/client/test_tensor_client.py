@@ -10,7 +10,7 @@ import tempfile
 import unittest
 
 import tensor_client as client
-from tensor_client import GREATEST, LEAST, Expr, contract, full, tensor, where
+from tensor_client import GREATEST, LEAST, Expr, concat, contract, full, tensor, where
 
 try:
     import numpy
@@ -49,6 +49,17 @@ REDUCTIONS = {
     "all": lambda a, axes: (a != 0).all(axis=axes),
     "any": lambda a, axes: (a != 0).any(axis=axes),
 }
+
+
+def convolved(array, kernel, axes):
+    """A convolution by numpy: the parts of an array that lie under each value of the kernel."""
+    total = numpy.zeros(client.slid(array.shape, kernel.shape, axes), dtype=numpy.int64)
+    for index in numpy.ndindex(kernel.shape):
+        part = [slice(None)] * array.ndim
+        for axis, at in zip(axes, index):
+            part[axis] = slice(at, at + total.shape[axis])
+        total = total + array[tuple(part)] * kernel[index]
+    return total
 
 
 def run(expr, **settings):
@@ -173,6 +184,37 @@ class AgainstNumpy(unittest.TestCase):
             flags = [axis in axes for axis in range(array.ndim)]
             self.agree(tensor(array).reverse(flags), numpy.flip(array, axes), source)
 
+    def test_stride(self):
+        for source in self.each_trial("stride"):
+            array = source.array(source.dims())
+            steps = [1 + source.upto(3) for _ in array.shape]
+            part = tuple(slice(None, None, it) for it in steps)
+            self.agree(tensor(array).stride(steps), array[part], source)
+
+    def test_pad(self):
+        for source in self.each_trial("pad"):
+            array = source.array([2, *source.dims()])
+            pairs = [(source.upto(2), source.upto(2)) for _ in array.shape]
+            self.agree(tensor(array).pad(pairs), numpy.pad(array, pairs), source)
+
+    def test_concat(self):
+        for source in self.each_trial("concat"):
+            left = source.array([2, *source.dims()])
+            axis, dims = source.upto(left.ndim - 1), list(left.shape)
+            dims[axis] = source.upto(3)
+            right = source.array(dims)
+            wanted = numpy.concatenate([left, right], axis)
+            self.agree(concat(left, right, axis), wanted, source)
+            self.agree(tensor(left).concat(right, axis), wanted, source)
+
+    def test_convolve(self):
+        for source in self.each_trial("convolve"):
+            array = source.array([2, *source.dims(least=1)])
+            axes = source.some(array.ndim)
+            kernel = source.array([1 + source.upto(array.shape[axis] - 1) for axis in axes])
+            wanted = convolved(array, kernel, axes)
+            self.agree(tensor(array).convolve(kernel, axes), wanted, source)
+
     def test_contract(self):
         for source in self.each_trial("contract"):
             left = source.array(source.dims())
@@ -281,6 +323,43 @@ class Built(unittest.TestCase):
         self.assertIn('"version":2', text)
         self.assertIn('"expr":["neg",["later","x0",[1]]]', text)
 
+    def test_the_version_of_a_request(self):
+        x, ones = tensor([1, 2]), full([1] * 6, 1)
+        for version, expr, settings in (
+            (1, x + x, {}),
+            (1, x, {"workers": 64}),
+            (1, ones, {}),
+            (2, x, {"workers": 65}),
+            (2, x.stride(2), {}),
+            (2, x.pad([(0, 0)]) + 1, {}),
+            (2, concat(x, x, 0).sum(), {}),
+            (2, x.convolve([1, 1], 0), {"workers": 64}),
+            (2, ones.reshape([1] * 7), {}),
+            (2, tensor([1], [1] * 7).sum(), {}),
+            (2, ones.reshape([1] * 7).sum(), {}),
+            (2, contract(ones, x, []).sum(), {}),
+            (1, x.stride(2), {"version": 1}),
+            (2, x, {"version": 2}),
+        ):
+            text = client.request(expr, **settings)
+            self.assertTrue(text.startswith(f'{{"version":{version},'), text)
+
+    def test_dims_that_are_known_here(self):
+        x = tensor([[1, 2, 3], [4, 5, 6]])
+        for expr, dims in (
+            (x.stride(1, 2), (2, 2)),
+            (x.stride([3, 3]), (1, 1)),
+            (x.stride(0, 1), None),
+            (x.pad([(1, 0), (2, 3)]), (3, 8)),
+            (concat(x, [[7], [8]], 1), (2, 4)),
+            (x.concat(x, 0), (4, 3)),
+            (x.concat(x, 2), None),
+            (x.convolve([1, 1], 1), (2, 2)),
+            (x.convolve([[1], [2], [3]], [1, 0]), (2, 1)),
+            (x.convolve(5), (2, 3)),
+        ):
+            self.assertEqual(expr.dims, dims)
+
     def test_short_texts_of_objects(self):
         x = tensor(list(range(1000)))
         self.assertEqual(repr(tensor([1, 2])), "<tensor, dims (2,), values 1 2>")
@@ -332,9 +411,19 @@ class Asked(unittest.TestCase):
             (x.slice([0, 0], [2, 0]) + 5, [[], []]),
             (x.slice([0, 0], [0, 3]) + 5, []),
             (tensor(LEAST) - 1, GREATEST),
+            (x.stride(1, 2), [[1, 3], [4, 6]]),
+            (x.stride(2, GREATEST), [[1]]),
+            (x.pad([(0, 1), (1, 0)]), [[0, 1, 2, 3], [0, 4, 5, 6], [0, 0, 0, 0]]),
+            (concat(x, [[7], [8]], 1), [[1, 2, 3, 7], [4, 5, 6, 8]]),
+            (x.concat(x * 2, 0).chip(2, 0), [2, 4, 6]),
+            (x.convolve([10, 1], 1), [[12, 23], [45, 56]]),
+            (x.convolve([[1, 10], [100, 1000]], 1, 0), [[5241, 6352]]),
+            (x.convolve(2), [[2, 4, 6], [8, 10, 12]]),
+            (tensor([1, 2]).reshape([1] * 7 + [2]).sum(), 3),
         ):
             self.assertEqual(run(expr).nested(), nested)
             self.assertEqual(run(expr, workers=3, block=2).nested(), nested)
+            self.assertEqual(run(expr, workers=256, block=1).nested(), nested)
 
     def test_faults_of_a_request(self):
         x, y = tensor([1, 2]), tensor([1, 2, 3])
@@ -353,6 +442,21 @@ class Asked(unittest.TestCase):
         self.faults(client.ShapeMismatch, 12, x + y)
         self.faults(client.OutOfRange, 13, x.sum(1))
         self.faults(client.TooLarge, 14, x.broadcast(2**20))
+
+    def test_faults_of_version_2(self):
+        x, y = tensor([1, 2]), tensor([1, 2, 3])
+        self.faults(client.BadWorkers, 5, x, workers=257)
+        self.faults(client.BadWorkers, 5, x, workers=65, version=1)
+        self.faults(client.BadTensor, 7, tensor([1], [1] * 9))
+        for expr in (x.stride(1), x.pad([(1, 1)]), concat(x, y, 0), y.convolve(x, 0)):
+            self.faults(client.UnknownOp, 9, expr, version=1)
+        for expr in (x.stride(1, 1), x.pad([]), concat(x, 5, 0), y.convolve(5, 0)):
+            self.faults(client.ShapeMismatch, 12, expr)
+        for expr in (x.stride(0), concat(x, y, 1), y.convolve(x, 1), x.convolve(y, 0)):
+            self.faults(client.OutOfRange, 13, expr)
+        self.faults(client.TooLarge, 14, x.pad([(GREATEST, GREATEST)]))
+        self.faults(client.TooLarge, 14, x.reshape([1] * 8 + [2]))
+        self.faults(client.TooLarge, 14, x.reshape([1] * 6 + [2]), version=1)
 
     def test_nesting(self):
         expr = tensor(1)

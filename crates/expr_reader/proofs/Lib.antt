@@ -5,6 +5,7 @@ pub mod Grammar
 pub mod Lists
 pub mod Members
 pub mod Numbers
+pub mod Operations
 pub mod Tokens
 pub mod Trees
 pub mod Walk

@@ -1,5 +1,5 @@
 -- Members taken one after another.
-use Rattle.std.proofs.Common.{◌≡◌, ℕ, suc, ◌+◌, List, [], ◌∷◌, ◌++◌, length, Option, Some, None}
+use Rattle.std.proofs.Common.{◌≡◌, ℕ, zero, suc, ◌+◌, ◌<◌, ◌≤◌, List, [], ◌∷◌, ◌++◌, length, Option, Some, None}
 use Rattle.std.proofs.Common.{String, Global, string_bytes, refl, ap, sym, if◌then◌else◌, arith}
 use Rattle.std.proofs.Common.{length-append, append_assoc}
 use Rattle.std.specs.List.{position_from}
@@ -7,7 +7,7 @@ use Rattle.std.specs.Option.{option_or}
 use Rattle.std.specs.Str.{bytes_eq}
 use Rattle.serde_json.specs.View.{view, members_view}
 use Rattle.serde_json.specs.declared.value.Value.{Value}
-use Rattle.tensor_ops.specs.Contents.{Contents}
+use Rattle.tensor_ops.specs.Contents.{Contents, HaveRank}
 use Rattle.expr_reader.specs.Fields.{cons_of}
 use Rattle.expr_reader.specs.Tensors.{tensor_in, tensors_in, names_in}
 use Rattle.expr_reader.proofs.Lists.{after}
@@ -42,3 +42,12 @@ module _ (rank : ℕ) (rest more : List (String Global × Value)) (name : String
 pub length-names_in : (entries : List (String Global × Value)) → length (names_in (members_view entries)) ≡ length entries
 length-names_in [] = refl
 length-names_in (e ∷ es) = ap suc (length-names_in es)
+
+-- one more tensor of no higher rank
+pub HaveRank-append : (rank : ℕ) (done : List Contents) (tensor : Contents) → HaveRank rank done → length tensor.dims ≤ rank
+    → HaveRank rank (done ++ tensor ∷ [])
+HaveRank-append rank [] tensor before low zero within = low
+HaveRank-append rank [] tensor before low (suc n) within = absurd (omega arith)
+HaveRank-append rank (t ∷ done) tensor before low zero within = before 0 (omega arith)
+HaveRank-append rank (t ∷ done) tensor before low (suc n) within =
+    HaveRank-append rank done tensor (λ m inside. before (suc m) (omega arith)) low n (omega arith)

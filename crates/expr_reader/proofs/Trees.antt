@@ -10,7 +10,7 @@ use Rattle.std.specs.Result.{result_map_both}
 use Rattle.serde_json.specs.Data.{Data, null, boolean, number, string, array, object, Items}
 use Rattle.serde_json.specs.Data.{no_items, item}
 use Rattle.serde_json.specs.Events.{items_len}
-use Rattle.tensor_ops.specs.Contents.{Contents}
+use Rattle.tensor_ops.specs.Contents.{Given}
 use Rattle.tensor_ops.specs.Result.{dims_of}
 use Rattle.tensor_ops.specs.Shaped.{Shaped}
 use Rattle.tensor_ops.specs.Term.{Term, input, unary, binary, ternary, nodes_of}
@@ -22,7 +22,7 @@ use Rattle.expr_reader.specs.Node.{node_at, applied, tree_at}
 use Rattle.expr_reader.specs.Profile.{Profile}
 use Rattle.expr_reader.specs.Steps.{and_then}
 use Rattle.expr_reader.specs.Table.{Operation, one, two, three, arity_of}
-use Rattle.expr_reader.specs.Tensors.{Named, number_of}
+use Rattle.expr_reader.specs.Tensors.{Named, given, number_of}
 use Rattle.expr_reader.specs.declared.fault.Fault.{Fault}
 use Rattle.expr_reader.specs.declared.fault.Fault.TheVariants.{UnknownInput, UnknownOp, BadArity}
 use Rattle.expr_reader.specs.declared.fault.Fault.TheVariants.{BadArgument, TooLarge}
@@ -48,16 +48,16 @@ AreCounted-input_at named name n below = from (number_of named.names name)
     from None = tt
     from (Some k) = (omega arith, omega arith)
 
-AreCounted-checked : (inputs : List Contents) (t : Term) (n end : ℕ) → n + nodes_of t ≤ end
+AreCounted-checked : (inputs : Given) (t : Term) (n end : ℕ) → n + nodes_of t ≤ end
     → end ≤ most_nodes → AreCounted n (checked inputs t end)
-AreCounted-checked inputs t n end counted few = from (dims_of t inputs)
+AreCounted-checked inputs t n end counted few = from (dims_of inputs.rank t inputs.tensors)
   where
     from : (dims : Shaped)
         → AreCounted n (result_map_both (λ dims. record { term = t; end = end }) text_fault dims)
     from (Ok dims) = (counted, few)
     from (Err fault) = tt
 
-AreCounted-made : (inputs : List Contents) (fs : List Form) (items : Items)
+AreCounted-made : (inputs : Given) (fs : List Form) (items : Items)
     (make : Arguments fs → Term) (n end : ℕ)
     → ((a : Arguments fs) → n + nodes_of (make a) ≤ end) → end ≤ most_nodes
     → AreCounted n (made inputs fs items make end)
@@ -109,7 +109,7 @@ module _ (profile : Profile) (named : Named) where
         AreCounted-and_then (n + 1) n (tree_at profile named (n + 1) a) _
         (AreCounted-within_limit (n + 1) (node_at profile named (n + 1) a)
         (AreCounted-node_at (n + 1) a))
-        (λ x counted few. AreCounted-made named.tensors forms rest
+        (λ x counted few. AreCounted-made (given profile.rank named) forms rest
         (λ args. unary (make args) x.term) n x.end (λ args. omega arith) few)
     AreCounted-applied n (two forms make) no_items = tt
     AreCounted-applied n (two forms make) (item a no_items) = tt
@@ -120,7 +120,7 @@ module _ (profile : Profile) (named : Named) where
         (λ x first few. AreCounted-and_then x.end n (tree_at profile named x.end b) _
         (AreCounted-within_limit x.end (node_at profile named x.end b)
         (AreCounted-node_at x.end b))
-        (λ y second enough. AreCounted-made named.tensors forms rest
+        (λ y second enough. AreCounted-made (given profile.rank named) forms rest
         (λ args. binary (make args) x.term y.term) n y.end (λ args. omega arith) enough))
     AreCounted-applied n (three forms make) no_items = tt
     AreCounted-applied n (three forms make) (item a no_items) = tt
@@ -135,7 +135,7 @@ module _ (profile : Profile) (named : Named) where
         (λ y second enough. AreCounted-and_then y.end n (tree_at profile named y.end c) _
         (AreCounted-within_limit y.end (node_at profile named y.end c)
         (AreCounted-node_at y.end c))
-        (λ z third all. AreCounted-made named.tensors forms rest
+        (λ z third all. AreCounted-made (given profile.rank named) forms rest
         (λ args. ternary (make args) x.term y.term z.term) n z.end (λ args. omega arith) all)))
 
   pub nodes_of-tree_at : (n : ℕ) (d : Data) (tree : Tree) → tree_at profile named n d ≡ Ok tree

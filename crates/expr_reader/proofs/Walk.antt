@@ -8,7 +8,7 @@ use Rattle.serde_json.specs.Find.{get_item}
 use Rattle.serde_json.specs.View.{view, items_view}
 use Rattle.serde_json.specs.declared.value.Value.{Value, Array}
 use Rattle.serde_json.proofs.Views.{view-Array, items_len-items_view}
-use Rattle.tensor_ops.specs.Contents.{Contents}
+use Rattle.tensor_ops.specs.Contents.{Contents, Given}
 use Rattle.std.specs.Prelude.{◌&&◌}
 use Rattle.tensor_ops.specs.Result.{dims_of, operand_dims}
 use Rattle.tensor_ops.specs.Term.{Term, Unary, Binary, Ternary, unary, binary, ternary, has_inputs}
@@ -18,12 +18,12 @@ use Rattle.expr_reader.specs.Node.{operation_at, applied, made, checked, tree_at
 use Rattle.expr_reader.specs.Profile.{Profile}
 use Rattle.expr_reader.specs.Steps.{and_then}
 use Rattle.expr_reader.specs.Table.{Operation, one, two, three, arity_of}
-use Rattle.expr_reader.specs.Tensors.{Named}
+use Rattle.expr_reader.specs.Tensors.{given, Named}
 use Rattle.expr_reader.specs.declared.fault.Fault.{Fault}
 use Rattle.expr_reader.specs.declared.fault.Fault.TheVariants.{BadArity, BadArgument}
 
 -- arguments that are read leave the operation's own checks
-pub made-found : (inputs : List Contents) (fs : List Form) (items : Items) (make : Arguments fs → Term) (end : ℕ) (t : Term)
+pub made-found : (inputs : Given) (fs : List Form) (items : Items) (make : Arguments fs → Term) (end : ℕ) (t : Term)
     → option_map make (arguments_in fs items) ≡ Some t → made inputs fs items make end ≡ checked inputs t end
 made-found inputs fs items make end t found = from (arguments_in fs items) found
   where
@@ -34,18 +34,24 @@ made-found inputs fs items make end t found = from (arguments_in fs items) found
 
 -- what arguments make of an operand has that operand
 pub made-unary : {A : Type 0} (make : A → Unary) (t u : Term) (there : Option A)
-    → option_map (λ a. unary (make a) t) there ≡ Some u → (inputs : List Contents) → operand_dims u inputs ≡ dims_of t inputs ∷ []
-made-unary make t u None h inputs = absurd (cc)
-made-unary make t u (Some a) h inputs = let same : u ≡ unary (make a) t = cc in rw same refl
+    → option_map (λ a. unary (make a) t) there ≡ Some u → (rank : ℕ) (inputs : List Contents) → operand_dims rank u inputs ≡ dims_of rank t inputs ∷ []
+made-unary make t u None h rank inputs = absurd (cc)
+made-unary make t u (Some a) h rank inputs = let same : u ≡ unary (make a) t = cc in rw same refl
+
+-- whose inputs are those of its operand
+pub made-unary-inputs : {A : Type 0} (make : A → Unary) (t u : Term) (there : Option A)
+    → option_map (λ a. unary (make a) t) there ≡ Some u → (count : ℕ) → has_inputs u count ≡ has_inputs t count
+made-unary-inputs make t u None h count = absurd (cc)
+made-unary-inputs make t u (Some a) h count = let same : u ≡ unary (make a) t = cc in rw same refl
 
 -- the same of two operands
 pub made-binary : {A : Type 0} (make : A → Binary) (t s u : Term) (there : Option A)
     → option_map (λ a. binary (make a) t s) there ≡ Some u
-    → ((inputs : List Contents) → operand_dims u inputs ≡ dims_of t inputs ∷ dims_of s inputs ∷ [])
+    → ((rank : ℕ) (inputs : List Contents) → operand_dims rank u inputs ≡ dims_of rank t inputs ∷ dims_of rank s inputs ∷ [])
     × ((count : ℕ) → has_inputs u count ≡ has_inputs t count && has_inputs s count)
 made-binary make t s u None h = absurd (cc)
 made-binary make t s u (Some a) h =
-    let same : u ≡ binary (make a) t s = cc in ((λ inputs. rw same refl), (λ count. rw same refl))
+    let same : u ≡ binary (make a) t s = cc in ((λ rank inputs. rw same refl), (λ count. rw same refl))
 
 -- each operation has an operand
 no_operand : (o : Operation) → 1 ≡ 1 + arity_of o → ⊥
@@ -116,13 +122,13 @@ module _ (profile : Profile) (named : Named) (n : ℕ) (below : n < most_nodes) 
       → length list.items ≡ 2 + length forms → a ≡ get_or list.items 1 a
       → tree_at profile named n (view v)
       ≡ and_then (tree_at profile named (n + 1) (view a)) (λ x.
-      made named.tensors forms (items_view (drop 2 list.items)) (λ args. unary (make args) x.term) x.end)
+      made (given profile.rank named) forms (items_view (drop 2 list.items)) (λ args. unary (make args) x.term) x.end)
   tree_at-one forms make a names long first = from list.items refl long first
     where
       from : (vs : List Value) → list.items ≡ vs → length vs ≡ 2 + length forms → a ≡ get_or vs 1 a
           → tree_at profile named n (view v)
           ≡ and_then (tree_at profile named (n + 1) (view a)) (λ x.
-          made named.tensors forms (items_view (drop 2 vs)) (λ args. unary (make args) x.term) x.end)
+          made (given profile.rank named) forms (items_view (drop 2 vs)) (λ args. unary (make args) x.term) x.end)
       from [] same long first = absurd (omega arith)
       from (x ∷ []) same long first = absurd (omega arith)
       from (x ∷ y ∷ vs) same long first =
@@ -134,13 +140,13 @@ module _ (profile : Profile) (named : Named) (n : ℕ) (below : n < most_nodes) 
       → length list.items ≡ 3 + length forms → a ≡ get_or list.items 1 a → b ≡ get_or list.items 2 b
       → tree_at profile named n (view v)
       ≡ and_then (tree_at profile named (n + 1) (view a)) (λ x. and_then (tree_at profile named x.end (view b)) (λ y.
-      made named.tensors forms (items_view (drop 3 list.items)) (λ args. binary (make args) x.term y.term) y.end))
+      made (given profile.rank named) forms (items_view (drop 3 list.items)) (λ args. binary (make args) x.term y.term) y.end))
   tree_at-two forms make a b names long first second = from list.items refl long first second
     where
       from : (vs : List Value) → list.items ≡ vs → length vs ≡ 3 + length forms → a ≡ get_or vs 1 a → b ≡ get_or vs 2 b
           → tree_at profile named n (view v)
           ≡ and_then (tree_at profile named (n + 1) (view a)) (λ x. and_then (tree_at profile named x.end (view b)) (λ y.
-          made named.tensors forms (items_view (drop 3 vs)) (λ args. binary (make args) x.term y.term) y.end))
+          made (given profile.rank named) forms (items_view (drop 3 vs)) (λ args. binary (make args) x.term y.term) y.end))
       from [] same long first second = absurd (omega arith)
       from (x ∷ []) same long first second = absurd (omega arith)
       from (x ∷ y ∷ []) same long first second = absurd (omega arith)
@@ -155,13 +161,13 @@ module _ (profile : Profile) (named : Named) (n : ℕ) (below : n < most_nodes) 
       → length list.items ≡ 4 → a ≡ get_or list.items 1 a → b ≡ get_or list.items 2 b → c ≡ get_or list.items 3 c
       → tree_at profile named n (view v)
       ≡ and_then (tree_at profile named (n + 1) (view a)) (λ x. and_then (tree_at profile named x.end (view b)) (λ y.
-      and_then (tree_at profile named y.end (view c)) (λ z. checked named.tensors (ternary (make tt) x.term y.term z.term) z.end)))
+      and_then (tree_at profile named y.end (view c)) (λ z. checked (given profile.rank named) (ternary (make tt) x.term y.term z.term) z.end)))
   tree_at-three make a b c names long first second third = from list.items refl long first second third
     where
       from : (vs : List Value) → list.items ≡ vs → length vs ≡ 4 → a ≡ get_or vs 1 a → b ≡ get_or vs 2 b → c ≡ get_or vs 3 c
           → tree_at profile named n (view v)
           ≡ and_then (tree_at profile named (n + 1) (view a)) (λ x. and_then (tree_at profile named x.end (view b)) (λ y.
-          and_then (tree_at profile named y.end (view c)) (λ z. checked named.tensors (ternary (make tt) x.term y.term z.term) z.end)))
+          and_then (tree_at profile named y.end (view c)) (λ z. checked (given profile.rank named) (ternary (make tt) x.term y.term z.term) z.end)))
       from [] same long first second third = absurd (omega arith)
       from (x ∷ []) same long first second third = absurd (omega arith)
       from (x ∷ y ∷ []) same long first second third = absurd (omega arith)

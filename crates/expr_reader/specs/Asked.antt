@@ -5,4 +5,10 @@ use Rattle.expr_reader.specs.declared.request.Request.{Request}
 
 abbrev pub asked_under : Request → text.Asked
 asked_under r =
-    record { workers = r.workers; block = r.block; inputs = r.inputs; term = term_of r.expr }
+    record {
+      workers = r.workers;
+      block = r.block;
+      inputs = r.inputs.tensors;
+      rank = r.inputs.rank;
+      term = term_of r.expr;
+    }

@@ -7,7 +7,7 @@ most_bytes = 16777216
 
 -- the most workers of any version
 abbrev pub most_workers : ℕ
-most_workers = 64
+most_workers = 256
 
 -- the greatest block
 abbrev pub greatest_block : ℕ

@@ -9,7 +9,7 @@ use Rattle.serde_json.specs.Data.{Data, null, boolean, number, string, array, ob
 use Rattle.serde_json.specs.Data.{no_items, item}
 use Rattle.serde_json.specs.Events.{items_len}
 use Rattle.serde_json.specs.Find.{as_str}
-use Rattle.tensor_ops.specs.Contents.{Contents}
+use Rattle.tensor_ops.specs.Contents.{Given}
 use Rattle.tensor_ops.specs.Result.{dims_of}
 use Rattle.tensor_ops.specs.Term.{Term, input, unary, binary, ternary}
 use Rattle.expr_reader.specs.Arguments.{Form, Arguments, arguments_in}
@@ -18,7 +18,7 @@ use Rattle.expr_reader.specs.Limits.{most_nodes}
 use Rattle.expr_reader.specs.Profile.{Profile, operation_named}
 use Rattle.expr_reader.specs.Steps.{and_then}
 use Rattle.expr_reader.specs.Table.{Operation, one, two, three, arity_of}
-use Rattle.expr_reader.specs.Tensors.{Named, number_of}
+use Rattle.expr_reader.specs.Tensors.{Named, given, number_of}
 use Rattle.expr_reader.specs.declared.fault.Fault.{Fault}
 use Rattle.expr_reader.specs.declared.fault.Fault.TheVariants.{UnknownInput, UnknownOp, BadArity}
 use Rattle.expr_reader.specs.declared.fault.Fault.TheVariants.{BadArgument, TooLarge}
@@ -44,12 +44,13 @@ input_at named name end =
     UnknownInput
 
 -- a term whose operands have result dims, up to this end, or the first of its own faults
-abbrev pub checked : List Contents → Term → ℕ → Result Tree Fault
+abbrev pub checked : Given → Term → ℕ → Result Tree Fault
 checked inputs t end =
-    result_map_both (λ dims. record { term = t; end = end }) text_fault (dims_of t inputs)
+    result_map_both (λ dims. record { term = t; end = end }) text_fault
+    (dims_of inputs.rank t inputs.tensors)
 
 -- what arguments of these forms make, up to this end
-abbrev pub made : List Contents → (fs : List Form) → Items → (Arguments fs → Term) → ℕ
+abbrev pub made : Given → (fs : List Form) → Items → (Arguments fs → Term) → ℕ
     → Result Tree Fault
 made inputs fs items make end =
     and_then (ok_or (arguments_in fs items) BadArgument) (λ a. checked inputs (make a) end)
@@ -72,16 +73,17 @@ module _ (profile : Profile) (named : Named) where
     pub applied : ℕ → Operation → Items → Result Tree Fault
     applied n (one forms make) (item a rest) =
         and_then (within_limit (n + 1) (node_at (n + 1) a)) (λ x.
-        made named.tensors forms rest (λ args. unary (make args) x.term) x.end)
+        made (given profile.rank named) forms rest (λ args. unary (make args) x.term) x.end)
     applied n (two forms make) (item a (item b rest)) =
         and_then (within_limit (n + 1) (node_at (n + 1) a)) (λ x.
         and_then (within_limit x.end (node_at x.end b)) (λ y.
-        made named.tensors forms rest (λ args. binary (make args) x.term y.term) y.end))
+        made (given profile.rank named) forms rest (λ args. binary (make args) x.term y.term) y.end))
     applied n (three forms make) (item a (item b (item c rest))) =
         and_then (within_limit (n + 1) (node_at (n + 1) a)) (λ x.
         and_then (within_limit x.end (node_at x.end b)) (λ y.
         and_then (within_limit y.end (node_at y.end c)) (λ z.
-        made named.tensors forms rest (λ args. ternary (make args) x.term y.term z.term) z.end)))
+        made (given profile.rank named) forms rest
+        (λ args. ternary (make args) x.term y.term z.term) z.end)))
     applied n o rest = Err BadArity
 
   -- a tree behind n nodes

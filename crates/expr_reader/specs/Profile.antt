@@ -1,7 +1,7 @@
 -- What the versions of the text allow.
 use Rattle.std.specs.Prelude.{ℕ, List, [], ◌∷◌, Option, Some, None, ◌==◌, if◌then◌else◌}
 use Rattle.std.specs.Str.{bytes_eq}
-use Rattle.expr_reader.specs.Table.{Operation, operations_1}
+use Rattle.expr_reader.specs.Table.{Operation, operations_1, operations_2}
 
 -- the greatest number of workers, the highest rank, and the operations by their names
 pub record Profile : Type 0 where
@@ -12,8 +12,12 @@ pub record Profile : Type 0 where
 abbrev pub version_1 : Profile
 version_1 = record { workers = 64; rank = 6; operations = operations_1 }
 
+abbrev pub version_2 : Profile
+version_2 = record { workers = 256; rank = 8; operations = operations_2 }
+
 abbrev pub profile_of : ℕ → Option Profile
-profile_of version = if version == 1 then Some version_1 else None
+profile_of version =
+    if version == 1 then Some version_1 else (if version == 2 then Some version_2 else None)
 
 -- the operation of a name, among those of a version
 abbrev pub operation_named : List ℕ → List (List ℕ × Operation) → Option Operation

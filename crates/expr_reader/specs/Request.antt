@@ -15,11 +15,12 @@ use Rattle.expr_reader.specs.declared.fault.Fault.TheVariants.{TooLong, NotJson,
 use Rattle.expr_reader.specs.declared.fault.Fault.TheVariants.{BadVersion, BadWorkers, BadBlock}
 use Rattle.expr_reader.specs.declared.fault.Fault.TheVariants.{BadTensor}
 
--- what a text asks for
+-- what a text asks for; results have at most this rank
 pub record Asked : Type 0 where
   pub workers : ℕ
   pub block : ℕ
   pub inputs : List Contents
+  pub rank : ℕ
   pub term : Term
 
 -- what the version allows
@@ -33,6 +34,7 @@ tree_asked f p workers block named =
       workers = workers;
       block = block;
       inputs = named.tensors;
+      rank = p.rank;
       term = tree.term;
     }))
 

@@ -3,7 +3,7 @@ use Rattle.std.specs.Prelude.{◌≡◌, ℕ, List, length}
 use Rattle.serde_json.specs.View.{view}
 use Rattle.expr_reader.specs.Fields as data_of
 use Rattle.expr_reader.specs.Numbers.{number_in}
-use Rattle.expr_reader.specs.Tensors.{Named, number_of}
+use Rattle.expr_reader.specs.Tensors.{Named, given, number_of}
 use Rattle.expr_reader.specs.declared.fields.Fields.{Fields}
 use Rattle.expr_reader.specs.declared.named.NamedInputs.{NamedInputs}
 
@@ -17,8 +17,8 @@ fields_under f =
       expr = view f.expr.now;
     }
 
--- the inputs are the tensors, and each name has its number
-pub record IsNamed (found : NamedInputs) (n : Named) : Type 0 where
-  pub tensors : found.inputs ≡ n.tensors
+-- the inputs are the tensors, where ranks end there, and each name has its number
+pub record IsNamed (found : NamedInputs) (rank : ℕ) (n : Named) : Type 0 where
+  pub inputs : found.inputs ≡ given rank n
   pub aligned : length n.names ≡ length n.tensors
   pub numbers : (name : List ℕ) → number_in found.numbers name ≡ number_of n.names name

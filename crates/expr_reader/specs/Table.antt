@@ -1,9 +1,9 @@
 -- The operations of the text, as a table: what each takes, and what is made of it.
-use Rattle.std.specs.Prelude.{ℕ, ◌+◌, length, List, [], ◌∷◌, codes}
-use Rattle.tensor_ops.specs.Term.{Unary, each, constant, movement, reduce}
-use Rattle.tensor_ops.specs.Term.{Binary, pairwise, contract}
+use Rattle.std.specs.Prelude.{ℕ, ◌+◌, length, List, [], ◌∷◌, ◌++◌, codes}
+use Rattle.tensor_ops.specs.Term.{Unary, each, constant, movement, pad, reduce}
+use Rattle.tensor_ops.specs.Term.{Binary, pairwise, concat, contract, convolve}
 use Rattle.tensor_ops.specs.Term.{Ternary, select, broadcast, slice, shuffle, reshape}
-use Rattle.tensor_ops.specs.Term.{chip, reverse}
+use Rattle.tensor_ops.specs.Term.{chip, reverse, stride}
 use Rattle.tensor_ops.specs.declared.operations.UnaryScalar.{UnaryScalar}
 use Rattle.tensor_ops.specs.declared.operations.UnaryScalar.TheVariants as unary
 use Rattle.tensor_ops.specs.declared.operations.BinaryScalar.{BinaryScalar}
@@ -71,3 +71,16 @@ operations_1 =
     ∷ (codes "any", over_axes Any)
     ∷ (codes "contract", two (pairs ∷ []) (λ a. contract a.0))
     ∷ []
+
+-- those that the second version has beside them
+abbrev pub operations_added : List (List ℕ × Operation)
+operations_added =
+    (codes "stride", one (sizes ∷ []) (λ a. movement (stride a.0)))
+    ∷ (codes "pad", one (pairs ∷ []) (λ a. pad a.0))
+    ∷ (codes "concat", two (size ∷ []) (λ a. concat a.0))
+    ∷ (codes "convolve", two (sizes ∷ []) (λ a. convolve a.0))
+    ∷ []
+
+-- the operations of the second version
+abbrev pub operations_2 : List (List ℕ × Operation)
+operations_2 = operations_1 ++ operations_added

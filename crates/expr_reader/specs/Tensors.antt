@@ -7,7 +7,7 @@ use Rattle.serde_json.specs.Data.{Data, Members, no_members, member}
 use Rattle.serde_json.specs.Find.{as_object}
 use Rattle.tensor_ops.specs.Index.{size_of}
 use Rattle.tensor_ops.specs.Legal.{are_legal}
-use Rattle.tensor_ops.specs.Contents.{Contents}
+use Rattle.tensor_ops.specs.Contents.{Contents, Given}
 use Rattle.expr_reader.specs.Fields.{has_members, with_member, whole_of, signed_of}
 use Rattle.expr_reader.specs.Fields.{list_in, cons_of}
 
@@ -49,6 +49,10 @@ names_in (member name d ms) = name ∷ names_in ms
 pub record Named : Type 0 where
   pub names : List (List ℕ)
   pub tensors : List Contents
+
+-- the tensors of names, where ranks end there
+abbrev pub given : ℕ → Named → Given
+given rank named = record { tensors = named.tensors; rank = rank }
 
 abbrev pub named_in : ℕ → Data → Option Named
 named_in rank d =

@@ -1,9 +1,10 @@
 -- The versions and operations of the code, as profiles and operations.
 use Rattle.std.specs.Prelude.{List, [], ◌∷◌}
 use Rattle.tensor_ops.specs.Term as term
-use Rattle.tensor_ops.specs.Term.{each, constant, movement, reduce, pairwise, contract}
+use Rattle.tensor_ops.specs.Term.{each, constant, movement, pad, reduce, pairwise}
+use Rattle.tensor_ops.specs.Term.{concat, contract, convolve}
 use Rattle.expr_reader.specs.Arguments.{Form, size, sizes, pairs, flags, value, Arguments}
-use Rattle.expr_reader.specs.Profile.{Profile, version_1}
+use Rattle.expr_reader.specs.Profile.{Profile, version_1, version_2}
 use Rattle.expr_reader.specs.Table as table
 use Rattle.expr_reader.specs.Table.{one, two, three}
 use Rattle.expr_reader.specs.declared.version.Version.{Version}
@@ -13,12 +14,14 @@ use Rattle.expr_reader.specs.declared.operation.Operation.TheVariants.{One, Two,
 use Rattle.expr_reader.specs.declared.operation.Unary.{Unary}
 use Rattle.expr_reader.specs.declared.operation.Unary.TheVariants.{Each, Constant, Broadcast}
 use Rattle.expr_reader.specs.declared.operation.Unary.TheVariants.{Slice, Shuffle, Reshape}
-use Rattle.expr_reader.specs.declared.operation.Unary.TheVariants.{Chip, Reverse, Reduce}
+use Rattle.expr_reader.specs.declared.operation.Unary.TheVariants.{Chip, Reverse, Stride, Pad, Reduce}
 use Rattle.expr_reader.specs.declared.operation.Binary.{Binary}
-use Rattle.expr_reader.specs.declared.operation.Binary.TheVariants.{Pairwise, Contract}
+use Rattle.expr_reader.specs.declared.operation.Binary.TheVariants.{Pairwise, Concat, Contract}
+use Rattle.expr_reader.specs.declared.operation.Binary.TheVariants.{Convolve}
 
 abbrev pub profile_under : Version → Profile
 profile_under version.One = version_1
+profile_under version.Two = version_2
 
 -- the forms of the arguments of an operation on one operand
 abbrev pub forms_of : Unary → List Form
@@ -30,6 +33,8 @@ forms_of Shuffle = sizes ∷ []
 forms_of Reshape = sizes ∷ []
 forms_of Chip = size ∷ size ∷ []
 forms_of Reverse = flags ∷ []
+forms_of Stride = sizes ∷ []
+forms_of Pad = pairs ∷ []
 forms_of (Reduce r) = sizes ∷ []
 
 -- what its arguments make
@@ -42,16 +47,22 @@ unary_of Shuffle a = movement (term.shuffle a.0)
 unary_of Reshape a = movement (term.reshape a.0)
 unary_of Chip a = movement (term.chip a.0 a.1.0)
 unary_of Reverse a = movement (term.reverse a.0)
+unary_of Stride a = movement (term.stride a.0)
+unary_of Pad a = pad a.0
 unary_of (Reduce r) a = reduce r a.0
 
 -- the same of an operation on two operands
 abbrev pub forms_of_two : Binary → List Form
 forms_of_two (Pairwise o) = []
+forms_of_two Concat = size ∷ []
 forms_of_two Contract = pairs ∷ []
+forms_of_two Convolve = sizes ∷ []
 
 abbrev pub binary_of : (b : Binary) → Arguments (forms_of_two b) → term.Binary
 binary_of (Pairwise o) none = pairwise o
+binary_of Concat a = concat a.0
 binary_of Contract a = contract a.0
+binary_of Convolve a = convolve a.0
 
 abbrev pub operation_under : Operation → table.Operation
 operation_under (One u) = one (forms_of u) (unary_of u)

@@ -1,6 +1,6 @@
 -- What the code has found of a tree, beside what the walk says, for the reader's private clauses.
-use Rattle.std.specs.Prelude.{◌≡◌, ◌⊎◌, List, length, IsTrue, Result, Ok, Err, MatchResult}
-use Rattle.tensor_ops.specs.Contents.{Contents}
+use Rattle.std.specs.Prelude.{◌≡◌, ◌⊎◌, length, IsTrue, Result, Ok, Err, MatchResult}
+use Rattle.tensor_ops.specs.Contents.{Given}
 use Rattle.tensor_ops.specs.Result.{dims_of}
 use Rattle.tensor_ops.specs.Term.{has_inputs}
 use Rattle.tensor_ops.specs.Tree.{term_of}
@@ -14,12 +14,12 @@ abbrev pub tree_under : Subtree → Tree
 tree_under tree = record { term = term_of tree.expr; end = tree.end }
 
 -- its inputs are among these, and over them it has its dims
-pub record IsShaped (inputs : List Contents) (tree : Subtree) : Type 0 where
-  pub inputs_known : IsTrue (has_inputs (term_of tree.expr) (length inputs))
-  pub dims_known : dims_of (term_of tree.expr) inputs ≡ Ok tree.dims
+pub record IsShaped (inputs : Given) (tree : Subtree) : Type 0 where
+  pub inputs_known : IsTrue (has_inputs (term_of tree.expr) (length inputs.tensors))
+  pub dims_known : dims_of inputs.rank (term_of tree.expr) inputs.tensors ≡ Ok tree.dims
 
 -- the tree that the walk says, or its fault, or want of memory
-abbrev pub IsFound : List Contents → Result Tree Fault → Result Subtree Fault → Type 0
+abbrev pub IsFound : Given → Result Tree Fault → Result Subtree Fault → Type 0
 IsFound inputs says found =
     MatchResult found (λ tree. (says ≡ Ok (tree_under tree)) × IsShaped inputs tree)
     (λ fault. (fault ≡ NoMemory) ⊎ (says ≡ Err fault))

@@ -59,6 +59,14 @@ pub(crate) fn with_arguments(
             let flags = read_list(alloc, &arguments[0], Fault::BadArgument)?;
             Ok(Expr::Reverse(operand, flags))
         }
+        Unary::Stride => {
+            let steps = read_list(alloc, &arguments[0], Fault::BadArgument)?;
+            Ok(Expr::Stride(operand, steps))
+        }
+        Unary::Pad => {
+            let pairs = read_list(alloc, &arguments[0], Fault::BadArgument)?;
+            Ok(Expr::Pad(operand, pairs))
+        }
         Unary::Reduce(reducer) => {
             let axes = read_list(alloc, &arguments[0], Fault::BadArgument)?;
             Ok(Expr::reduction(reducer, operand, axes))
@@ -81,9 +89,17 @@ pub(crate) fn both_with_arguments(
 {
     match operation {
         Binary::Pairwise(scalar) => Ok(Expr::pairwise(scalar, left, right)),
+        Binary::Concat => {
+            let axis = read_item(&arguments[0], Fault::BadArgument)?;
+            Ok(Expr::Concat(left, right, axis))
+        }
         Binary::Contract => {
             let pairs = read_list(alloc, &arguments[0], Fault::BadArgument)?;
             Ok(Expr::Contract(left, right, pairs))
+        }
+        Binary::Convolve => {
+            let axes = read_list(alloc, &arguments[0], Fault::BadArgument)?;
+            Ok(Expr::Convolve(left, right, axes))
         }
     }
 }

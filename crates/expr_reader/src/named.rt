@@ -5,7 +5,6 @@ ghost use Rattle.std.specs.Prelude.{OnOk, IfErr, if◌then◌else◌};
 ghost use Rattle.std.specs.Option.{option_or};
 ghost use Rattle.std.specs.Str.{bytes_eq};
 ghost use Rattle.serde_json.specs.View.{view, members_view};
-ghost use Rattle.tensor_ops.specs.Legal.{highest_rank};
 ghost use Rattle.expr_reader.specs.Counted.{member_count};
 ghost use Rattle.expr_reader.specs.Limits.{most_bytes};
 ghost use Rattle.expr_reader.specs.Numbers.{number_in};
@@ -29,15 +28,11 @@ pub(crate) struct NamedInputs<'v> {
 
 impl<'v> NamedInputs<'v> {
     /// The tensor of each member of an object, numbered in the order of their names.
-    pub(crate) fn read(
-        alloc: Global,
-        value: &'v Value,
-        rank: usize,
-    ) -> Result<NamedInputs<'v>, Fault>
-        requires rank { rank ≤ highest_rank }
+    pub(crate) fn read(alloc: Global, value: &'v Value, rank: u32) -> Result<NamedInputs<'v>, Fault>
+        requires rank { (rank ≡ 6) ⊎ (rank ≡ 8) }
         requires few { member_count (view value.now) ≤ most_bytes + 1 }
         ensures { MatchResult result
-            (λ found. (n : Named) × (named_in rank (view value.now) ≡ Some n) × IsNamed found n)
+            (λ found. (n : Named) × (named_in rank (view value.now) ≡ Some n) × IsNamed found rank n)
             (λ fault. (fault ≡ Fault.NoMemory)
             ⊎ ((fault ≡ Fault.BadTensor) × (named_in rank (view value.now) ≡ None))) }
     {
@@ -47,7 +42,8 @@ impl<'v> NamedInputs<'v> {
 
     /// The number of a name.
     pub(crate) fn number(&self, name: &str) -> Option<u32>
-        ensures { (n : Named) → IsNamed self.now n → result ≡ number_of n.names name.now }
+        ensures { (rank : ℕ) (n : Named) → IsNamed self.now rank n
+            → result ≡ number_of n.names name.now }
     {
         self.numbers.get(name).copied()
     }
@@ -57,28 +53,28 @@ impl<'v> NamedInputs<'v> {
 fn read_members<'v>(
     alloc: Global,
     members: &'v Map<String, Value>,
-    rank: usize,
+    rank: u32,
 ) -> Result<NamedInputs<'v>, Fault>
-    requires rank { rank ≤ highest_rank }
+    requires rank { (rank ≡ 6) ⊎ (rank ≡ 8) }
     requires few { length members.now.entries ≤ most_bytes + 1 }
     ensures { MatchResult result
         (λ found. (n : Named)
         × (tensors_in rank (members_view members.now.entries) ≡ Some n.tensors)
-        × (n.names ≡ names_in (members_view members.now.entries)) × IsNamed found n)
+        × (n.names ≡ names_in (members_view members.now.entries)) × IsNamed found rank n)
         (λ fault. (fault ≡ Fault.NoMemory) ⊎ ((fault ≡ Fault.BadTensor)
         × (tensors_in rank (members_view members.now.entries) ≡ None))) }
 {
     let mut numbers = BTreeMap::new(alloc);
     let mut tensors = Vec::new(alloc);
     for (name, value) in members {
-        let tensor = read_tensor(alloc, value, rank)?;
+        let tensor = read_tensor(alloc, value, rank as usize)?;
         let number = tensors.len() as u32;
         put_first(&mut numbers, name.as_str(), number)?;
         let Ok(()) = tensors.push(tensor) else {
             return Err(Fault::NoMemory);
         };
     }
-    let inputs = Inputs::new(tensors);
+    let inputs = Inputs::with_rank(tensors, rank);
     Ok(NamedInputs { numbers, inputs })
 }
 

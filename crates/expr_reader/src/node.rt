@@ -1,6 +1,6 @@
 //! The tree of an expression, read on one walk.
 
-ghost use Rattle.std.specs.Prelude.{◌≡◌, Ok, length, map, IsTrue, MatchResult, option_map};
+ghost use Rattle.std.specs.Prelude.{◌≡◌, ℕ, Ok, length, map, IsTrue, MatchResult, option_map};
 ghost use Rattle.std.specs.Prelude.{option_and_then};
 ghost use Rattle.serde_json.specs.Find.{get_item};
 ghost use Rattle.serde_json.specs.View.{view, items_view};
@@ -9,7 +9,7 @@ ghost use Rattle.tensor_ops.specs.Term.{has_inputs, unary, binary, ternary, sele
 ghost use Rattle.tensor_ops.specs.Tree.{term_of};
 ghost use Rattle.expr_reader.specs.Node.{operation_at, input_at, made, checked, tree_at};
 ghost use Rattle.expr_reader.specs.Shown.{IsNamed};
-ghost use Rattle.expr_reader.specs.Tensors.{Named};
+ghost use Rattle.expr_reader.specs.Tensors.{Named, given};
 ghost use Rattle.expr_reader.specs.Version.{profile_under, operation_under, forms_of, unary_of};
 ghost use Rattle.expr_reader.specs.Version.{forms_of_two, binary_of};
 ghost use Rattle.expr_reader.specs.Walked.{IsShaped, IsFound};
@@ -42,9 +42,10 @@ pub(crate) fn read_node(
     value: &Value,
     before: u64,
 ) -> Result<Subtree, Fault>
-    requires { (n : Named) × IsNamed named.now n }
-    ensures { (n : Named) → IsNamed named.now n
-        → IsFound n.tensors (tree_at (profile_under version) n before (view value.now)) result }
+    requires { (n : Named) × IsNamed named.now (profile_under version).rank n }
+    ensures { (n : Named) → IsNamed named.now (profile_under version).rank n
+        → IsFound (given (profile_under version).rank n)
+        (tree_at (profile_under version) n before (view value.now)) result }
 {
     if before >= MAX_NODES {
         return Err(Fault::TooLarge);
@@ -80,9 +81,9 @@ pub(crate) fn read_node(
 
 /// The input of a name, which is a node up to this end.
 fn read_name(named: &NamedInputs<'_>, name: &str, end: u64) -> Result<Subtree, Fault>
-    requires { (n : Named) × IsNamed named.now n }
-    ensures { (n : Named) → IsNamed named.now n
-        → IsFound n.tensors (input_at n name.now end) result }
+    requires { (rank : ℕ) × (n : Named) × IsNamed named.now rank n }
+    ensures { (rank : ℕ) (n : Named) → IsNamed named.now rank n
+        → IsFound (given rank n) (input_at n name.now end) result }
 {
     let Some(number) = named.number(name) else {
         return Err(Fault::UnknownInput);
@@ -186,10 +187,11 @@ fn boxed(alloc: Global, expr: Expr) -> Result<Box<Expr>, Fault>
 
 /// An operation on operands of these dims, which ends there, where its own checks have no fault.
 fn checked(inputs: &Inputs, expr: Expr, operands: &[Dims], end: u64) -> Result<Subtree, Fault>
-    requires inputs { IsTrue (has_inputs (term_of expr) (length inputs.now)) }
-    requires operands { operand_dims (term_of expr) inputs.now ≡ map Ok operands.now }
+    requires inputs { IsTrue (has_inputs (term_of expr) (length inputs.now.tensors)) }
+    requires operands { operand_dims inputs.now.rank (term_of expr) inputs.now.tensors
+        ≡ map Ok operands.now }
     ensures { IsFound inputs.now (checked inputs.now (term_of expr) end) result }
 {
-    let dims = expr.dims_over(inputs, operands)?;
+    let dims = expr.dims_over(inputs.rank_limit() as usize, inputs, operands)?;
     Ok(Subtree { expr, dims, end })
 }

@@ -15,6 +15,8 @@ pub(crate) enum Unary {
     Reshape,
     Chip,
     Reverse,
+    Stride,
+    Pad,
     Reduce(Reducer),
 }
 
@@ -22,7 +24,9 @@ pub(crate) enum Unary {
 #[derive(Clone, Copy, Debug, Eq, PartialEq)]
 pub(crate) enum Binary {
     Pairwise(BinaryScalar),
+    Concat,
     Contract,
+    Convolve,
 }
 
 /// An operation by the number of its operands.
@@ -47,6 +51,8 @@ impl Unary {
             | Unary::Shuffle
             | Unary::Reshape
             | Unary::Reverse
+            | Unary::Stride
+            | Unary::Pad
             | Unary::Reduce(_) => 1,
             Unary::Slice | Unary::Chip => 2,
         }
@@ -62,7 +68,7 @@ impl Binary {
     {
         match self {
             Binary::Pairwise(_) => 0,
-            Binary::Contract => 1,
+            Binary::Concat | Binary::Contract | Binary::Convolve => 1,
         }
     }
 }

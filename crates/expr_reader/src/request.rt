@@ -12,7 +12,7 @@ use tensor_ops::{Expr, Inputs};
 /// block change nothing in the answer.
 #[derive(Drop)]
 pub struct Request {
-    /// How many workers take part, from 1 to 64.
+    /// How many workers take part, from 1 to 256.
     pub workers: u32,
     /// How many places are worked on at a time, from 1 to 1,048,576.
     pub block: u64,
@@ -20,10 +20,10 @@ pub struct Request {
     pub inputs: Inputs,
     /// The expression, which has result dims.
     pub expr: Expr,
-    pub ghost has_inputs: { IsTrue (has_inputs (term_of expr) (length inputs)) },
-    pub ghost has_dims: { IsOk (dims_of (term_of expr) inputs) },
+    pub ghost has_inputs: { IsTrue (has_inputs (term_of expr) (length inputs.tensors)) },
+    pub ghost has_dims: { IsOk (dims_of inputs.rank (term_of expr) inputs.tensors) },
     pub ghost some_workers: { 1 ≤ workers },
     pub ghost few_workers: { workers ≤ most_workers },
     pub ghost some_block: { 1 ≤ block },
-    pub ghost few: { length inputs + nodes_of (term_of expr) < 2 ^ 32 },
+    pub ghost few: { length inputs.tensors + nodes_of (term_of expr) < 2 ^ 32 },
 }

@@ -1,6 +1,6 @@
 //! The inputs of a request: their names, and their tensors.
 
-ghost use Rattle.std.specs.Prelude.{◌≡◌, ◌≤◌};
+ghost use Rattle.std.specs.Prelude.{◌≡◌, ◌≤◌, length, IfOk, IfSome};
 ghost use Rattle.serde_json.specs.View.{view};
 ghost use Rattle.tensor_ops.specs.Legal.{highest_rank};
 ghost use Rattle.expr_reader.specs.Outcome.{IsReadOr};
@@ -17,7 +17,8 @@ use tensor_ops::{Dims, MAX_RANK, Tensor};
 /// A tensor: an object of exactly `dims` and `data`.
 pub(crate) fn read_tensor(alloc: Global, value: &Value, rank: usize) -> Result<Tensor, Fault>
     requires { rank ≤ highest_rank }
-    ensures { IsReadOr Fault.BadTensor (λ t. t) (tensor_in rank (view value.now)) result }
+    ensures tensor { IsReadOr Fault.BadTensor (λ t. t) (tensor_in rank (view value.now)) result }
+    ensures rank { IfOk result (λ t. length t.dims ≤ rank) }
 {
     if !has_members(value, 2) {
         return Err(Fault::BadTensor);
@@ -32,7 +33,8 @@ pub(crate) fn read_tensor(alloc: Global, value: &Value, rank: usize) -> Result<T
 /// Legal dims of at most this rank. Takes no memory, however long the list is.
 fn read_dims(value: &Value, rank: usize) -> Option<Dims>
     requires { rank ≤ highest_rank }
-    ensures { result ≡ dims_in rank (view value.now) }
+    ensures dims { result ≡ dims_in rank (view value.now) }
+    ensures rank { IfSome result (λ dims. length dims ≤ rank) }
 {
     let list = value.as_array()?;
     if list.len() > rank {

@@ -1,6 +1,7 @@
 //! From the bytes of a text to its request.
 
-ghost use Rattle.std.specs.Prelude.{◌≡◌, ◌+◌, ◌≤◌, ◌⊎◌, Ok, Err, MatchResult, option_map};
+ghost use Rattle.std.specs.Prelude.{◌≡◌, ◌+◌, ◌<◌, ◌≤◌, ◌⊎◌, Ok, Err, MatchResult, option_map};
+ghost use Rattle.std.specs.Prelude.{length, IsErrOf};
 ghost use Rattle.serde_json.specs.View.{view};
 ghost use Rattle.expr_reader.specs.Asked.{asked_under};
 ghost use Rattle.expr_reader.specs.Counted.{member_count};
@@ -19,16 +20,18 @@ use crate::{MAX_BLOCK, MAX_TEXT};
 use std::alloc::Global;
 
 /// Reads a request text, in one pass over its JSON value (RFC 8259). Want of memory is answered
-/// wherever a growth is refused, before any later fault is looked for.
+/// wherever a growth is refused, before any later fault is looked for; a text that is too long takes
+/// none.
 ///
 /// # Errors
 ///
 /// The first fault of the text, by number up to [`Fault::BadTensor`] and then on the walk over the
 /// tree, or [`Fault::NoMemory`].
 pub fn read_request(alloc: Global, text: &[u8]) -> Result<Request, Fault>
-    ensures { MatchResult result
+    ensures request { MatchResult result
         (λ request. request_of text.now ≡ Ok (asked_under request))
         (λ fault. (fault ≡ Fault.NoMemory) ⊎ (request_of text.now ≡ Err fault)) }
+    ensures too_long { most_bytes < length text.now → IsErrOf result Fault.TooLong }
 {
     if text.len() > MAX_TEXT {
         return Err(Fault::TooLong);

@@ -1,6 +1,9 @@
 //! The versions of the text and what each allows.
 
-ghost use Rattle.std.specs.Prelude.{◌≡◌, option_map};
+ghost use Rattle.std.specs.Prelude.{◌≡◌, ◌⊎◌, option_map};
+ghost use Rattle.expr_reader.specs.Profile.{operation_named};
+ghost use Rattle.expr_reader.specs.Table.{operations_1, operations_added};
+ghost use Rattle.expr_reader.specs.Version.{operation_under};
 
 use crate::operation::{Binary, Operation, Unary};
 use tensor_ops::{BinaryScalar, Reducer, UnaryScalar};
@@ -9,6 +12,7 @@ use tensor_ops::{BinaryScalar, Reducer, UnaryScalar};
 #[derive(Clone, Copy, Debug, Eq, PartialEq)]
 pub(crate) enum Version {
     One,
+    Two,
 }
 
 impl Version {
@@ -21,6 +25,7 @@ impl Version {
     {
         match number {
             1 => Some(Version::One),
+            2 => Some(Version::Two),
             _ => None,
         }
     }
@@ -31,15 +36,18 @@ impl Version {
     {
         match self {
             Version::One => 64,
+            Version::Two => 256,
         }
     }
 
-    /// The highest rank of an input.
-    pub(crate) fn rank(self) -> usize
-        ensures { result ≡ (profile_under self).rank }
+    /// The highest rank of an input, and of a result.
+    pub(crate) fn rank(self) -> u32
+        ensures value { result ≡ (profile_under self).rank }
+        ensures limit { (result ≡ 6) ⊎ (result ≡ 8) }
     {
         match self {
             Version::One => 6,
+            Version::Two => 8,
         }
     }
 
@@ -48,40 +56,63 @@ impl Version {
         ensures { option_map operation_under result
             ≡ operation_named name.now (profile_under self).operations }
     {
-        match name {
-            "neg" => Some(Operation::One(Unary::Each(UnaryScalar::Neg))),
-            "abs" => Some(Operation::One(Unary::Each(UnaryScalar::Abs))),
-            "square" => Some(Operation::One(Unary::Each(UnaryScalar::Square))),
-            "not" => Some(Operation::One(Unary::Each(UnaryScalar::Not))),
-            "add" => Some(Operation::Two(Binary::Pairwise(BinaryScalar::Add))),
-            "sub" => Some(Operation::Two(Binary::Pairwise(BinaryScalar::Sub))),
-            "mul" => Some(Operation::Two(Binary::Pairwise(BinaryScalar::Mul))),
-            "cwise_max" => Some(Operation::Two(Binary::Pairwise(BinaryScalar::CwiseMax))),
-            "cwise_min" => Some(Operation::Two(Binary::Pairwise(BinaryScalar::CwiseMin))),
-            "lt" => Some(Operation::Two(Binary::Pairwise(BinaryScalar::Lt))),
-            "le" => Some(Operation::Two(Binary::Pairwise(BinaryScalar::Le))),
-            "eq" => Some(Operation::Two(Binary::Pairwise(BinaryScalar::Eq))),
-            "ne" => Some(Operation::Two(Binary::Pairwise(BinaryScalar::Ne))),
-            "gt" => Some(Operation::Two(Binary::Pairwise(BinaryScalar::Gt))),
-            "ge" => Some(Operation::Two(Binary::Pairwise(BinaryScalar::Ge))),
-            "and" => Some(Operation::Two(Binary::Pairwise(BinaryScalar::And))),
-            "or" => Some(Operation::Two(Binary::Pairwise(BinaryScalar::Or))),
-            "select" => Some(Operation::Select),
-            "constant" => Some(Operation::One(Unary::Constant)),
-            "broadcast" => Some(Operation::One(Unary::Broadcast)),
-            "slice" => Some(Operation::One(Unary::Slice)),
-            "shuffle" => Some(Operation::One(Unary::Shuffle)),
-            "reshape" => Some(Operation::One(Unary::Reshape)),
-            "chip" => Some(Operation::One(Unary::Chip)),
-            "reverse" => Some(Operation::One(Unary::Reverse)),
-            "sum" => Some(Operation::One(Unary::Reduce(Reducer::Sum))),
-            "prod" => Some(Operation::One(Unary::Reduce(Reducer::Prod))),
-            "maximum" => Some(Operation::One(Unary::Reduce(Reducer::Max))),
-            "minimum" => Some(Operation::One(Unary::Reduce(Reducer::Min))),
-            "all" => Some(Operation::One(Unary::Reduce(Reducer::All))),
-            "any" => Some(Operation::One(Unary::Reduce(Reducer::Any))),
-            "contract" => Some(Operation::Two(Binary::Contract)),
-            _ => None,
+        match self {
+            Version::One => first_operation(name),
+            Version::Two => first_operation(name).or(added_operation(name)),
         }
+    }
+}
+
+/// The operation of a name in every version.
+fn first_operation(name: &str) -> Option<Operation>
+    ensures { option_map operation_under result ≡ operation_named name.now operations_1 }
+{
+    match name {
+        "neg" => Some(Operation::One(Unary::Each(UnaryScalar::Neg))),
+        "abs" => Some(Operation::One(Unary::Each(UnaryScalar::Abs))),
+        "square" => Some(Operation::One(Unary::Each(UnaryScalar::Square))),
+        "not" => Some(Operation::One(Unary::Each(UnaryScalar::Not))),
+        "add" => Some(Operation::Two(Binary::Pairwise(BinaryScalar::Add))),
+        "sub" => Some(Operation::Two(Binary::Pairwise(BinaryScalar::Sub))),
+        "mul" => Some(Operation::Two(Binary::Pairwise(BinaryScalar::Mul))),
+        "cwise_max" => Some(Operation::Two(Binary::Pairwise(BinaryScalar::CwiseMax))),
+        "cwise_min" => Some(Operation::Two(Binary::Pairwise(BinaryScalar::CwiseMin))),
+        "lt" => Some(Operation::Two(Binary::Pairwise(BinaryScalar::Lt))),
+        "le" => Some(Operation::Two(Binary::Pairwise(BinaryScalar::Le))),
+        "eq" => Some(Operation::Two(Binary::Pairwise(BinaryScalar::Eq))),
+        "ne" => Some(Operation::Two(Binary::Pairwise(BinaryScalar::Ne))),
+        "gt" => Some(Operation::Two(Binary::Pairwise(BinaryScalar::Gt))),
+        "ge" => Some(Operation::Two(Binary::Pairwise(BinaryScalar::Ge))),
+        "and" => Some(Operation::Two(Binary::Pairwise(BinaryScalar::And))),
+        "or" => Some(Operation::Two(Binary::Pairwise(BinaryScalar::Or))),
+        "select" => Some(Operation::Select),
+        "constant" => Some(Operation::One(Unary::Constant)),
+        "broadcast" => Some(Operation::One(Unary::Broadcast)),
+        "slice" => Some(Operation::One(Unary::Slice)),
+        "shuffle" => Some(Operation::One(Unary::Shuffle)),
+        "reshape" => Some(Operation::One(Unary::Reshape)),
+        "chip" => Some(Operation::One(Unary::Chip)),
+        "reverse" => Some(Operation::One(Unary::Reverse)),
+        "sum" => Some(Operation::One(Unary::Reduce(Reducer::Sum))),
+        "prod" => Some(Operation::One(Unary::Reduce(Reducer::Prod))),
+        "maximum" => Some(Operation::One(Unary::Reduce(Reducer::Max))),
+        "minimum" => Some(Operation::One(Unary::Reduce(Reducer::Min))),
+        "all" => Some(Operation::One(Unary::Reduce(Reducer::All))),
+        "any" => Some(Operation::One(Unary::Reduce(Reducer::Any))),
+        "contract" => Some(Operation::Two(Binary::Contract)),
+        _ => None,
+    }
+}
+
+/// The operation of a name that the second version adds.
+fn added_operation(name: &str) -> Option<Operation>
+    ensures { option_map operation_under result ≡ operation_named name.now operations_added }
+{
+    match name {
+        "stride" => Some(Operation::One(Unary::Stride)),
+        "pad" => Some(Operation::One(Unary::Pad)),
+        "concat" => Some(Operation::Two(Binary::Concat)),
+        "convolve" => Some(Operation::Two(Binary::Convolve)),
+        _ => None,
     }
 }

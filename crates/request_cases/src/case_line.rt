@@ -1,5 +1,7 @@
 //! The lines of a file of cases.
 
+use crate::case_version::CaseVersion;
+
 /// A line of a file of cases.
 #[derive(Clone, Copy, Drop)]
 pub(crate) enum CaseLine<'t> {
@@ -7,11 +9,13 @@ pub(crate) enum CaseLine<'t> {
     Note,
     /// A name and the text that it stands for.
     Let(&'t str),
+    /// The version of the expressions behind it.
+    Version(CaseVersion),
     /// The inputs of the expressions behind it.
     Inputs(&'t str),
     /// A whole request text.
     Text(&'t str),
-    /// An expression over the last inputs.
+    /// An expression over the last inputs, of the last version.
     Expr(&'t str),
     /// The line that answers what stands before it.
     Answer(&'t str),
@@ -23,6 +27,10 @@ impl<'t> CaseLine<'t> {
             CaseLine::Note
         } else if let Some(named) = line.strip_prefix("let ") {
             CaseLine::Let(named)
+        } else if line == "version 1" {
+            CaseLine::Version(CaseVersion::One)
+        } else if line == "version 2" {
+            CaseLine::Version(CaseVersion::Two)
         } else if let Some(inputs) = line.strip_prefix("inputs ") {
             CaseLine::Inputs(inputs)
         } else if let Some(text) = line.strip_prefix("text ") {

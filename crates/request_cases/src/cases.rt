@@ -2,6 +2,7 @@
 
 use crate::answers::{answer, by_places, by_ranges};
 use crate::case_line::CaseLine;
+use crate::case_version::CaseVersion;
 use std::alloc::{AllocError, Global};
 use std::sync::Wait;
 use std::thread::Threads;
@@ -17,7 +18,7 @@ const BLOCKS: [u32; 4] = [1, 2, 7, 1_048_576];
 enum Asked {
     /// A whole request text.
     Text(String),
-    /// An expression over the last inputs.
+    /// An expression over the last inputs, of the last version.
     Expr(String),
 }
 
@@ -30,6 +31,7 @@ pub(crate) struct Cases {
     pub(crate) report: String,
     /// Names in angle brackets, each with the text that it stands for.
     names: Vec<(String, String)>,
+    version: CaseVersion,
     inputs: String,
     asked: Asked,
     alloc: Global,
@@ -42,6 +44,7 @@ impl Cases {
             count: 0,
             report: String::new(alloc),
             names: Vec::new(alloc),
+            version: CaseVersion::One,
             inputs: String::new(alloc),
             asked: Asked::Text(String::new(alloc)),
             alloc,
@@ -68,6 +71,7 @@ impl Cases {
         match line {
             CaseLine::Note => {}
             CaseLine::Let(named) => self.name(named)?,
+            CaseLine::Version(version) => self.version = version,
             CaseLine::Inputs(inputs) => self.inputs = self.written_out(inputs)?,
             CaseLine::Text(text) => self.asked = Asked::Text(self.written_out(text)?),
             CaseLine::Expr(expr) => self.asked = Asked::Expr(self.written_out(expr)?),
@@ -177,10 +181,10 @@ impl Cases {
 
     /// The request for an expression over the inputs.
     fn request(&self, expr: &str, workers: u32, block: u32) -> Result<String, AllocError> {
-        let inputs = self.inputs.as_str();
-        format!(in self.alloc;
-            "{{\"version\":1,\"workers\":{workers},\"block\":{block},\"inputs\":{inputs},\"expr\":{expr}}}"
-        )
+        let (version, inputs) = (self.version.number(), self.inputs.as_str());
+        let head = format!(in self.alloc; "\"version\":{version},\"workers\":{workers}")?;
+        let head = head.as_str();
+        format!(in self.alloc; "{{{head},\"block\":{block},\"inputs\":{inputs},\"expr\":{expr}}}")
     }
 
     /// A line where an answer is another one, and else nothing.

@@ -1,18 +1,20 @@
 //! Runs the request texts of files of cases, and tells which are answered otherwise than the files
 //! say. A file has a line `inputs` JSON, then an expression a line, and behind each a line `=` and
-//! the line that answers it; `text` JSON is a whole request text, and `#` begins a note. Behind a
+//! the line that answers it; `text` JSON is a whole request text, and `#` begins a note. The
+//! expressions are of version 1, or of that of the last line `version 1` or `version 2`. Behind a
 //! line `let` NAME TEXT, `<NAME>` stands for that text.
 #![tactic(auto)]
 
 mod answers;
 mod case_line;
+mod case_version;
 mod cases;
 
 use crate::cases::Cases;
 use std::{fs, io};
 
 /// The files of cases.
-const FILES: [&str; 15] = [
+const FILES: [&str; 16] = [
     "arguments.cases",
     "check_order.cases",
     "contractions.cases",
@@ -28,6 +30,7 @@ const FILES: [&str; 15] = [
     "tiles.cases",
     "trees.cases",
     "values.cases",
+    "version_2.cases",
 ];
 
 fn main(rt: HostRuntime) -> io::Result<()> {

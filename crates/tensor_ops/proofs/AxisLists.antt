@@ -1,10 +1,14 @@
 -- Lists of axes, one axis after another, and walks along dims.
-use Rattle.std.proofs.Common.{◌≡◌, ℕ, zero, suc, ◌+◌, ◌*◌, ◌/◌, ◌%◌, ◌<◌, List, [], ◌∷◌, length, get_or, drop, Bool, true, false, not, ◌&&◌, nat_eq}
+use Rattle.std.proofs.Common.{◌≡◌, ℕ, zero, suc, ◌+◌, ◌*◌, ◌/◌, ◌%◌, ◌<◌, ◌≤◌, min, max, List, [], ◌∷◌, length, get_or, drop, Bool, true, false, not, ◌&&◌, nat_eq}
 use Rattle.std.proofs.Common.{refl, ap, arith, add-one}
 use Rattle.std.proofs.lemmas.Bool.{and_parts, and_from, eqb-true, eq-eqb, not-true}
+use Rattle.std.proofs.Math.Nat.{mul-le-mul, mul-le-mul_left, mul-le-mul_right}
 use Rattle.std.proofs.Math.Seq.{drop-cons}
+use Rattle.std.specs.Int.{div_ceil}
 use Rattle.tensor_shape.specs.Index.{size_of, place_by, index_of}
-use Rattle.tensor_ops.specs.Axes.{rising, no_axis, axes_from, are_along, by_steps, repeated_axes, cut_axes, turned_axes}
+use Rattle.tensor_shape.specs.Legal.{bulk_of}
+use Rattle.tensor_shape.proofs.Sizes.{one-le-bulk_of}
+use Rattle.tensor_ops.specs.Axes.{rising, no_axis, axes_from, are_along, by_steps, repeated_axes, cut_axes, turned_axes, strided_axes}
 use Rattle.tensor_ops.specs.Walk.{reached, walk_size}
 use Rattle.tensor_ops.specs.declared.walk.Axis.{Axis}
 
@@ -34,6 +38,32 @@ pub turned_axes-at : (axes : List Axis) (fs : List Bool) (i : ℕ) → i < lengt
     ≡ record { size = (get_or axes i no_axis).size; step = (get_or axes i no_axis).step; falls = get_or fs i false }
     ∷ turned_axes (drop (i + 1) axes) (drop (i + 1) fs)
 turned_axes-at axes fs i in_axes in_fs = rw (add-one, drop-cons axes i no_axis in_axes, drop-cons fs i false in_fs) refl
+
+pub strided_axes-at : (axes : List Axis) (ss : List ℕ) (i : ℕ) → i < length axes → i < length ss
+    → strided_axes (drop i axes) (drop i ss)
+    ≡ rising (div_ceil (get_or axes i no_axis).size (get_or ss i 0))
+    ((get_or axes i no_axis).step * min (get_or ss i 0) (get_or axes i no_axis).size)
+    ∷ strided_axes (drop (i + 1) axes) (drop (i + 1) ss)
+strided_axes-at axes ss i in_axes in_ss = rw (add-one, drop-cons axes i no_axis in_axes, drop-cons ss i 0 in_ss) refl
+
+-- an axis of whole dims spans no more than the bulk
+pub axes_from-short : (t : ℕ) (ds : List ℕ) (k : ℕ) → k < length ds
+    → (get_or (axes_from t ds) k no_axis).step * (get_or (axes_from t ds) k no_axis).size ≤ t * bulk_of ds
+axes_from-short t [] k within = absurd (omega arith)
+axes_from-short t (d ∷ ds) zero within =
+    let first : d ≤ max 1 d = omega arith in
+    mul-le-mul_left t (omega (arith, mul-le-mul first (one-le-bulk_of ds)))
+axes_from-short t (d ∷ ds) (suc k) within =
+    let first : d ≤ max 1 d = omega arith in
+    let factor : d * bulk_of ds ≤ max 1 d * bulk_of ds = mul-le-mul_right (bulk_of ds) first in
+    let rest = axes_from-short (t * d) ds k (omega arith) in
+    let whole : t * (d * bulk_of ds) ≤ t * (max 1 d * bulk_of ds) = mul-le-mul_left t factor in
+    let same : t * d * bulk_of ds ≡ t * (d * bulk_of ds) = grind arith in
+    omega (arith, rest, whole, same)
+
+pub length-axes_from : (t : ℕ) (ds : List ℕ) → length (axes_from t ds) ≡ length ds
+length-axes_from t [] = refl
+length-axes_from t (d ∷ ds) = omega (arith, length-axes_from (t * d) ds)
 
 -- the axes of whole dims go along them, and add up to the place
 pub are_along-from : (t : ℕ) (ds : List ℕ) → are_along (axes_from t ds) ds ≡ true

@@ -10,6 +10,7 @@ use Rattle.std.proofs.lemmas.Simd.{map-map}
 use Rattle.std.proofs.Math.IntN.{*ℤ_comm}
 use Rattle.std.proofs.Math.Nat.{div-eq_of_lt, mod-eq_of_lt}
 use Rattle.std.proofs.lemmas.Nat.{div_below}
+use Rattle.tensor_shape.specs.Legal.{highest_rank}
 use Rattle.tensor_shape.specs.Index.{size_of, place, index_of}
 use Rattle.tensor_shape.specs.Wrap.{wrap}
 use Rattle.tensor_ops.specs.Contraction.{firsts, seconds, outer_dims, contracted, contracted_dims}
@@ -23,7 +24,7 @@ use Rattle.tensor_ops.proofs.TilePlaces.{some_factor}
 use Rattle.tensor_ops.proofs.TwoParts.{take-index_of, drop-index_of}
 
 -- a sum over a run of numbers
-fold-sum_to : (f : ℕ → ℤ) (n : ℕ) → fold ◌+ℤ◌ (pos 0) (map f (range_with_len 0 n)) ≡ sum_to f n
+pub fold-sum_to : (f : ℕ → ℤ) (n : ℕ) → fold ◌+ℤ◌ (pos 0) (map f (range_with_len 0 n)) ≡ sum_to f n
 fold-sum_to f zero = refl
 fold-sum_to f (suc n) =
     let more : map f (range_with_len 0 (suc n)) ≡ map f (range_with_len 0 n) ++ f n ∷ [] =
@@ -61,7 +62,7 @@ pub record IsContraction (pairs : List (ℕ × ℕ)) (ds es : List ℕ) (a b : L
 
 -- two operands as rows, so many of so many values
 module _ (pairs : List (ℕ × ℕ)) (ds es : List ℕ) (a b : List ℤ) (m n w n' : ℕ)
-    (first second : ℕ → ℕ → ℤ) (axes others : List ℕ) (legal : IsOk (contracted_dims pairs ds es))
+    (first second : ℕ → ℕ → ℤ) (axes others : List ℕ) (legal : IsOk (contracted_dims highest_rank pairs ds es))
     (is_first_at : IsOperand m n first a ds axes) (are_firsts : axes ≡ firsts pairs)
     (is_second_at : IsOperand w n' second b es others) (are_seconds : others ≡ seconds pairs) where
   is_first : IsOperand m n first a ds (firsts pairs)

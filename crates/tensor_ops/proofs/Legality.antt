@@ -1,12 +1,14 @@
 -- Result dims that need no test of being legal.
 use Rattle.std.proofs.Common.{◌≡◌, ℕ, zero, suc, ◌+◌, ◌*◌, ◌<◌, ◌≤◌, max, List, [], ◌∷◌, length, get_or, remove}
-use Rattle.std.proofs.Common.{true, false, nat_le, arith}
-use Rattle.std.proofs.lemmas.Bool.{and_parts, and_from, and_right, leb-true, le-leb, lt-leb}
+use Rattle.std.proofs.Common.{true, false, nat_le, nat_lt, inl, inr, arith}
+use Rattle.std.proofs.lemmas.Bool.{cases_Bool, and_parts, and_from, and_right, leb-true, leb-false, ltb-true, le-leb, lt-leb}
 use Rattle.std.proofs.lemmas.List.{length-map}
-use Rattle.std.proofs.Math.Nat.{mul-le-mul, mul-le-mul_left}
+use Rattle.std.proofs.lemmas.Grind.{div_ceil_times}
+use Rattle.std.proofs.Math.Nat.{mul-le-mul, mul-le-mul_left, mul-le-mul_right}
+use Rattle.std.specs.Int.{div_ceil}
 use Rattle.tensor_shape.specs.Legal.{highest_rank, most_elements, bulk_of, IsLegal, are_legal}
 use Rattle.tensor_shape.proofs.Sizes.{one-le-bulk_of, bulk_of-take-le, bulk_of-drop-le}
-use Rattle.tensor_ops.specs.Movement.{fit_within, repeated_dims, shuffled_dims, has_all_below}
+use Rattle.tensor_ops.specs.Movement.{fit_within, repeated_dims, shuffled_dims, strided_dims, none_is_zero, has_all_below}
 use Rattle.tensor_ops.proofs.Permutations.{bulk_of-permutation}
 
 -- dims with no more axes and no greater bulk than legal ones
@@ -57,6 +59,35 @@ length-remove (d ∷ ds) (suc k) = omega (arith, length-remove ds k)
 pub are_legal-chip : (ds : List ℕ) (k : ℕ) → IsLegal ds → are_legal highest_rank (remove ds k) ≡ true
 are_legal-chip ds k legal = are_legal-below ds (remove ds k) legal (length-remove ds k) (bulk_of-remove ds k)
 
+-- a stride has no greater dimension
+pub div_ceil-below : (d s : ℕ) → 0 < s → div_ceil d s ≤ d
+div_ceil-below d s some =
+    let times = div_ceil_times d s some in
+    elim (cases_Bool (nat_le (div_ceil d s) d)) [
+      | inl within ↦ leb-true (div_ceil d s) d within
+      | inr past ↦
+          let more : (d + 1) * s ≤ div_ceil d s * s = mul-le-mul_right s (omega (arith, leb-false (div_ceil d s) d past)) in
+          let each : d * 1 ≤ d * s = mul-le-mul_left d some in
+          let next : (d + 1) * s ≡ d * s + s = grind arith in
+          absurd (omega (arith, times.1, more, each, next))
+    ]
+
+bulk_of-stride : (ds ss : List ℕ) → none_is_zero ss ≡ true → bulk_of (strided_dims ds ss) ≤ bulk_of ds
+bulk_of-stride [] ss some = omega arith
+bulk_of-stride (d ∷ ds) [] some = omega (arith, one-le-bulk_of (d ∷ ds))
+bulk_of-stride (d ∷ ds) (s ∷ ss) some =
+    let parts = and_parts (nat_lt 0 s) (none_is_zero ss) some in
+    let first : max 1 (div_ceil d s) ≤ max 1 d = omega (arith, div_ceil-below d s (ltb-true 0 s parts.0)) in
+    mul-le-mul first (bulk_of-stride ds ss parts.1)
+
+length-stride : (ds ss : List ℕ) → length (strided_dims ds ss) ≤ length ds
+length-stride [] ss = omega arith
+length-stride (d ∷ ds) [] = omega arith
+length-stride (d ∷ ds) (s ∷ ss) = omega (arith, length-stride ds ss)
+
+pub are_legal-stride : (ds ss : List ℕ) → IsLegal ds → none_is_zero ss ≡ true → are_legal highest_rank (strided_dims ds ss) ≡ true
+are_legal-stride ds ss legal some = are_legal-below ds (strided_dims ds ss) legal (length-stride ds ss) (bulk_of-stride ds ss some)
+
 -- one dimension of a broadcast is within the whole
 repeated_dims-within : (ds cs : List ℕ) (i : ℕ) → length cs ≡ length ds → i < length ds
     → get_or ds i 0 * get_or cs i 0 ≤ bulk_of (repeated_dims ds cs)
@@ -70,8 +101,8 @@ repeated_dims-within (d ∷ ds) (c ∷ cs) (suc i) same within =
     omega (arith, mul-le-mul {n₁ = 1} first (repeated_dims-within ds cs i (omega arith) (omega arith)))
 
 -- so a broadcast with a dimension past the limit isn't legal
-pub are_legal-repeated : (ds cs : List ℕ) (i : ℕ) → length cs ≡ length ds → i < length ds → most_elements < get_or ds i 0 * get_or cs i 0
-    → are_legal highest_rank (repeated_dims ds cs) ≡ false
-are_legal-repeated ds cs i same within past =
-    and_right (nat_le (length (repeated_dims ds cs)) highest_rank) (nat_le (bulk_of (repeated_dims ds cs)) most_elements)
+pub are_legal-repeated : (rank : ℕ) (ds cs : List ℕ) (i : ℕ) → length cs ≡ length ds → i < length ds → most_elements < get_or ds i 0 * get_or cs i 0
+    → are_legal rank (repeated_dims ds cs) ≡ false
+are_legal-repeated rank ds cs i same within past =
+    and_right (nat_le (length (repeated_dims ds cs)) rank) (nat_le (bulk_of (repeated_dims ds cs)) most_elements)
     (lt-leb (bulk_of (repeated_dims ds cs)) most_elements (omega (arith, repeated_dims-within ds cs i same within)))

@@ -1,17 +1,19 @@
 -- A moved index list is an index list of the operand's dims.
 use Rattle.std.proofs.Common.{◌≡◌, ℕ, zero, suc, ◌+◌, ◌-◌, ◌*◌, ◌<◌, ◌≤◌, List, [], ◌∷◌, length, map, get_or, drop, insert, remove}
-use Rattle.std.proofs.Common.{Bool, true, false, nat_le, if◌then◌else◌, Ok, IsOk, ap, subst, ◌∙◌, arith, inl, inr, refl}
-use Rattle.std.proofs.lemmas.Bool.{and_parts, cases_eq, leb-true}
+use Rattle.std.proofs.Common.{Bool, true, false, nat_le, nat_lt, if◌then◌else◌, Ok, IsOk, ap, subst, ◌∙◌, arith, inl, inr, refl}
+use Rattle.std.proofs.lemmas.Bool.{and_parts, cases_eq, leb-true, ltb-true}
 use Rattle.std.proofs.lemmas.List.{length-set, get_or-set_other, get_or-set_same, length-map}
-use Rattle.std.proofs.Math.Nat.{mod-lt}
+use Rattle.std.proofs.lemmas.Grind.{div_ceil_times}
+use Rattle.std.proofs.Math.Nat.{mod-lt, mul-le-mul_right}
+use Rattle.std.specs.Int.{div_ceil}
 use Rattle.tensor_shape.specs.Index.{IsIndexOf, place}
-use Rattle.tensor_shape.specs.Legal.{most_elements, bulk_of, IsLegal}
+use Rattle.tensor_shape.specs.Legal.{highest_rank, most_elements, bulk_of, IsLegal}
 use Rattle.tensor_shape.proofs.Places.{length-IsIndexOf, place-below-size_of, IsIndexOf-index_of}
 use Rattle.tensor_shape.proofs.Sizes.{bulk_of-drop-le, mul-le-bulk_of}
-use Rattle.tensor_ops.specs.Movement.{moved_dims, moved, wrapped, offset_by, scattered, mirrored}
-use Rattle.tensor_ops.specs.Movement.{repeated_dims, shuffled_dims, fit_within, is_among}
-use Rattle.tensor_ops.specs.Term.{Movement, broadcast, slice, shuffle, reshape, chip, reverse}
-use Rattle.tensor_ops.proofs.Known.{moved_dims-unique, broadcast-known, slice-known, shuffle-known, reshape-known, chip-known, reverse-known}
+use Rattle.tensor_ops.specs.Movement.{moved_dims, moved, wrapped, offset_by, scattered, mirrored, scaled}
+use Rattle.tensor_ops.specs.Movement.{repeated_dims, shuffled_dims, strided_dims, fit_within, none_is_zero, is_among}
+use Rattle.tensor_ops.specs.Term.{Movement, broadcast, slice, shuffle, reshape, chip, reverse, stride}
+use Rattle.tensor_ops.proofs.Known.{moved_dims-unique, broadcast-known, slice-known, shuffle-known, reshape-known, chip-known, reverse-known, stride-known}
 use Rattle.tensor_ops.proofs.Permutations.{is_among-rest, is_among-has_all_below}
 
 -- a factor of what is above a number isn't 0
@@ -84,13 +86,31 @@ IsIndexOf-mirrored (d ∷ ds) [] (f ∷ fs) same index = absurd index
 IsIndexOf-mirrored (d ∷ ds) (i ∷ is) (f ∷ fs) same index =
     (mirrored-below f d i index.0, IsIndexOf-mirrored ds is fs (omega arith) index.1)
 
+-- a multiple of a step that is read is below the dimension
+pub mul-below-div_ceil : (d s i : ℕ) → 0 < s → i < div_ceil d s → i * s < d
+mul-below-div_ceil d s i some below =
+    let times = div_ceil_times d s some in
+    let next : (i + 1) * s ≤ div_ceil d s * s = mul-le-mul_right s (omega arith) in
+    let more : (i + 1) * s ≡ i * s + s = grind arith in
+    omega (arith, times.1, next, more)
+
+pub IsIndexOf-scaled : (ds is ss : List ℕ) → length ss ≡ length ds → none_is_zero ss ≡ true → IsIndexOf (strided_dims ds ss) is
+    → IsIndexOf ds (scaled ss is)
+IsIndexOf-scaled [] is [] same some index = tt
+IsIndexOf-scaled [] is (s ∷ ss) same some index = absurd (omega arith)
+IsIndexOf-scaled (d ∷ ds) is [] same some index = absurd (omega arith)
+IsIndexOf-scaled (d ∷ ds) [] (s ∷ ss) same some index = absurd index
+IsIndexOf-scaled (d ∷ ds) (i ∷ is) (s ∷ ss) same some index =
+    let parts = and_parts (nat_lt 0 s) (none_is_zero ss) some in
+    (mul-below-div_ceil d s i (ltb-true 0 s parts.0) index.0, IsIndexOf-scaled ds is ss (omega arith) parts.1 index.1)
+
 -- the operand's dims, and those of the result
 pub record IsMoved (m : Movement) (ds es : List ℕ) : Type 0 where
-  pub dims : moved_dims m ds ≡ Ok es
+  pub dims : moved_dims highest_rank m ds ≡ Ok es
   pub index : (is : List ℕ) → IsIndexOf es is → IsIndexOf ds (moved m ds is)
 
 -- what is known of a movement that has result dims
-pub moved-known : (m : Movement) (ds : List ℕ) → IsOk (moved_dims m ds) → (es : List ℕ) × IsMoved m ds es
+pub moved-known : (m : Movement) (ds : List ℕ) → IsOk (moved_dims highest_rank m ds) → (es : List ℕ) × IsMoved m ds es
 moved-known (broadcast counts) ds h =
     let known = broadcast-known counts ds h in
     (repeated_dims ds counts, record { dims = known.dims; index = λ is index. IsIndexOf-wrapped ds counts is known.long index })
@@ -128,9 +148,12 @@ moved-known (chip offset axis) ds h =
 moved-known (reverse flags) ds h =
     let known = reverse-known flags ds h in
     (ds, record { dims = known.dims; index = λ is index. IsIndexOf-mirrored ds is flags known.long index })
+moved-known (stride steps) ds h =
+    let known = stride-known steps ds h in
+    (strided_dims ds steps, record { dims = known.dims; index = λ is index. IsIndexOf-scaled ds is steps known.long known.some index })
 
 -- so it reads inside of its operand
-pub IsIndexOf-moved : (m : Movement) (ds es is : List ℕ) → moved_dims m ds ≡ Ok es → IsIndexOf es is → IsIndexOf ds (moved m ds is)
+pub IsIndexOf-moved : (m : Movement) (ds es is : List ℕ) → moved_dims highest_rank m ds ≡ Ok es → IsIndexOf es is → IsIndexOf ds (moved m ds is)
 IsIndexOf-moved m ds es is dims index =
     let known = moved-known m ds (rw dims refl) in
     known.1.index is (subst (λ rs. IsIndexOf rs is) (moved_dims-unique m ds es known.0 dims known.1.dims) index)
@@ -149,6 +172,18 @@ get_or-offset_by (o ∷ os) [] k same within = absurd (omega arith)
 get_or-offset_by (o ∷ os) (i ∷ is) zero same within = refl
 get_or-offset_by (o ∷ os) (i ∷ is) (suc k) same within = get_or-offset_by os is k (omega arith) (omega arith)
 
+pub get_or-scaled : (ss is : List ℕ) (k : ℕ) → length is ≡ length ss → k < length ss
+    → get_or (scaled ss is) k 0 ≡ get_or is k 0 * get_or ss k 0
+get_or-scaled [] is k same within = absurd (omega arith)
+get_or-scaled (s ∷ ss) [] k same within = absurd (omega arith)
+get_or-scaled (s ∷ ss) (i ∷ is) zero same within = refl
+get_or-scaled (s ∷ ss) (i ∷ is) (suc k) same within = get_or-scaled ss is k (omega arith) (omega arith)
+
+pub length-strided_dims : (ds ss : List ℕ) → length ss ≡ length ds → length (strided_dims ds ss) ≡ length ds
+length-strided_dims [] ss same = refl
+length-strided_dims (d ∷ ds) [] same = absurd (omega arith)
+length-strided_dims (d ∷ ds) (s ∷ ss) same = omega (arith, length-strided_dims ds ss (omega arith))
+
 pub length-remove : (ds : List ℕ) (k : ℕ) → k < length ds → length (remove ds k) + 1 ≡ length ds
 length-remove [] k within = absurd (omega arith)
 length-remove (d ∷ ds) zero within = omega arith
@@ -161,13 +196,13 @@ length-repeated_dims (d ∷ ds) [] same = absurd (omega arith)
 length-repeated_dims (d ∷ ds) (c ∷ cs) same = omega (arith, length-repeated_dims ds cs (omega arith))
 
 -- where a movement reads something, each dimension of its operand has an index
-pub dimension-some : (m : Movement) (ds es is : List ℕ) (k : ℕ) → moved_dims m ds ≡ Ok es → IsIndexOf es is → k < length ds → 0 < get_or ds k 0
+pub dimension-some : (m : Movement) (ds es is : List ℕ) (k : ℕ) → moved_dims highest_rank m ds ≡ Ok es → IsIndexOf es is → k < length ds → 0 < get_or ds k 0
 dimension-some m ds es is k dims index within =
     let below = get_or-IsIndexOf ds (moved m ds is) k (IsIndexOf-moved m ds es is dims index) within in
     omega (arith, below)
 
 -- an index list of the result has as many indices
-pub length-moved : (m : Movement) (ds es rs is : List ℕ) → moved_dims m ds ≡ Ok es → moved_dims m ds ≡ Ok rs → IsIndexOf es is → length is ≡ length rs
+pub length-moved : (m : Movement) (ds es rs is : List ℕ) → moved_dims highest_rank m ds ≡ Ok es → moved_dims highest_rank m ds ≡ Ok rs → IsIndexOf es is → length is ≡ length rs
 length-moved m ds es rs is dims known index =
     length-IsIndexOf es is index ∙ ap length (moved_dims-unique m ds es rs dims known)
 

@@ -1,29 +1,37 @@
 -- A term whose operands are the same tensors as another's is the same tensor.
-use Rattle.std.proofs.Common.{◌≡◌, ℕ, ℤ, List, [], Ok, Err, IsOk, refl, ap, sym, subst, ◌∙◌}
+use Rattle.std.proofs.Common.{◌≡◌, ℕ, ℤ, List, [], Ok, IsOk, refl, ap, sym, subst, ◌∙◌}
 use Rattle.std.proofs.Common.{arith, inl, inr}
 use Rattle.std.proofs.lemmas.Bool.{cases_Bool}
 use Rattle.std.specs.Cmp.Lexicographic.{pointwise, same_text}
 use Rattle.std.specs.Prelude.{nat_eq}
 use Rattle.std.specs.Result.{result_unwrap_or}
+use Rattle.tensor_shape.specs.Legal.{highest_rank}
 use Rattle.tensor_shape.specs.Index.{size_of, IsIndexOf, index_of}
 use Rattle.tensor_shape.proofs.Places.{IsIndexOf-index_of}
+use Rattle.tensor_ops.specs.Concatenation.{joined_dims}
 use Rattle.tensor_ops.specs.Contents.{Contents, input_of, value_at}
 use Rattle.tensor_ops.specs.Contraction.{outer_dims}
+use Rattle.tensor_ops.specs.Convolution.{slid_dims}
 use Rattle.tensor_ops.specs.Movement.{moved}
+use Rattle.tensor_ops.specs.Padding.{padded_dims}
 use Rattle.tensor_ops.specs.Result.{dims_of, shape_of, unary_dims, binary_dims, ternary_dims}
 use Rattle.tensor_ops.specs.Scalars.{applied}
-use Rattle.tensor_ops.specs.Shaped.{Shaped, with_one, with_two, with_three, equal_dims}
+use Rattle.tensor_ops.specs.Shaped.{with_one, with_two, with_three, equal_dims}
 use Rattle.tensor_ops.specs.Term.{Term, input, unary, binary, ternary}
-use Rattle.tensor_ops.specs.Term.{Unary, each, constant, movement, reduce, Binary, pairwise}
-use Rattle.tensor_ops.specs.Term.{contract, Ternary, select}
+use Rattle.tensor_ops.specs.Term.{Unary, each, constant, movement, pad, reduce, Binary, pairwise}
+use Rattle.tensor_ops.specs.Term.{concat, contract, convolve, Ternary, select}
 use Rattle.tensor_ops.specs.Value.{value, value_of_place, tensor_of, unary_value, binary_value}
 use Rattle.tensor_ops.specs.Value.{ternary_value}
 use Rattle.tensor_ops.specs.Woven.{other_dims}
+use Rattle.tensor_ops.proofs.Convolutions.{convolved-other}
 use Rattle.tensor_ops.proofs.Evaluated.{map-values_from, value_at-tensor_of, tensor_of-made}
-use Rattle.tensor_ops.proofs.Known.{reduction-known, contraction-known}
+use Rattle.tensor_ops.proofs.Known.{reduction-known, contraction-known, convolution-known}
 use Rattle.tensor_ops.proofs.Moved.{IsIndexOf-moved}
+use Rattle.tensor_ops.proofs.Pads.{pad-known, padded-other}
 use Rattle.tensor_ops.proofs.SameValues.{Agree, reduced-other, contracted-other}
-use Rattle.tensor_ops.proofs.Shapes.{Ok-unwrap, with_one-known, with_two-known}
+use Rattle.tensor_ops.proofs.Shapes.{Ok-unwrap, with_one-known, with_two-known, with_three-known}
+use Rattle.tensor_ops.proofs.SplicedTerms.{concatenated-other}
+use Rattle.tensor_ops.proofs.Splices.{concatenation-known}
 
 -- dims that are equal
 equal_dims-known : (ds es rs : List ℕ) → equal_dims ds es ≡ Ok rs → (ds ≡ es) × (rs ≡ ds)
@@ -34,7 +42,7 @@ equal_dims-known ds es rs dims =
     ]
 
 -- operations on operands that agree
-pub agree-unary : (o : Unary) (ds rs : List ℕ) (f g : List ℕ → ℤ) → unary_dims o ds ≡ Ok rs
+pub agree-unary : (o : Unary) (ds rs : List ℕ) (f g : List ℕ → ℤ) → unary_dims highest_rank o ds ≡ Ok rs
     → Agree ds f g
     → Agree rs (unary_value o ds f) (unary_value o ds g)
 agree-unary (each o) ds rs f g dims same index inside =
@@ -42,13 +50,17 @@ agree-unary (each o) ds rs f g dims same index inside =
 agree-unary (constant v) ds rs f g dims same index inside = refl
 agree-unary (movement m) ds rs f g dims same index inside =
     same (moved m ds index) (IsIndexOf-moved m ds rs index dims inside)
+agree-unary (pad pairs) ds rs f g dims same index inside =
+    let known = pad-known pairs ds (rw dims refl) in
+    let result : rs ≡ padded_dims pairs ds = (cc known.dims) in
+    padded-other pairs ds f g known.long same index (subst (λ d. IsIndexOf d index) result inside)
 agree-unary (reduce r axes) ds rs f g dims same index inside =
     let known = reduction-known axes ds (rw dims refl) in
     let result : rs ≡ other_dims axes ds = (cc known.dims) in
     reduced-other r axes ds f g same index (subst (λ d. IsIndexOf d index) result inside)
 
 pub agree-binary : (o : Binary) (ds es rs : List ℕ) (f g h k : List ℕ → ℤ)
-    → binary_dims o ds es ≡ Ok rs → Agree ds f g → Agree es h k
+    → binary_dims highest_rank o ds es ≡ Ok rs → Agree ds f g → Agree es h k
     → Agree rs (binary_value o ds es f h) (binary_value o ds es g k)
 agree-binary (pairwise o) ds es rs f g h k dims first second index inside =
     let known = equal_dims-known ds es rs dims in
@@ -56,10 +68,19 @@ agree-binary (pairwise o) ds es rs f g h k dims first second index inside =
     let a = first index here in
     let b = second index (subst (λ d. IsIndexOf d index) known.0 here) in
     (cc)
+agree-binary (concat axis) ds es rs f g h k dims first second index inside =
+    let known = concatenation-known axis ds es (rw dims refl) in
+    let result : rs ≡ joined_dims axis ds es = (cc known.dims) in
+    concatenated-other axis ds es f g h k known first second index (subst (λ d. IsIndexOf d index) result inside)
 agree-binary (contract pairs) ds es rs f g h k dims first second index inside =
     let known = contraction-known pairs ds es (rw dims refl) in
     let result : rs ≡ outer_dims pairs ds es = (cc known.dims) in
     contracted-other pairs ds es f g h k known first second index
+    (subst (λ d. IsIndexOf d index) result inside)
+agree-binary (convolve axes) ds es rs f g h k dims first second index inside =
+    let known = convolution-known axes ds es (rw dims refl) in
+    let result : rs ≡ slid_dims axes es ds = (cc known.dims) in
+    convolved-other axes ds es f g h k known first second index
     (subst (λ d. IsIndexOf d index) result inside)
 
 pub agree-ternary : (o : Ternary) (cs ds es rs : List ℕ) (e f g h k l : List ℕ → ℤ)
@@ -78,29 +99,18 @@ agree-ternary select cs ds es rs e f g h k l dims first second third index insid
     let c = third index (subst (λ d. IsIndexOf d index) (sym front.1 ∙ last.0) here) in
     (cc)
 
--- an operation on three operands has dims only where all have
-pub with_three-known : (own : List ℕ → List ℕ → List ℕ → Shaped) (a b c : Shaped)
-    → IsOk (with_three own a b c)
-    → IsOk a × IsOk b × IsOk c ×
-    (with_three own a b c
-    ≡ own (result_unwrap_or a []) (result_unwrap_or b []) (result_unwrap_or c []))
-with_three-known own (Ok d) (Ok e) (Ok f) h = (refl, refl, refl, refl)
-with_three-known own (Ok d) (Ok e) (Err fault) h = (cc)
-with_three-known own (Ok d) (Err fault) c h = (cc)
-with_three-known own (Err fault) b c h = (cc)
-
 -- a term over some tensors is the tensor that another is over others
 pub record IsSameTensor (s : Term) (ss : List Contents) (t : Term) (ts : List Contents) : Type 0
   where
-    pub dims : dims_of s ss ≡ dims_of t ts
+    pub dims : dims_of highest_rank s ss ≡ dims_of highest_rank t ts
     pub values : Agree (shape_of t ts) (value s ss) (value t ts)
 
 module _ (ss ts : List Contents) where
   -- a tensor that was worked out
-  pub same-worked_out : (n : ℕ) (t : Term) → IsOk (dims_of t ts) → input_of ss n ≡ tensor_of t ts
+  pub same-worked_out : (n : ℕ) (t : Term) → IsOk (dims_of highest_rank t ts) → input_of ss n ≡ tensor_of t ts
       → IsSameTensor (input n) ss t ts
   same-worked_out n t has here = record {
-    dims = ap (λ x. Ok x.dims) here ∙ sym (Ok-unwrap (dims_of t ts) has);
+    dims = ap (λ x. Ok x.dims) here ∙ sym (Ok-unwrap (dims_of highest_rank t ts) has);
     values = λ index inside. ap (λ x. value_at x index) here ∙ value_at-tensor_of ts t index inside;
   }
 
@@ -111,33 +121,33 @@ module _ (ss ts : List Contents) where
     values = λ index inside. ap (λ x. value_at x index) here;
   }
 
-  pub same-unary : (o : Unary) (s t : Term) → IsOk (dims_of (unary o t) ts) → IsSameTensor s ss t ts
+  pub same-unary : (o : Unary) (s t : Term) → IsOk (dims_of highest_rank (unary o t) ts) → IsSameTensor s ss t ts
       → IsSameTensor (unary o s) ss (unary o t) ts
   same-unary o s t has same =
-      let known = with_one-known (unary_dims o) (dims_of t ts) has in
+      let known = with_one-known (unary_dims highest_rank o) (dims_of highest_rank t ts) has in
       let shape : shape_of s ss ≡ shape_of t ts = ap (λ r. result_unwrap_or r []) same.dims in
-      let dims : unary_dims o (shape_of t ts) ≡ Ok (shape_of (unary o t) ts) =
-      sym known.1 ∙ Ok-unwrap (dims_of (unary o t) ts) has in
+      let dims : unary_dims highest_rank o (shape_of t ts) ≡ Ok (shape_of (unary o t) ts) =
+      sym known.1 ∙ Ok-unwrap (dims_of highest_rank (unary o t) ts) has in
       record {
-        dims = ap (with_one (unary_dims o)) same.dims;
+        dims = ap (with_one (unary_dims highest_rank o)) same.dims;
         values = λ index inside.
             ap (λ d. unary_value o d (value s ss) index) shape
             ∙ agree-unary o (shape_of t ts) (shape_of (unary o t) ts) (value s ss) (value t ts)
             dims same.values index inside;
       }
 
-  pub same-binary : (o : Binary) (s t u v : Term) → IsOk (dims_of (binary o t v) ts)
+  pub same-binary : (o : Binary) (s t u v : Term) → IsOk (dims_of highest_rank (binary o t v) ts)
       → IsSameTensor s ss t ts → IsSameTensor u ss v ts
       → IsSameTensor (binary o s u) ss (binary o t v) ts
   same-binary o s t u v has first second =
-      let known = with_two-known (binary_dims o) (dims_of t ts) (dims_of v ts) has in
+      let known = with_two-known (binary_dims highest_rank o) (dims_of highest_rank t ts) (dims_of highest_rank v ts) has in
       let left : shape_of s ss ≡ shape_of t ts = ap (λ r. result_unwrap_or r []) first.dims in
       let right : shape_of u ss ≡ shape_of v ts = ap (λ r. result_unwrap_or r []) second.dims in
-      let dims : binary_dims o (shape_of t ts) (shape_of v ts) ≡ Ok (shape_of (binary o t v) ts) =
-      sym known.2 ∙ Ok-unwrap (dims_of (binary o t v) ts) has in
+      let dims : binary_dims highest_rank o (shape_of t ts) (shape_of v ts) ≡ Ok (shape_of (binary o t v) ts) =
+      sym known.2 ∙ Ok-unwrap (dims_of highest_rank (binary o t v) ts) has in
       record {
-        dims = ap (λ r. with_two (binary_dims o) r (dims_of u ss)) first.dims
-            ∙ ap (with_two (binary_dims o) (dims_of t ts)) second.dims;
+        dims = ap (λ r. with_two (binary_dims highest_rank o) r (dims_of highest_rank u ss)) first.dims
+            ∙ ap (with_two (binary_dims highest_rank o) (dims_of highest_rank t ts)) second.dims;
         values = λ index inside.
             ap (λ d. binary_value o d (shape_of u ss) (value s ss) (value u ss) index) left
             ∙ ap (λ e. binary_value o (shape_of t ts) e (value s ss) (value u ss) index) right
@@ -146,20 +156,20 @@ module _ (ss ts : List Contents) where
             (value u ss) (value v ts) dims first.values second.values index inside;
       }
 
-  pub same-ternary : (o : Ternary) (s t u v w x : Term) → IsOk (dims_of (ternary o t v x) ts)
+  pub same-ternary : (o : Ternary) (s t u v w x : Term) → IsOk (dims_of highest_rank (ternary o t v x) ts)
       → IsSameTensor s ss t ts
       → IsSameTensor u ss v ts → IsSameTensor w ss x ts
       → IsSameTensor (ternary o s u w) ss (ternary o t v x) ts
   same-ternary o s t u v w x has first second third =
-      let known = with_three-known (ternary_dims o) (dims_of t ts) (dims_of v ts) (dims_of x ts)
+      let known = with_three-known (ternary_dims o) (dims_of highest_rank t ts) (dims_of highest_rank v ts) (dims_of highest_rank x ts)
       has in
       let dims : ternary_dims o (shape_of t ts) (shape_of v ts) (shape_of x ts)
       ≡ Ok (shape_of (ternary o t v x) ts) =
-      sym known.3 ∙ Ok-unwrap (dims_of (ternary o t v x) ts) has in
+      sym known.3 ∙ Ok-unwrap (dims_of highest_rank (ternary o t v x) ts) has in
       record {
-        dims = ap (λ r. with_three (ternary_dims o) r (dims_of u ss) (dims_of w ss)) first.dims
-            ∙ ap (λ r. with_three (ternary_dims o) (dims_of t ts) r (dims_of w ss)) second.dims
-            ∙ ap (with_three (ternary_dims o) (dims_of t ts) (dims_of v ts)) third.dims;
+        dims = ap (λ r. with_three (ternary_dims o) r (dims_of highest_rank u ss) (dims_of highest_rank w ss)) first.dims
+            ∙ ap (λ r. with_three (ternary_dims o) (dims_of highest_rank t ts) r (dims_of highest_rank w ss)) second.dims
+            ∙ ap (with_three (ternary_dims o) (dims_of highest_rank t ts) (dims_of highest_rank v ts)) third.dims;
         values = λ index inside.
             agree-ternary o (shape_of t ts) (shape_of v ts) (shape_of x ts)
             (shape_of (ternary o t v x) ts)

@@ -1,5 +1,5 @@
 -- Settled expressions: how far walks reach, and values by index lists.
-use Rattle.std.proofs.Common.{◌≡◌, ℕ, ◌+◌, ◌-◌, ◌*◌, ◌<◌, ◌≤◌, List, [], ◌∷◌, if◌then◌else◌}
+use Rattle.std.proofs.Common.{◌≡◌, ℕ, ℤ, ◌+◌, ◌-◌, ◌*◌, ◌<◌, ◌≤◌, List, [], ◌∷◌, if◌then◌else◌}
 use Rattle.std.proofs.Common.{refl, ap, sym, subst, ◌∙◌, arith, inl, inr}
 use Rattle.std.proofs.lemmas.Bool.{cases_Bool}
 use Rattle.std.proofs.Math.Nat.{mul-le-mul_left}
@@ -8,10 +8,12 @@ use Rattle.tensor_shape.proofs.Places.{place-index_of}
 use Rattle.tensor_ops.specs.Joining.{span}
 use Rattle.tensor_ops.specs.Meaning.{meaning, count_of}
 use Rattle.tensor_ops.specs.Placing.{Gives, meaning_at}
-use Rattle.tensor_ops.specs.Settling.{Follows}
+use Rattle.tensor_ops.specs.Settling.{Follows, meaning_along}
+use Rattle.tensor_ops.specs.Splicing.{spliced, HaveTurns}
 use Rattle.tensor_ops.specs.Walk.{walk_size, reached, steps_to}
 use Rattle.tensor_ops.specs.declared.placed.Placed.{Placed}
 use Rattle.tensor_ops.specs.declared.walk.Axis.{Axis}
+use Rattle.tensor_ops.proofs.InTurns.{spliced-other}
 use Rattle.tensor_ops.proofs.Walks.{reached-row, row-within, mul-next}
 
 -- the last place along axes
@@ -67,4 +69,33 @@ gives-followed placed other ds count follows = record {
   sound = follows.sound;
   count = follows.count ∙ count;
   means = λ p below. follows.means p (omega (arith, count)) ∙ ap (meaning other) (sym (place-index_of ds p below));
+}
+
+-- two operands in turns that follow others follow those in turns
+pub follows-spliced : (v w : ℕ) (a b inner other x y r : Placed) → HaveTurns v w (count_of a) (count_of b) → inner ≡ a → other ≡ b
+    → Follows x (count_of inner) (meaning inner) → Follows y (count_of other) (meaning other)
+    → Follows r (count_of x + count_of y) (spliced v w (meaning x) (meaning y))
+    → Follows r (count_of a + count_of b) (spliced v w (meaning a) (meaning b))
+follows-spliced v w a b inner other x y r turns same_a same_b first second whole =
+    let left : count_of x ≡ count_of a = first.count ∙ ap count_of same_a in
+    let right : count_of y ≡ count_of b = second.count ∙ ap count_of same_b in
+    record {
+      sound = whole.sound;
+      count = whole.count ∙ omega (arith, left, right);
+      means = λ p below.
+          whole.means p (omega (arith, left, right))
+          ∙ spliced-other v w (count_of a) (count_of b) turns (meaning x) (meaning y) (meaning a) (meaning b)
+          (λ q inside. first.means q (omega (arith, ap count_of same_a)) ∙ ap (λ z. meaning z q) same_a)
+          (λ q inside. second.means q (omega (arith, ap count_of same_b)) ∙ ap (λ z. meaning z q) same_b) p below;
+    }
+
+-- and a walk over what follows a function follows it along the walk
+pub follows-along : (r placed : Placed) (places : ℕ) (at : ℕ → ℤ) (start : ℕ) (axes : List Axis)
+    → Follows r (walk_size axes) (meaning_along placed start axes) → Follows placed places at
+    → ((p : ℕ) → p < walk_size axes → reached start axes p < places)
+    → Follows r (walk_size axes) (λ p. at (reached start axes p))
+follows-along r placed places at start axes walk follows inside = record {
+  sound = walk.sound;
+  count = walk.count;
+  means = λ p below. walk.means p below ∙ follows.means (reached start axes p) (inside p below);
 }

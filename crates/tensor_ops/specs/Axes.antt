@@ -1,8 +1,10 @@
 -- The axes of a walk, and what a movement makes of them.
 use Rattle.std.specs.Prelude.{◌≡◌, ℕ, ◌+◌, ◌*◌, ◌<◌, List, [], ◌∷◌, length, map}
-use Rattle.std.specs.Prelude.{slice_index, slice_index_or, remove}
+use Rattle.std.specs.Prelude.{slice_index, slice_index_or, remove, min}
+use Rattle.std.specs.Int.{div_ceil}
 use Rattle.std.specs.Prelude.{Bool, true, false, not, ◌&&◌, nat_eq}
 use Rattle.tensor_ops.specs.Term.{Movement, broadcast, slice, shuffle, reshape, chip, reverse}
+use Rattle.tensor_ops.specs.Term.{stride}
 use Rattle.tensor_ops.specs.declared.walk.Axis.{Axis}
 
 -- an axis along which the places go up
@@ -50,6 +52,13 @@ turned_axes (a ∷ rest) [] = []
 turned_axes (a ∷ rest) (f ∷ fs) =
     record { size = a.size; step = a.step; falls = f } ∷ turned_axes rest fs
 
+-- the axes, of which only each so many-th place is reached, of one that ends before that the first
+abbrev pub strided_axes : List Axis → List ℕ → List Axis
+strided_axes [] ss = []
+strided_axes (a ∷ rest) [] = []
+strided_axes (a ∷ rest) (s ∷ ss) =
+    rising (div_ceil a.size s) (a.step * min s a.size) ∷ strided_axes rest ss
+
 -- the axes in another order
 abbrev pub shuffled_axes : List Axis → List ℕ → List Axis
 shuffled_axes axes order = map (λ s. slice_index_or axes s no_axis) order
@@ -62,6 +71,12 @@ HasRank (shuffle order) n = (k : ℕ) → k < length order → slice_index order
 HasRank (reshape sizes) n = Unit {0}
 HasRank (chip offset axis) n = axis < n
 HasRank (reverse flags) n = length flags ≡ n
+HasRank (stride steps) n = (length steps ≡ n) × ((k : ℕ) → k < n → 0 < slice_index steps k)
+
+-- each axis spans fewer places than that
+abbrev pub AreShort : List Axis → ℕ → Type 0
+AreShort axes n = (k : ℕ) → k < length axes
+    → (slice_index_or axes k no_axis).step * (slice_index_or axes k no_axis).size < n
 
 -- the axes of a movement, from those of its operand
 abbrev pub moved_axes : Movement → List Axis → List Axis
@@ -71,6 +86,7 @@ moved_axes (shuffle order) axes = shuffled_axes axes order
 moved_axes (reshape sizes) axes = axes
 moved_axes (chip offset axis) axes = remove axes axis
 moved_axes (reverse flags) axes = turned_axes axes flags
+moved_axes (stride steps) axes = strided_axes axes steps
 
 -- where the walk of a movement starts, from where that of its operand does
 abbrev pub moved_start : Movement → ℕ → List Axis → ℕ
@@ -80,3 +96,4 @@ moved_start (shuffle order) start axes = start
 moved_start (reshape sizes) start axes = start
 moved_start (chip offset axis) start axes = start + offset * (slice_index_or axes axis no_axis).step
 moved_start (reverse flags) start axes = start
+moved_start (stride steps) start axes = start

@@ -32,14 +32,15 @@ abbrev pub few_products : ℕ → List ℕ → Shaped
 few_products count ds =
     if nat_le (size_of ds * count) most_products then Ok ds else Err TooLarge
 
--- the result dims of a contraction, or the first of its own faults. Legal operands with a legal
--- result have no more products than may be, so that the last check finds nothing
-abbrev pub contracted_dims : List (ℕ × ℕ) → List ℕ → List ℕ → Shaped
-contracted_dims pairs ds es =
+-- the result dims of a contraction, where ranks end there, or the first of its own faults. Legal
+-- operands with a legal result have no more products than may be, so that the last check finds
+-- nothing
+abbrev pub contracted_dims : ℕ → List (ℕ × ℕ) → List ℕ → List ℕ → Shaped
+contracted_dims rank pairs ds es =
     if are_axes (length ds) (firsts pairs) && are_axes (length es) (seconds pairs)
     then (if pointwise nat_eq (dims_at (firsts pairs) ds) (dims_at (seconds pairs) es)
     then with_one (few_products (size_of (dims_at (firsts pairs) ds)))
-    (legal_dims (outer_dims pairs ds es))
+    (legal_dims rank (outer_dims pairs ds es))
     else Err ShapeMismatch)
     else Err OutOfRange
 

@@ -11,4 +11,4 @@ term_under c = term_of c.expr.now
 
 -- the inputs of that term
 abbrev pub inputs_under : Cursor → List Contents
-inputs_under c = c.inputs.now
+inputs_under c = c.inputs.now.tensors

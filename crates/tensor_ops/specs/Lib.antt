@@ -3,9 +3,11 @@ pub use Rattle.tensor_shape.specs.Legal
 pub use Rattle.tensor_shape.specs.Wrap
 pub mod Axes
 pub mod Cells
+pub mod Concatenation
 pub mod Contents
 pub mod Contracting
 pub mod Contraction
+pub mod Convolution
 pub mod Cursor
 pub mod Dots
 pub mod Evaluator
@@ -15,6 +17,7 @@ pub mod Loops
 pub mod Meaning
 pub mod Movement
 pub mod Offsets
+pub mod Padding
 pub mod Pairing
 pub mod Panels
 pub mod Places
@@ -28,6 +31,11 @@ pub mod Rows
 pub mod Scalars
 pub mod Settling
 pub mod Shaped
+pub mod Slid
+pub mod SlidDots
+pub mod SlidRuns
+pub mod Splicing
+pub mod Stepped
 pub mod StripDots
 pub mod Strips
 pub mod Tensors

@@ -6,10 +6,12 @@ use Rattle.tensor_shape.specs.Legal.{most_elements}
 use Rattle.tensor_ops.specs.Loops.{either_way, selected}
 use Rattle.tensor_ops.specs.Places.{value_in}
 use Rattle.tensor_ops.specs.Scalars.{applied}
+use Rattle.tensor_ops.specs.Splicing.{spliced, HaveTurns}
 use Rattle.tensor_ops.specs.Walk.{walk_size, reached}
 use Rattle.tensor_ops.specs.declared.placed.Placed.{Placed}
 use Rattle.tensor_ops.specs.declared.placed.Placed.TheVariants.{Lent, Kept, Same}
 use Rattle.tensor_ops.specs.declared.placed.Placed.TheVariants.{Unary', Binary', Select', Walk'}
+use Rattle.tensor_ops.specs.declared.placed.Placed.TheVariants.{Spliced'}
 
 -- the value at a place
 abbrev pub meaning : Placed → ℕ → ℤ
@@ -20,6 +22,7 @@ meaning (Unary' o k a) p = applied o (meaning a p)
 meaning (Binary' o turned k a l b) p = either_way o turned (meaning a p) (meaning b p)
 meaning (Select' order k a l b m c) p = selected order (meaning a p) (meaning b p) (meaning c p)
 meaning (Walk' start axes k a) p = meaning a (reached start axes.items p)
+meaning (Spliced' turns k a l b) p = spliced turns.first turns.second (meaning a) (meaning b) p
 
 -- how many places it has
 abbrev pub count_of : Placed → ℕ
@@ -30,6 +33,7 @@ count_of (Unary' o k a) = count_of a
 count_of (Binary' o turned k a l b) = count_of a
 count_of (Select' order k a l b m c) = count_of a
 count_of (Walk' start axes k a) = walk_size axes.items
+count_of (Spliced' turns k a l b) = count_of a + count_of b
 
 -- how deep it is
 abbrev pub depth_of : Placed → ℕ
@@ -40,6 +44,7 @@ depth_of (Unary' o k a) = depth_of a + 1
 depth_of (Binary' o turned k a l b) = depth_of a + depth_of b + 1
 depth_of (Select' order k a l b m c) = depth_of a + depth_of b + depth_of c + 1
 depth_of (Walk' start axes k a) = depth_of a + 1
+depth_of (Spliced' turns k a l b) = depth_of a + depth_of b + 1
 
 -- operands have the places that are read of them
 abbrev pub IsSound : Placed → Type 0
@@ -53,6 +58,8 @@ IsSound (Select' order k a l b m c) =
 IsSound (Walk' start axes k a) =
     IsSound a × ((count_of a ≤ most_elements)
     × ((p : ℕ) → p < walk_size axes.items → reached start axes.items p < count_of a))
+IsSound (Spliced' turns k a l b) =
+    IsSound a × (IsSound b × HaveTurns turns.first turns.second (count_of a) (count_of b))
 
 -- which is known in one way only
 pub IsSound-prop : (placed : Placed) → IsProp (IsSound placed)
@@ -67,6 +74,9 @@ IsSound-prop (Select' order k a l b m c) =
     (×_prop (×_prop (IsSound-prop b) (ℕ_set _ _)) (×_prop (IsSound-prop c) (ℕ_set _ _)))
 IsSound-prop (Walk' start axes k a) =
     ×_prop (IsSound-prop a) (×_prop le_prop (Π_prop λ p. Π_prop λ below. le_prop))
+IsSound-prop (Spliced' turns k a l b) =
+    ×_prop (IsSound-prop a)
+    (×_prop (IsSound-prop b) (×_prop (×_prop le_prop le_prop) (×_prop (ℕ_set _ _) (ℕ_set _ _))))
 
 -- its values are this list
 pub record IsListOf (placed : Placed) (values : List ℤ) : Type 0 where

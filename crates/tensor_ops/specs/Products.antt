@@ -31,7 +31,15 @@ abbrev pub rows_dot : ℕ → ℕ → (ℕ → ℕ → ℤ) → (ℕ → ℕ →
 rows_dot rows len first second p =
     wrap (sum_to (λ q. first (p % rows) q *ℤ second (p / rows) q) len)
 
--- the sum of the first n products of the values at offsets from x and those at others from y
+-- product q of the values at offsets from x and those at others from y
+abbrev pub product_of : List ℤ → ℕ → List ℕ → List ℤ → ℕ → List ℕ → ℕ → ℤ
+product_of a x offsets b y others q =
+    value_in a (x + slice_index offsets q) *ℤ value_in b (y + slice_index others q)
+
+-- the sum of the first n of them
 abbrev pub list_product : List ℤ → ℕ → List ℕ → List ℤ → ℕ → List ℕ → ℕ → ℤ
-list_product a x offsets b y others n =
-    sum_to (λ q. value_in a (x + slice_index offsets q) *ℤ value_in b (y + slice_index others q)) n
+list_product a x offsets b y others n = sum_to (product_of a x offsets b y others) n
+
+-- a sum and a product more, modulo 2^64
+abbrev pub with_product : ℤ → ℤ → ℤ
+with_product s x = wrap (s +ℤ x)

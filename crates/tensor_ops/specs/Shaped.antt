@@ -1,7 +1,7 @@
 -- Result dims, or the first fault.
 use Rattle.std.specs.Prelude.{ℕ, List, Result, Ok, Err, nat_eq, if◌then◌else◌}
 use Rattle.std.specs.Cmp.Lexicographic.{pointwise}
-use Rattle.tensor_shape.specs.Legal.{are_legal, highest_rank}
+use Rattle.tensor_shape.specs.Legal.{are_legal}
 use Rattle.tensor_ops.specs.declared.fault.ExprFault.{ExprFault}
 use Rattle.tensor_ops.specs.declared.fault.ExprFault.TheVariants.{ShapeMismatch, TooLarge}
 
@@ -29,6 +29,6 @@ with_three own (Err fault) second third = Err fault
 abbrev pub equal_dims : List ℕ → List ℕ → Shaped
 equal_dims d e = if pointwise nat_eq d e then Ok d else Err ShapeMismatch
 
--- dims that have to be legal
-abbrev pub legal_dims : List ℕ → Shaped
-legal_dims d = if are_legal highest_rank d then Ok d else Err TooLarge
+-- dims that have to be legal, where ranks end there
+abbrev pub legal_dims : ℕ → List ℕ → Shaped
+legal_dims rank d = if are_legal rank d then Ok d else Err TooLarge

@@ -5,4 +5,4 @@ use Rattle.tensor_ops.specs.declared.tensors.Tensors.{Tensors}
 
 -- inputs, and behind them others
 abbrev pub tensors_in : Tensors → List Contents
-tensors_in t = t.inputs.now ++ t.others.now
+tensors_in t = t.inputs.now.tensors ++ t.others.now

@@ -12,20 +12,24 @@ pub data Movement : Type 0 where
   reshape : List ℕ → Movement
   chip : ℕ → ℕ → Movement
   reverse : List Bool → Movement
+  stride : List ℕ → Movement
 
--- the operations on one tensor: on each value, one value everywhere, a movement, or a reduction
--- over
--- axes
+-- the operations on one tensor: on each value, one value everywhere, a movement, zeroes round it,
+-- or a reduction over axes
 pub data Unary : Type 0 where
   each : UnaryScalar → Unary
   constant : ℤ → Unary
   movement : Movement → Unary
+  pad : List (ℕ × ℕ) → Unary
   reduce : Reducer → List ℕ → Unary
 
--- the operations on two tensors: on each pair of values, or a contraction over pairs of axes
+-- the operations on two tensors: on each pair of values, one behind the other along an axis, a
+-- contraction over pairs of axes, or a convolution along axes
 pub data Binary : Type 0 where
   pairwise : BinaryScalar → Binary
+  concat : ℕ → Binary
   contract : List (ℕ × ℕ) → Binary
+  convolve : List ℕ → Binary
 
 -- the operations on three tensors
 pub data Ternary : Type 0 where

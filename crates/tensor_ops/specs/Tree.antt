@@ -1,8 +1,8 @@
 -- The term of an expression, and of the view of its operation.
 use Rattle.tensor_ops.specs.Term.{Term, input, unary, binary, ternary, Movement}
-use Rattle.tensor_ops.specs.Term.{broadcast, slice, shuffle, reshape, chip, reverse}
-use Rattle.tensor_ops.specs.Term.{Unary, each, constant, movement, reduce}
-use Rattle.tensor_ops.specs.Term.{Binary, pairwise, contract, Ternary, select}
+use Rattle.tensor_ops.specs.Term.{broadcast, slice, shuffle, reshape, chip, reverse, stride}
+use Rattle.tensor_ops.specs.Term.{Unary, each, constant, movement, pad, reduce}
+use Rattle.tensor_ops.specs.Term.{Binary, pairwise, concat, contract, convolve, Ternary, select}
 use Rattle.tensor_ops.specs.declared.expr.Expr.{Expr}
 use Rattle.tensor_ops.specs.declared.expr.Expr.TheVariants as expr
 use Rattle.tensor_ops.specs.declared.node.Movement.{Movement as MovementView}
@@ -47,6 +47,9 @@ term_of (expr.Shuffle' p a order) = unary (movement (shuffle order.items)) (term
 term_of (expr.Reshape' p a sizes) = unary (movement (reshape sizes.items)) (term_of a)
 term_of (expr.Chip' p a offset axis) = unary (movement (chip offset axis)) (term_of a)
 term_of (expr.Reverse' p a flags) = unary (movement (reverse flags.items)) (term_of a)
+term_of (expr.Stride' p a steps) = unary (movement (stride steps.items)) (term_of a)
+term_of (expr.Pad' p a pairs) = unary (pad pairs.items) (term_of a)
+term_of (expr.Concat' p a q b axis) = binary (concat axis) (term_of a) (term_of b)
 term_of (expr.Sum' p a axes) = unary (reduce reducer.Sum axes.items) (term_of a)
 term_of (expr.Prod' p a axes) = unary (reduce reducer.Prod axes.items) (term_of a)
 term_of (expr.Maximum' p a axes) = unary (reduce reducer.Max axes.items) (term_of a)
@@ -54,6 +57,7 @@ term_of (expr.Minimum' p a axes) = unary (reduce reducer.Min axes.items) (term_o
 term_of (expr.All' p a axes) = unary (reduce reducer.All axes.items) (term_of a)
 term_of (expr.Any' p a axes) = unary (reduce reducer.Any axes.items) (term_of a)
 term_of (expr.Contract' p a q b pairs) = binary (contract pairs.items) (term_of a) (term_of b)
+term_of (expr.Convolve' p a q b axes) = binary (convolve axes.items) (term_of a) (term_of b)
 
 -- the operations of a view, without their borrows
 abbrev pub movement_at : MovementView → Movement
@@ -63,16 +67,20 @@ movement_at (move.Shuffle order) = shuffle order.now
 movement_at (move.Reshape sizes) = reshape sizes.now
 movement_at (move.Chip offset axis) = chip offset axis
 movement_at (move.Reverse flags) = reverse flags.now
+movement_at (move.Stride steps) = stride steps.now
 
 abbrev pub unary_at : UnaryView → Unary
 unary_at (one.Each o) = each o
 unary_at (one.Constant v) = constant v
 unary_at (one.Move m) = movement (movement_at m)
+unary_at (one.Pad pairs) = pad pairs.now
 unary_at (one.Reduce r axes) = reduce r axes.now
 
 abbrev pub binary_at : BinaryView → Binary
 binary_at (two.Pairwise o) = pairwise o
+binary_at (two.Concat axis) = concat axis
 binary_at (two.Contract pairs) = contract pairs.now
+binary_at (two.Convolve axes) = convolve axes.now
 
 abbrev pub ternary_at : TernaryView → Ternary
 ternary_at three.Select = select

@@ -3,26 +3,32 @@ use Rattle.std.specs.Prelude.{ℕ, ℤ, List, map, if◌then◌else◌}
 use Rattle.std.specs.List.{range_with_len}
 use Rattle.tensor_shape.specs.Index.{size_of, index_of}
 use Rattle.tensor_ops.specs.Contents.{Contents, value_at, input_of}
+use Rattle.tensor_ops.specs.Concatenation.{concatenated}
 use Rattle.tensor_ops.specs.Contraction.{contracted}
+use Rattle.tensor_ops.specs.Convolution.{convolved}
 use Rattle.tensor_ops.specs.Movement.{moved}
+use Rattle.tensor_ops.specs.Padding.{padded}
 use Rattle.tensor_ops.specs.Reduction.{reduced}
 use Rattle.tensor_ops.specs.Result.{shape_of}
 use Rattle.tensor_ops.specs.Scalars.{applied, combined, is_true}
 use Rattle.tensor_ops.specs.Term.{Term, input, unary, binary, ternary}
-use Rattle.tensor_ops.specs.Term.{Unary, each, constant, movement, reduce}
-use Rattle.tensor_ops.specs.Term.{Binary, pairwise, contract, Ternary, select}
+use Rattle.tensor_ops.specs.Term.{Unary, each, constant, movement, pad, reduce}
+use Rattle.tensor_ops.specs.Term.{Binary, pairwise, concat, contract, convolve, Ternary, select}
 
 -- the value of an operation at an index list, from the dims and the values of its operands
 abbrev pub unary_value : Unary → List ℕ → (List ℕ → ℤ) → List ℕ → ℤ
 unary_value (each o) d a index = applied o (a index)
 unary_value (constant v) d a index = v
 unary_value (movement m) d a index = a (moved m d index)
+unary_value (pad pairs) d a index = padded pairs d a index
 unary_value (reduce r axes) d a index = reduced r axes d a index
 
 abbrev pub binary_value :
     Binary → List ℕ → List ℕ → (List ℕ → ℤ) → (List ℕ → ℤ) → List ℕ → ℤ
 binary_value (pairwise o) d e a b index = combined o (a index) (b index)
+binary_value (concat axis) d e a b index = concatenated axis d a b index
 binary_value (contract pairs) d e a b index = contracted pairs d e a b index
+binary_value (convolve axes) d e a b index = convolved axes e a b index
 
 abbrev pub ternary_value : Ternary
     → (List ℕ → ℤ) → (List ℕ → ℤ) → (List ℕ → ℤ) → List ℕ → ℤ

@@ -5,8 +5,9 @@ ghost use Rattle.std.specs.Prelude.{IfOk, OnOk};
 ghost use Rattle.tensor_shape.specs.Index.{size_of};
 ghost use Rattle.tensor_shape.specs.Legal.{most_elements};
 ghost use Rattle.tensor_ops.specs.Axes.{rising, axes_from, by_steps};
-ghost use Rattle.tensor_ops.specs.Axes.{HasRank, moved_axes, moved_start};
+ghost use Rattle.tensor_ops.specs.Axes.{HasRank, AreShort, moved_axes, moved_start};
 ghost use Rattle.tensor_ops.specs.Axes.{repeated_axes, cut_axes, shuffled_axes, turned_axes};
+ghost use Rattle.tensor_ops.specs.Axes.{strided_axes};
 ghost use Rattle.tensor_ops.specs.Tree.{movement_at};
 
 use crate::node::Movement;
@@ -18,6 +19,7 @@ use tensor_shape::Dims;
 pub(crate) fn whole_axes(alloc: Global, dims: &Dims) -> Result<Vec<Axis>, AllocError>
     ensures axes { IfOk result (λ v. v.items ≡ axes_from 1 dims.now) }
     ensures few { OnOk result (size_of dims.now ≤ most_elements) }
+    ensures short { IfOk result (λ v. AreShort v.items (2 ^ 32)) }
 {
     let sizes = dims.as_slice();
     let mut axes = Vec::new(alloc);
@@ -43,6 +45,7 @@ pub(crate) fn moved_start(movement: Movement<'_>, start: usize, axes: &[Axis]) -
         Movement::Shuffle(_) => start,
         Movement::Reshape(_) => start,
         Movement::Reverse(_) => start,
+        Movement::Stride(_) => start,
     }
 }
 
@@ -52,7 +55,8 @@ pub(crate) fn moved_axes(
     movement: Movement<'_>,
     axes: Vec<Axis>,
 ) -> Result<Vec<Axis>, AllocError>
-    requires { HasRank (movement_at movement) (vec_len axes) }
+    requires rank { HasRank (movement_at movement) (vec_len axes) }
+    requires short { AreShort axes.items (2 ^ 32) }
     ensures { IfOk result (λ v. v.items ≡ moved_axes (movement_at movement.entry) axes.items) }
 {
     match movement {
@@ -66,6 +70,7 @@ pub(crate) fn moved_axes(
             Ok(axes)
         }
         Movement::Reverse(flags) => turned_axes(alloc, &axes, flags),
+        Movement::Stride(steps) => strided_axes(alloc, &axes, steps),
     }
 }
 
@@ -145,4 +150,21 @@ fn turned_axes(alloc: Global, axes: &[Axis], flags: &[bool]) -> Result<Vec<Axis>
         })?;
     }
     Ok(turned)
+}
+
+/// The axes, of which only each so many-th place is reached. A step past the axis reaches its first
+/// place alone.
+fn strided_axes(alloc: Global, axes: &[Axis], steps: &[u64]) -> Result<Vec<Axis>, AllocError>
+    requires rank { length steps.now ≡ length axes.now }
+    requires some { (k : ℕ) → k < length steps.now → 0 < slice_index steps.now k }
+    requires short { AreShort axes.now (2 ^ 32) }
+    ensures { IfOk result (λ v. v.items ≡ strided_axes axes.now steps.now) }
+{
+    let mut strided = Vec::new(alloc);
+    for k in 0..steps.len() {
+        let axis = axes[k];
+        let step = steps[k] as usize;
+        strided.push(rising(axis.size.div_ceil(step), axis.step * step.min(axis.size)))?;
+    }
+    Ok(strided)
 }

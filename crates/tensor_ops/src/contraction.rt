@@ -3,6 +3,7 @@
 ghost use Rattle.std.specs.Prelude.{◌≡◌, ◌<◌, ◌≤◌, ◌+◌, ◌-◌, ℕ, length, map, IfOk, IsOk};
 ghost use Rattle.std.specs.Cow.{cow_slice_items};
 ghost use Rattle.std.specs.List.{range_with_len};
+ghost use Rattle.tensor_shape.specs.Legal.{highest_rank};
 ghost use Rattle.tensor_shape.specs.Index.{size_of, place, index_of};
 ghost use Rattle.tensor_ops.specs.Contraction.{firsts, seconds, contracted, contracted_dims};
 ghost use Rattle.tensor_ops.specs.Contraction.{outer_dims};
@@ -10,6 +11,7 @@ ghost use Rattle.tensor_ops.specs.Places.{value_in};
 
 use crate::dots::Dots;
 use crate::rows::Rows;
+use crate::slid_dots::SlidDots;
 use crate::strip_dots::StripDots;
 use crate::strips::{Strips, strip_width};
 use crate::tiling::Tiled;
@@ -34,6 +36,8 @@ pub(crate) enum Contraction<'a> {
     InDots(Dots<'a>),
     /// Value by value, where an operand has few rows and those of both lie side by side.
     InStrips(StripDots<'a>),
+    /// A convolution, run by run.
+    InRuns(SlidDots<'a>),
 }
 
 impl<'a> Contraction<'a> {
@@ -53,7 +57,7 @@ impl<'a> Contraction<'a> {
         second: CowSlice<'a, i64, Global>,
         pairs: &[(u64, u64)],
     ) -> Result<Contraction<'a>, AllocError>
-        requires dims { IsOk (contracted_dims pairs.now first_dims.now second_dims.now) }
+        requires dims { IsOk (contracted_dims highest_rank pairs.now first_dims.now second_dims.now) }
         requires first { length (cow_slice_items first) ≡ size_of first_dims.now }
         requires second { length (cow_slice_items second) ≡ size_of second_dims.now }
         ensures count { IfOk result (λ c. contraction_count c
@@ -115,6 +119,7 @@ impl<'a> Contraction<'a> {
             Contraction::InTiles(tiled) => tiled.fill(first, out),
             Contraction::InDots(dots) => dots.fill(first, out),
             Contraction::InStrips(dots) => dots.fill(first, out),
+            Contraction::InRuns(dots) => dots.fill(first, out),
         }
     }
 }

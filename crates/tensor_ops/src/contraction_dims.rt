@@ -9,19 +9,21 @@ use crate::fault::ExprFault;
 use crate::index_parts::{dims_at, other_dims};
 use crate::movement_dims::{extend, legal_dims};
 use crate::reduction_dims::are_axes;
-use tensor_shape::{Dims, MAX_RANK, PerAxis};
+use tensor_shape::{Dims, PerAxis};
 
 /// The most products that a contraction adds up.
-const MOST_PRODUCTS: u64 = 1_073_741_824;
+pub(crate) const MOST_PRODUCTS: u64 = 1_073_741_824;
 
-/// The result dims of a contraction over pairs of axes of operands of these dims, or the first of
-/// its own faults.
+/// The result dims of a contraction over pairs of axes of operands of these dims, where ranks end
+/// there, or the first of its own faults.
 pub(crate) fn contracted_dims(
+    rank: usize,
     pairs: &[(u64, u64)],
     first: &Dims,
     second: &Dims,
 ) -> Result<Dims, ExprFault>
-    ensures { result ≡ contracted_dims pairs.now first.now second.now }
+    requires { rank ≤ highest_rank }
+    ensures { result ≡ contracted_dims rank pairs.now first.now second.now }
 {
     let Some((firsts, seconds)) = paired_axes(pairs, first) else {
         return Err(ExprFault::OutOfRange);
@@ -35,24 +37,30 @@ pub(crate) fn contracted_dims(
     if paired.as_slice() != dims_at(seconds, second).as_slice() {
         return Err(ExprFault::ShapeMismatch);
     }
-    let outer = joined_dims(&other_dims(firsts, first), &other_dims(seconds, second))?;
+    let outer = joined_dims(
+        rank,
+        &other_dims(firsts, first),
+        &other_dims(seconds, second),
+    )?;
     if outer.size() * paired.size() > MOST_PRODUCTS {
         return Err(ExprFault::TooLarge);
     }
     Ok(outer)
 }
 
-/// The dims of the first, and then those of the second, which have to be legal.
-fn joined_dims(first: &Dims, second: &Dims) -> Result<Dims, ExprFault>
-    ensures { result ≡ legal_dims (first.now ++ second.now) }
+/// The dims of the first, and then those of the second, which have to be legal where ranks end
+/// there.
+fn joined_dims(rank: usize, first: &Dims, second: &Dims) -> Result<Dims, ExprFault>
+    requires { rank ≤ highest_rank }
+    ensures { result ≡ legal_dims rank (first.now ++ second.now) }
 {
-    if first.rank() + second.rank() > MAX_RANK {
+    if first.rank() + second.rank() > rank {
         return Err(ExprFault::TooLarge);
     }
     let mut joined = PerAxis::new();
     extend(&mut joined, first.as_slice());
     extend(&mut joined, second.as_slice());
-    legal_dims(joined.as_slice())
+    legal_dims(rank, joined.as_slice())
 }
 
 /// The paired axes of both operands, where there are no more pairs than axes of the first.

@@ -4,7 +4,7 @@ ghost use Rattle.std.specs.Prelude.{◌≡◌, ℕ, ◌*◌, ◌+◌, ◌<◌, �
 ghost use Rattle.tensor_ops.specs.Places.{value_in};
 ghost use Rattle.tensor_ops.specs.Rows.{row_count, row_length, dot_at};
 
-use crate::row_sums::{sums_by_offsets, sums_by_rows};
+use crate::row_sums::row_sums;
 use crate::rows::Rows;
 
 /// Two operands whose rows have equally many values.
@@ -57,19 +57,6 @@ impl<'a> Dots<'a> {
         let (a, b) = (first.values.as_slice(), second.values.as_slice());
         let starts = &first.starts.as_slice()[x..x + out.len()];
         let start = second.starts.as_slice()[y];
-        if lie_side_by_side(starts) {
-            sums_by_offsets(a, starts, &first.offsets, b, start, &second.offsets, out);
-        } else {
-            sums_by_rows(a, starts, &first.offsets, b, start, &second.offsets, out);
-        }
-    }
-}
-
-/// Whether rows begin side by side, so far as their first two tell. Then it is fastest to pass all
-/// of them at an offset, and else to pass a row.
-fn lie_side_by_side(starts: &[usize]) -> bool {
-    match starts {
-        [first, second, ..] => *second == first.wrapping_add(1),
-        _ => false,
+        row_sums(a, starts, &first.offsets, b, start, &second.offsets, out);
     }
 }

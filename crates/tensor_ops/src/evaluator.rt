@@ -1,6 +1,7 @@
 //! The values of an expression at ranges of places.
 
 ghost use Rattle.std.specs.Prelude.{◌≡◌, ◌<◌, ◌≤◌, ◌-◌, ◌++◌, ℕ, length, IsTrue, IsOk, IfOk};
+ghost use Rattle.tensor_shape.specs.Legal.{highest_rank};
 ghost use Rattle.tensor_shape.specs.Index.{size_of};
 ghost use Rattle.tensor_ops.specs.Result.{dims_of, shape_of};
 ghost use Rattle.tensor_ops.specs.Root.{root_value, root_count, IsSoundRoot, IsSoundRoot-prop};
@@ -45,11 +46,13 @@ impl<'a> TensorEvaluator<'a> {
         expr: &'a Expr,
         inputs: &'a Inputs,
     ) -> Result<TensorEvaluator<'a>, AllocError>
-        requires inputs { IsTrue (has_inputs (term_of expr.now) (length inputs.now)) }
-        requires dims { IsOk (dims_of (term_of expr.now) inputs.now) }
+        requires inputs { IsTrue (has_inputs (term_of expr.now) (length inputs.now.tensors)) }
+        requires dims { IsOk (dims_of inputs.now.rank (term_of expr.now) inputs.now.tensors) }
         ensures term { IfOk result (λ e. term_evaluated e ≡ term_of expr.now) }
-        ensures inputs { IfOk result (λ e. inputs_evaluated e ≡ inputs.now) }
+        ensures inputs { IfOk result (λ e. inputs_evaluated e ≡ inputs.now.tensors) }
     {
+        // Says that the limit is a rank that dims can have.
+        let _limit = inputs.rank_limit();
         TensorEvaluator::over(alloc, expr, inputs, &[])
     }
 
@@ -61,10 +64,12 @@ impl<'a> TensorEvaluator<'a> {
         inputs: &'a Inputs,
         others: &'a [Tensor],
     ) -> Result<TensorEvaluator<'a>, AllocError>
-        requires inputs { IsTrue (has_inputs (term_of expr.now) (length (inputs.now ++ others.now))) }
-        requires dims { IsOk (dims_of (term_of expr.now) (inputs.now ++ others.now)) }
+        requires inputs { IsTrue (has_inputs (term_of expr.now)
+            (length (inputs.now.tensors ++ others.now))) }
+        requires dims { IsOk (dims_of highest_rank (term_of expr.now)
+            (inputs.now.tensors ++ others.now)) }
         ensures term { IfOk result (λ e. term_evaluated e ≡ term_of expr.now) }
-        ensures inputs { IfOk result (λ e. inputs_evaluated e ≡ inputs.now ++ others.now) }
+        ensures inputs { IfOk result (λ e. inputs_evaluated e ≡ inputs.now.tensors ++ others.now) }
     {
         let tensors = Tensors::of(inputs, others);
         let (root, dims) = Root::of(alloc, expr, tensors)?;

@@ -65,6 +65,12 @@ pub enum Expr {
     Chip(Box<Expr>, u64, u64),
     /// The operand, turned round along the axes that are flagged.
     Reverse(Box<Expr>, Vec<bool>),
+    /// What stands at the multiples of these steps, an axis each, from 0 on.
+    Stride(Box<Expr>, Vec<u64>),
+    /// The operand with so many zeroes before and behind it, along each axis.
+    Pad(Box<Expr>, Vec<(u64, u64)>),
+    /// The second behind the first along this axis; the other dimensions are equal.
+    Concat(Box<Expr>, Box<Expr>, u64),
     /// The sum of the values along these axes, which are gone then.
     Sum(Box<Expr>, Vec<u64>),
     /// Their product.
@@ -80,6 +86,9 @@ pub enum Expr {
     /// The sums of products along paired axes, an axis of the first and one of the second, which
     /// are gone then. The first's other axes come before the second's.
     Contract(Box<Expr>, Box<Expr>, Vec<(u64, u64)>),
+    /// The sums of products of a kernel, the second, and what lies under it at each place where it
+    /// stays within the first. These axes of the first are those of the kernel, in their order.
+    Convolve(Box<Expr>, Box<Expr>, Vec<u64>),
 }
 
 impl Expr {
@@ -162,6 +171,9 @@ impl Expr {
             Expr::Reshape(a, sizes) => moved(Movement::Reshape(sizes), a),
             Expr::Chip(a, offset, axis) => moved(Movement::Chip(*offset, *axis), a),
             Expr::Reverse(a, flags) => moved(Movement::Reverse(flags), a),
+            Expr::Stride(a, steps) => moved(Movement::Stride(steps), a),
+            Expr::Pad(a, pairs) => Node::Unary(Unary::Pad(pairs), a),
+            Expr::Concat(a, b, axis) => Node::Binary(Binary::Concat(*axis), a, b),
             Expr::Sum(a, axes) => reduced(Reducer::Sum, axes, a),
             Expr::Prod(a, axes) => reduced(Reducer::Prod, axes, a),
             Expr::Maximum(a, axes) => reduced(Reducer::Max, axes, a),
@@ -169,6 +181,7 @@ impl Expr {
             Expr::All(a, axes) => reduced(Reducer::All, axes, a),
             Expr::Any(a, axes) => reduced(Reducer::Any, axes, a),
             Expr::Contract(a, b, pairs) => Node::Binary(Binary::Contract(pairs), a, b),
+            Expr::Convolve(a, b, axes) => Node::Binary(Binary::Convolve(axes), a, b),
         }
     }
 }

@@ -2,6 +2,7 @@
 
 ghost use Rattle.std.specs.Prelude.{◌≡◌, length, Ok, IsOk, IfOk};
 ghost use Rattle.std.specs.Cow.{cow_slice_items};
+ghost use Rattle.tensor_shape.specs.Legal.{highest_rank};
 ghost use Rattle.tensor_shape.specs.Index.{size_of};
 ghost use Rattle.tensor_ops.specs.Contracting.{contraction_count, contraction_value};
 ghost use Rattle.tensor_ops.specs.Contraction.{contracted, contracted_dims};
@@ -21,7 +22,7 @@ use crate::reduction_dims::reduced_dims;
 use crate::settling::settled_over;
 use std::alloc::{AllocError, Global};
 use std::borrow::CowSlice;
-use tensor_shape::Dims;
+use tensor_shape::{Dims, MAX_RANK};
 
 /// A reduction of an operand over axes, and its result dims.
 pub(crate) fn reduction_of<'a>(
@@ -57,15 +58,15 @@ pub(crate) fn contraction_of<'a>(
     requires second { IsSound second.placed }
     requires count_first { count_of first.placed ≡ size_of first.dims }
     requires count_second { count_of second.placed ≡ size_of second.dims }
-    requires dims { IsOk (contracted_dims pairs.now first.dims second.dims) }
+    requires dims { IsOk (contracted_dims highest_rank pairs.now first.dims second.dims) }
     ensures dims { IfOk result (λ r.
-        contracted_dims pairs.now first.entry.dims second.entry.dims ≡ Ok r.1) }
+        contracted_dims highest_rank pairs.now first.entry.dims second.entry.dims ≡ Ok r.1) }
     ensures values { IfOk result (λ r. HasValues (contraction_count r.0) (contraction_value r.0)
         r.1 (contracted pairs.now first.entry.dims second.entry.dims
         (meaning_at first.entry.placed first.entry.dims)
         (meaning_at second.entry.placed second.entry.dims))) }
 {
-    let Ok(dims) = contracted_dims(pairs, &first.dims, &second.dims) else {
+    let Ok(dims) = contracted_dims(MAX_RANK, pairs, &first.dims, &second.dims) else {
         unreachable!()
     };
     let left = all_values(alloc, first.placed, &first.dims)?;
@@ -109,9 +110,9 @@ pub(crate) fn place_contraction<'a>(
     requires second { IsSound second.placed }
     requires count_first { count_of first.placed ≡ size_of first.dims }
     requires count_second { count_of second.placed ≡ size_of second.dims }
-    requires dims { IsOk (contracted_dims pairs.now first.dims second.dims) }
+    requires dims { IsOk (contracted_dims highest_rank pairs.now first.dims second.dims) }
     ensures dims { IfOk result (λ r.
-        contracted_dims pairs.now first.entry.dims second.entry.dims ≡ Ok r.dims) }
+        contracted_dims highest_rank pairs.now first.entry.dims second.entry.dims ≡ Ok r.dims) }
     ensures placed { IfOk result (λ r. Gives r.placed r.dims
         (contracted pairs.now first.entry.dims second.entry.dims
         (meaning_at first.entry.placed first.entry.dims)
@@ -128,7 +129,7 @@ pub(crate) fn place_contraction<'a>(
 
 /// All values of a placed expression of these dims: lent where they are an input's, and else worked
 /// out.
-fn all_values<'a>(
+pub(crate) fn all_values<'a>(
     alloc: Global,
     placed: Placed<'a>,
     dims: &Dims,

@@ -1,31 +1,29 @@
 //! Where a movement reads its operand.
 
-ghost use Rattle.std.specs.Prelude.{◌≡◌, ◌≤◌, ◌<◌, ◌+◌, ◌-◌, ◌^◌, ℕ, List, [], length, map};
+ghost use Rattle.std.specs.Prelude.{◌≡◌, ◌≤◌, ◌<◌, ◌+◌, ◌-◌, ◌*◌, ◌^◌, ℕ, List, [], length, map};
 ghost use Rattle.std.specs.Prelude.{slice_index, insert, Ok, IsOk, if◌then◌else◌};
 ghost use Rattle.std.specs.Result.{result_unwrap_or};
 ghost use Rattle.tensor_shape.specs.Index.{size_of, IsIndexOf, place, index_of};
 ghost use Rattle.tensor_shape.specs.Legal.{highest_rank};
 ghost use Rattle.tensor_ops.specs.Movement.{moved_dims, moved};
-ghost use Rattle.tensor_ops.specs.Movement.{wrapped, offset_by, scattered, mirrored};
+ghost use Rattle.tensor_ops.specs.Movement.{wrapped, offset_by, scattered, mirrored, scaled};
 ghost use Rattle.tensor_ops.specs.Tree.{movement_at};
 
-use crate::movement_dims::{extend, moved_dims};
+use crate::movement_dims::{extend, known_dims};
 use crate::node::Movement;
 use tensor_shape::{Dims, PerAxis};
 
 /// The place of the operand, of these dims, that is read for a place of the result.
 pub(crate) fn moved_place(movement: Movement<'_>, dims: &Dims, linear: u64) -> u64
-    requires dims { IsOk (moved_dims (movement_at movement) dims.now) }
+    requires dims { IsOk (moved_dims highest_rank (movement_at movement) dims.now) }
     requires below { linear
-        < size_of (result_unwrap_or (moved_dims (movement_at movement) dims.now) []) }
+        < size_of (result_unwrap_or (moved_dims highest_rank (movement_at movement) dims.now) []) }
     ensures value { result ≡ place dims.now (moved (movement_at movement.entry) dims.now
-        (index_of (result_unwrap_or (moved_dims (movement_at movement.entry) dims.now) [])
+        (index_of (result_unwrap_or (moved_dims highest_rank (movement_at movement.entry) dims.now) [])
         linear)) }
     ensures below { result < size_of dims.now }
 {
-    let Ok(shape) = moved_dims(movement, dims) else {
-        unreachable!()
-    };
+    let shape = known_dims(movement, dims);
     let index = shape.index_of(linear);
     let read = moved(movement, dims, &shape, index.as_slice());
     dims.linear(read.as_slice())
@@ -33,7 +31,7 @@ pub(crate) fn moved_place(movement: Movement<'_>, dims: &Dims, linear: u64) -> u
 
 /// The index list of the operand that is read for one of the result, of this shape.
 fn moved(movement: Movement<'_>, dims: &Dims, shape: &Dims, index: &[u64]) -> PerAxis
-    requires shape { moved_dims (movement_at movement) dims.now ≡ Ok shape.now }
+    requires shape { moved_dims highest_rank (movement_at movement) dims.now ≡ Ok shape.now }
     requires index { IsIndexOf shape.now index.now }
     ensures { result.items ≡ moved (movement_at movement.entry) dims.now index.now }
 {
@@ -45,6 +43,7 @@ fn moved(movement: Movement<'_>, dims: &Dims, shape: &Dims, index: &[u64]) -> Pe
         Movement::Reshape(_) => dims.index_of(shape.linear(index)),
         Movement::Chip(offset, axis) => inserted(index, axis as usize, offset),
         Movement::Reverse(flags) => mirrored(flags, sizes, index),
+        Movement::Stride(steps) => scaled(steps, index),
     }
 }
 
@@ -73,6 +72,21 @@ fn offset_by(offsets: &[u64], index: &[u64]) -> PerAxis
     let mut read = PerAxis::new();
     for axis in 0..offsets.len() {
         read.push(index[axis] + offsets[axis]);
+    }
+    read
+}
+
+/// Each index times its step.
+fn scaled(steps: &[u64], index: &[u64]) -> PerAxis
+    requires same { length index.now ≡ length steps.now }
+    requires few { length steps.now ≤ highest_rank }
+    requires small { (k : ℕ) → k < length steps.now
+        → slice_index index.now k * slice_index steps.now k < 2 ^ 64 }
+    ensures { result.items ≡ scaled steps.now index.now }
+{
+    let mut read = PerAxis::new();
+    for axis in 0..steps.len() {
+        read.push(index[axis] * steps[axis]);
     }
     read
 }

@@ -1,33 +1,54 @@
 //! The result dims of movements.
 
 ghost use Rattle.std.specs.Prelude.{◌≡◌, ◌≤◌, ◌<◌, ◌+◌, ◌++◌, ℕ, length, slice_index, remove};
+ghost use Rattle.std.specs.Prelude.{Ok, IsOk};
 ghost use Rattle.tensor_shape.specs.Legal.{highest_rank};
 ghost use Rattle.tensor_ops.specs.Movement.{moved_dims, repeated_dims, shuffled_dims, none_is_zero};
+ghost use Rattle.tensor_ops.specs.Movement.{strided_dims};
 ghost use Rattle.tensor_ops.specs.Movement.{fit_within, is_among, has_all_below};
 ghost use Rattle.tensor_ops.specs.Shaped.{legal_dims};
-ghost use Rattle.tensor_ops.specs.Term.{broadcast, slice, shuffle, reshape, chip, reverse};
+ghost use Rattle.tensor_ops.specs.Term.{broadcast, slice, shuffle, reshape, chip, reverse, stride};
 ghost use Rattle.tensor_ops.specs.Tree.{movement_at};
 
 use crate::fault::ExprFault;
 use crate::node::Movement;
-use tensor_shape::{Dims, PerAxis};
+use tensor_shape::{Dims, MAX_RANK, PerAxis};
 
-/// The result dims of a movement of an operand of these dims, or the first of its own faults.
-pub(crate) fn moved_dims(movement: Movement<'_>, dims: &Dims) -> Result<Dims, ExprFault>
-    ensures { result ≡ moved_dims (movement_at movement.entry) dims.now }
+/// The result dims of a movement of an operand of these dims, where ranks end there, or the first of
+/// its own faults.
+pub(crate) fn moved_dims(
+    rank: usize,
+    movement: Movement<'_>,
+    dims: &Dims,
+) -> Result<Dims, ExprFault>
+    requires { rank ≤ highest_rank }
+    ensures { result ≡ moved_dims rank (movement_at movement.entry) dims.now }
 {
     match movement {
-        Movement::Broadcast(counts) => broadcast_dims(counts, dims),
+        Movement::Broadcast(counts) => broadcast_dims(rank, counts, dims),
         Movement::Slice(offsets, extents) => slice_dims(offsets, extents, dims),
         Movement::Shuffle(order) => shuffle_dims(order, dims),
-        Movement::Reshape(sizes) => reshape_dims(sizes, dims),
+        Movement::Reshape(sizes) => reshape_dims(rank, sizes, dims),
         Movement::Chip(offset, axis) => chip_dims(offset, axis, dims),
         Movement::Reverse(flags) => reverse_dims(flags, dims),
+        Movement::Stride(steps) => stride_dims(steps, dims),
     }
 }
 
-fn broadcast_dims(counts: &[u64], dims: &Dims) -> Result<Dims, ExprFault>
-    ensures { result ≡ moved_dims (broadcast counts.now) dims.now }
+/// The result dims of a movement that has some.
+pub(crate) fn known_dims(movement: Movement<'_>, dims: &Dims) -> Dims
+    requires { IsOk (moved_dims highest_rank (movement_at movement) dims.now) }
+    ensures { moved_dims highest_rank (movement_at movement.entry) dims.now ≡ Ok result }
+{
+    match moved_dims(MAX_RANK, movement, dims) {
+        Ok(dims) => dims,
+        Err(_) => unreachable!(),
+    }
+}
+
+fn broadcast_dims(rank: usize, counts: &[u64], dims: &Dims) -> Result<Dims, ExprFault>
+    requires { rank ≤ highest_rank }
+    ensures { result ≡ moved_dims rank (broadcast counts.now) dims.now }
 {
     if counts.len() != dims.rank() {
         return Err(ExprFault::ShapeMismatch);
@@ -35,11 +56,11 @@ fn broadcast_dims(counts: &[u64], dims: &Dims) -> Result<Dims, ExprFault>
     if !none_is_zero(counts) {
         return Err(ExprFault::OutOfRange);
     }
-    repeated_dims(counts, dims.as_slice())
+    repeated_dims(rank, counts, dims.as_slice())
 }
 
 fn slice_dims(offsets: &[u64], extents: &[u64], dims: &Dims) -> Result<Dims, ExprFault>
-    ensures { result ≡ moved_dims (slice offsets.now extents.now) dims.now }
+    ensures { result ≡ moved_dims highest_rank (slice offsets.now extents.now) dims.now }
 {
     if offsets.len() != dims.rank() || extents.len() != dims.rank() {
         return Err(ExprFault::ShapeMismatch);
@@ -48,11 +69,11 @@ fn slice_dims(offsets: &[u64], extents: &[u64], dims: &Dims) -> Result<Dims, Exp
         return Err(ExprFault::OutOfRange);
     }
     // They are legal, since no dimension grows.
-    legal_dims(extents)
+    legal_dims(MAX_RANK, extents)
 }
 
 fn shuffle_dims(order: &[u64], dims: &Dims) -> Result<Dims, ExprFault>
-    ensures { result ≡ moved_dims (shuffle order.now) dims.now }
+    ensures { result ≡ moved_dims highest_rank (shuffle order.now) dims.now }
 {
     let sizes = dims.as_slice();
     if order.len() != sizes.len() {
@@ -65,10 +86,11 @@ fn shuffle_dims(order: &[u64], dims: &Dims) -> Result<Dims, ExprFault>
     shuffled_dims(order, sizes)
 }
 
-fn reshape_dims(sizes: &[u64], dims: &Dims) -> Result<Dims, ExprFault>
-    ensures { result ≡ moved_dims (reshape sizes.now) dims.now }
+fn reshape_dims(rank: usize, sizes: &[u64], dims: &Dims) -> Result<Dims, ExprFault>
+    requires { rank ≤ highest_rank }
+    ensures { result ≡ moved_dims rank (reshape sizes.now) dims.now }
 {
-    let shape = legal_dims(sizes)?;
+    let shape = legal_dims(rank, sizes)?;
     if shape.size() == dims.size() {
         Ok(shape)
     } else {
@@ -77,7 +99,7 @@ fn reshape_dims(sizes: &[u64], dims: &Dims) -> Result<Dims, ExprFault>
 }
 
 fn chip_dims(offset: u64, axis: u64, dims: &Dims) -> Result<Dims, ExprFault>
-    ensures { result ≡ moved_dims (chip offset axis) dims.now }
+    ensures { result ≡ moved_dims highest_rank (chip offset axis) dims.now }
 {
     let sizes = dims.as_slice();
     if axis >= sizes.len() as u64 || offset >= sizes[axis as usize] {
@@ -88,7 +110,7 @@ fn chip_dims(offset: u64, axis: u64, dims: &Dims) -> Result<Dims, ExprFault>
 }
 
 fn reverse_dims(flags: &[bool], dims: &Dims) -> Result<Dims, ExprFault>
-    ensures { result ≡ moved_dims (reverse flags.now) dims.now }
+    ensures { result ≡ moved_dims highest_rank (reverse flags.now) dims.now }
 {
     if flags.len() == dims.rank() {
         Ok(dims.copied())
@@ -97,10 +119,28 @@ fn reverse_dims(flags: &[bool], dims: &Dims) -> Result<Dims, ExprFault>
     }
 }
 
-/// Dims of these sizes, which have to be legal.
-pub(crate) fn legal_dims(sizes: &[u64]) -> Result<Dims, ExprFault>
-    ensures { result ≡ legal_dims sizes.now }
+/// What is left of each dimension where only the multiples of its step are read.
+fn stride_dims(steps: &[u64], dims: &Dims) -> Result<Dims, ExprFault>
+    ensures { result ≡ moved_dims highest_rank (stride steps.now) dims.now }
 {
+    if steps.len() != dims.rank() {
+        return Err(ExprFault::ShapeMismatch);
+    }
+    if !none_is_zero(steps) {
+        return Err(ExprFault::OutOfRange);
+    }
+    // They are legal, since no dimension grows.
+    strided_dims(steps, dims.as_slice())
+}
+
+/// Dims of these sizes, which have to be legal where ranks end there.
+pub(crate) fn legal_dims(rank: usize, sizes: &[u64]) -> Result<Dims, ExprFault>
+    requires { rank ≤ highest_rank }
+    ensures { result ≡ legal_dims rank sizes.now }
+{
+    if sizes.len() > rank {
+        return Err(ExprFault::TooLarge);
+    }
     match Dims::new(sizes) {
         Ok(dims) => Ok(dims),
         Err(_) => Err(ExprFault::TooLarge),
@@ -108,10 +148,11 @@ pub(crate) fn legal_dims(sizes: &[u64]) -> Result<Dims, ExprFault>
 }
 
 /// Each size so many times. One past 64 bits is past the limit, too.
-fn repeated_dims(counts: &[u64], sizes: &[u64]) -> Result<Dims, ExprFault>
+fn repeated_dims(rank: usize, counts: &[u64], sizes: &[u64]) -> Result<Dims, ExprFault>
+    requires rank { rank ≤ highest_rank }
     requires same { length counts.now ≡ length sizes.now }
     requires few { length sizes.now ≤ highest_rank }
-    ensures { result ≡ legal_dims (repeated_dims sizes.now counts.now) }
+    ensures { result ≡ legal_dims rank (repeated_dims sizes.now counts.now) }
 {
     let mut repeated = PerAxis::new();
     for axis in 0..sizes.len() {
@@ -120,7 +161,21 @@ fn repeated_dims(counts: &[u64], sizes: &[u64]) -> Result<Dims, ExprFault>
         };
         repeated.push(size);
     }
-    legal_dims(repeated.as_slice())
+    legal_dims(rank, repeated.as_slice())
+}
+
+/// Each size over its step, rounded up.
+fn strided_dims(steps: &[u64], sizes: &[u64]) -> Result<Dims, ExprFault>
+    requires same { length steps.now ≡ length sizes.now }
+    requires few { length sizes.now ≤ highest_rank }
+    requires some { (k : ℕ) → k < length steps.now → 0 < slice_index steps.now k }
+    ensures { result ≡ legal_dims highest_rank (strided_dims sizes.now steps.now) }
+{
+    let mut strided = PerAxis::new();
+    for axis in 0..sizes.len() {
+        strided.push(sizes[axis].div_ceil(steps[axis]));
+    }
+    legal_dims(MAX_RANK, strided.as_slice())
 }
 
 /// The sizes in another order.
@@ -128,25 +183,35 @@ pub(crate) fn shuffled_dims(order: &[u64], sizes: &[u64]) -> Result<Dims, ExprFa
     requires few { length order.now ≤ highest_rank }
     requires axes { (k : ℕ) → k < length order.now
         → slice_index order.now k < length sizes.now }
-    ensures { result ≡ legal_dims (shuffled_dims sizes.now order.now) }
+    ensures { result ≡ legal_dims highest_rank (shuffled_dims sizes.now order.now) }
+{
+    legal_dims(MAX_RANK, shuffled(order, sizes).as_slice())
+}
+
+/// Of a number for each axis those of the axes in a list.
+pub(crate) fn shuffled(order: &[u64], numbers: &[u64]) -> PerAxis
+    requires few { length order.now ≤ highest_rank }
+    requires axes { (k : ℕ) → k < length order.now
+        → slice_index order.now k < length numbers.now }
+    ensures { result.items ≡ shuffled_dims numbers.now order.now }
 {
     let mut shuffled = PerAxis::new();
     for axis in order {
-        shuffled.push(sizes[*axis as usize]);
+        shuffled.push(numbers[*axis as usize]);
     }
-    legal_dims(shuffled.as_slice())
+    shuffled
 }
 
 /// The sizes but that of one axis.
 fn dims_without(axis: usize, sizes: &[u64]) -> Result<Dims, ExprFault>
     requires axis { axis < length sizes.now }
     requires few { length sizes.now ≤ highest_rank }
-    ensures { result ≡ legal_dims (remove sizes.now axis) }
+    ensures { result ≡ legal_dims highest_rank (remove sizes.now axis) }
 {
     let mut others = PerAxis::new();
     extend(&mut others, &sizes[..axis]);
     extend(&mut others, &sizes[axis + 1..]);
-    legal_dims(others.as_slice())
+    legal_dims(MAX_RANK, others.as_slice())
 }
 
 /// Appends numbers.

@@ -13,6 +13,7 @@ pub enum Movement<'a> {
     Reshape(&'a [u64]),
     Chip(u64, u64),
     Reverse(&'a [bool]),
+    Stride(&'a [u64]),
 }
 
 /// An operation on one tensor.
@@ -21,6 +22,8 @@ pub enum Unary<'a> {
     Each(UnaryScalar),
     Constant(i64),
     Move(Movement<'a>),
+    /// How many zeroes stand before and behind each axis.
+    Pad(&'a [(u64, u64)]),
     /// Over these axes.
     Reduce(Reducer, &'a [u64]),
 }
@@ -29,8 +32,12 @@ pub enum Unary<'a> {
 #[derive(Clone, Copy, Drop)]
 pub enum Binary<'a> {
     Pairwise(BinaryScalar),
+    /// Along this axis.
+    Concat(u64),
     /// Over these axes of the first and of the second.
     Contract(&'a [(u64, u64)]),
+    /// Along these axes, one for each of the kernel.
+    Convolve(&'a [u64]),
 }
 
 /// An operation on three tensors.

@@ -1,13 +1,15 @@
 //! The places of index lists that are 0 but at some axes.
 
-ghost use Rattle.std.specs.Prelude.{◌≡◌, ◌<◌, ◌+◌, ◌*◌, ◌/◌, ◌%◌, ◌^◌, ℕ, length, slice_index};
+ghost use Rattle.std.specs.Prelude.{◌≡◌, ◌<◌, ◌≤◌, ◌+◌, ◌*◌, ◌/◌, ◌%◌, ◌^◌, ℕ, length, drop, slice_index};
 ghost use Rattle.std.specs.Prelude.{IsTrue, IfOk};
-ghost use Rattle.tensor_shape.specs.Index.{size_of};
-ghost use Rattle.tensor_shape.specs.Legal.{most_elements};
+ghost use Rattle.tensor_shape.specs.Index.{size_of, index_of};
+ghost use Rattle.tensor_shape.specs.Legal.{most_elements, IsLegal};
 ghost use Rattle.tensor_ops.specs.Offsets.{offset_of};
 ghost use Rattle.tensor_ops.specs.Reduction.{are_axes};
+ghost use Rattle.tensor_ops.specs.Stepped.{stepped};
 ghost use Rattle.tensor_ops.specs.Woven.{dims_at};
 
+use crate::movement_dims::shuffled;
 use std::alloc::{AllocError, Global};
 use tensor_shape::Dims;
 
@@ -22,16 +24,33 @@ pub(crate) fn offsets(alloc: Global, dims: &Dims, axes: &[u64]) -> Result<Vec<us
     ensures small { IfOk result (λ v. (p : ℕ) → p < size_of (dims_at axes.now dims.now)
         → slice_index v.items p < most_elements) }
 {
-    let sizes = dims.as_slice();
+    let sizes = shuffled(axes, dims.as_slice());
+    let strides = dims.strides();
+    let steps = shuffled(axes, strides.as_slice());
+    stepped_places(alloc, sizes.as_slice(), steps.as_slice(), 0)
+}
+
+/// For each index list of the sizes from an axis on, in order of their places, its numbers times
+/// the steps of their axes, added up. Takes a number for each.
+pub(crate) fn stepped_places(
+    alloc: Global,
+    sizes: &[u64],
+    steps: &[u64],
+    first: usize,
+) -> Result<Vec<usize>, AllocError>
+    requires legal { IsLegal sizes.now }
+    requires rank { length steps.now ≡ length sizes.now }
+    requires short { (k : ℕ) → k < length sizes.now
+        → slice_index sizes.now k * slice_index steps.now k ≤ most_elements }
+    requires first { first ≤ length sizes.now }
+    ensures len { IfOk result (λ v. length v.items ≡ size_of (drop first sizes.now)) }
+    ensures each { IfOk result (λ v. (p : ℕ) → p < size_of (drop first sizes.now)
+        → slice_index v.items p
+        ≡ stepped (drop first steps.now) (index_of (drop first sizes.now) p)) }
+{
     let mut places = vec![in alloc; 0usize]?;
-    for k in (0..axes.len()).rev() {
-        let axis = axes[k] as usize;
-        places = with_axis(
-            alloc,
-            &places,
-            sizes[axis] as usize,
-            dims.stride(axis) as usize,
-        )?;
+    for k in (first..sizes.len()).rev() {
+        places = with_axis(alloc, &places, sizes[k] as usize, steps[k] as usize)?;
     }
     Ok(places)
 }

@@ -62,7 +62,7 @@ impl Panels {
 }
 
 /// Whether all values fit 32 bits.
-fn are_small(values: &[i64]) -> bool
+pub(crate) fn are_small(values: &[i64]) -> bool
     ensures { IsTrue result → AreSmall values.now }
 {
     for value in values {

@@ -1,16 +1,19 @@
 //! Placed expressions: what is left of an expression once index lists are settled, a tree whose
 //! values are asked for by place. The values are worked out by loops over places.
 
-ghost use Rattle.std.specs.Prelude.{◌≡◌, ◌≤◌, ◌-◌, length, map, IfOk, IfSome};
+ghost use Rattle.std.specs.Prelude.{◌≡◌, ◌≤◌, ◌-◌, ◌+◌, length, map, IfOk, IfSome};
 ghost use Rattle.std.specs.Cow.{cow_slice_items};
 ghost use Rattle.std.specs.List.{range_with_len};
 ghost use Rattle.tensor_ops.specs.Meaning.{meaning, count_of, IsSound, IsListOf};
 ghost use Rattle.tensor_ops.specs.Places.{places_of, AreBelow};
+ghost use Rattle.tensor_ops.specs.Splicing.{spliced, HaveTurns};
 
 use crate::gather::{picked, picked_along};
 use crate::loops::{SelectOrder, apply, combine, select};
 use crate::operations::{BinaryScalar, UnaryScalar};
 use crate::places::Places;
+use crate::spliced::{parted, spliced_list, spliced_run};
+use crate::turns::Turns;
 use crate::walk::{Axis, sources};
 use std::alloc::{AllocError, Allocator, Global};
 use std::borrow::CowSlice;
@@ -38,6 +41,8 @@ pub(crate) enum Placed<'a> {
     Select(SelectOrder, Box<Placed<'a>>, Box<Placed<'a>>, Box<Placed<'a>>),
     /// The operand's value at the place that the axes reach from a start.
     Walk(usize, Vec<Axis>, Box<Placed<'a>>),
+    /// The values of both operands in turns.
+    Spliced(Turns, Box<Placed<'a>>, Box<Placed<'a>>),
 }
 
 impl<'a> Placed<'a> {
@@ -89,6 +94,7 @@ impl<'a> Placed<'a> {
 }
 
 /// The values at places, in their order. Those of a run of a list are lent.
+#[cycle(values_at)]
 fn values_at<'t, 'a>(
     alloc: Global,
     placed: &'t Placed<'a>,
@@ -131,6 +137,56 @@ fn values_at<'t, 'a>(
             }
             let sources = sources(alloc, *start, axes, places)?;
             values_at(alloc, operand, &Places::Listed(&sources))
+        }
+        Placed::Spliced(turns, first, second) => {
+            spliced_at(alloc, *turns, first, second, places)
+        }
+    }
+}
+
+/// The values of two operands in turns at places. Where the places are a run those of each operand
+/// are one, too, and where it is in one operand nothing is copied.
+#[cycle(values_at)]
+fn spliced_at<'t, 'a>(
+    alloc: Global,
+    turns: Turns,
+    first: &'t Placed<'a>,
+    second: &'t Placed<'a>,
+    places: &Places<'_>,
+) -> Result<CowSlice<'t, i64, Global>, AllocError>
+    requires first { IsSound first.now }
+    requires second { IsSound second.now }
+    requires turns { HaveTurns turns.first turns.second (count_of first.now) (count_of second.now) }
+    requires places { AreBelow places.now (count_of first.now + count_of second.now) }
+    ensures { IfOk result (λ v. cow_slice_items v
+        ≡ map (spliced turns.first turns.second (meaning first.now) (meaning second.now))
+        (places_of places.now)) }
+{
+    match places {
+        Places::Run(from, to) => {
+            let first_from = turns.firsts_before(*from);
+            let first_to = turns.firsts_before(*to);
+            let second_from = turns.seconds_before(*from);
+            let second_to = turns.seconds_before(*to);
+            if first_from == first_to {
+                return values_at(alloc, second, &Places::Run(second_from, second_to));
+            }
+            if second_from == second_to {
+                return values_at(alloc, first, &Places::Run(first_from, first_to));
+            }
+            let firsts = values_at(alloc, first, &Places::Run(first_from, first_to))?;
+            let seconds = values_at(alloc, second, &Places::Run(second_from, second_to))?;
+            let (firsts, seconds) = (firsts.as_slice(), seconds.as_slice());
+            let values = spliced_run(alloc, turns, *from, *to, firsts, seconds)?;
+            Ok(CowSlice::Owned(values))
+        }
+        Places::Listed(places) => {
+            let (firsts, seconds) = parted(alloc, turns, places)?;
+            let firsts = values_at(alloc, first, &Places::Listed(&firsts))?;
+            let seconds = values_at(alloc, second, &Places::Listed(&seconds))?;
+            let (firsts, seconds) = (firsts.as_slice(), seconds.as_slice());
+            let values = spliced_list(alloc, turns, places, firsts, seconds)?;
+            Ok(CowSlice::Owned(values))
         }
     }
 }

@@ -1,7 +1,9 @@
 //! Placing: from an expression to a tree without dims, index lists and arguments, in one walk.
 
-ghost use Rattle.std.specs.Prelude.{◌≡◌, length, Ok, IsTrue, IsOk, IfOk, if◌then◌else◌};
+ghost use Rattle.std.specs.Prelude.{◌≡◌, ◌^◌, length, Ok, IsTrue, IsOk, IfOk, if◌then◌else◌};
+ghost use Rattle.tensor_shape.specs.Legal.{highest_rank};
 ghost use Rattle.tensor_shape.specs.Index.{size_of};
+ghost use Rattle.tensor_ops.specs.Axes.{AreShort};
 ghost use Rattle.tensor_ops.specs.Loops.{either_way, selected};
 ghost use Rattle.tensor_ops.specs.Meaning.{meaning, count_of, IsSound};
 ghost use Rattle.tensor_ops.specs.Movement.{moved, moved_dims};
@@ -14,15 +16,17 @@ ghost use Rattle.tensor_ops.specs.Scalars.{combined, is_true};
 ghost use Rattle.tensor_ops.specs.Value.{value, unary_value};
 
 use crate::axes::{moved_axes, moved_start, whole_axes};
+use crate::convolution::place_convolution;
 use crate::expr::Expr;
 use crate::kernels::{place_contraction, place_reduction};
 use crate::loops::SelectOrder;
-use crate::movement_dims::moved_dims;
+use crate::movement_dims::known_dims;
 use crate::node::{Binary, Movement, Node, Ternary, Unary};
 use crate::operations::BinaryScalar;
 use crate::part::Part;
 use crate::placed::Placed;
 use crate::settling::settled_over;
+use crate::splicing::{place_concatenation, place_pad};
 use crate::tensors::Tensors;
 use crate::walk::Axis;
 use std::alloc::{AllocError, Global};
@@ -44,7 +48,7 @@ pub(crate) fn place<'a>(
     room: &mut usize,
 ) -> Result<Part<'a>, AllocError>
     requires inputs { IsTrue (has_inputs (term_of expr.now) (length (tensors_in tensors))) }
-    requires dims { IsOk (dims_of (term_of expr.now) (tensors_in tensors)) }
+    requires dims { IsOk (dims_of highest_rank (term_of expr.now) (tensors_in tensors)) }
     ensures placed { IfOk result (λ r.
         Gives r.placed r.dims (value (term_of expr.now) (tensors_in tensors.entry))) }
     ensures dims { IfOk result (λ r.
@@ -68,10 +72,20 @@ pub(crate) fn place<'a>(
             let right = place(alloc, right, tensors, room)?;
             place_pairwise(alloc, operation, left, right)
         }
+        Node::Binary(Binary::Concat(axis), first, second) => {
+            let first = place(alloc, first, tensors, room)?;
+            let second = place(alloc, second, tensors, room)?;
+            place_concatenation(alloc, axis, first, second)
+        }
         Node::Binary(Binary::Contract(pairs), first, second) => {
             let first = place(alloc, first, tensors, room)?;
             let second = place(alloc, second, tensors, room)?;
             place_contraction(alloc, pairs, first, second)
+        }
+        Node::Binary(Binary::Convolve(axes), operand, kernel) => {
+            let operand = place(alloc, operand, tensors, room)?;
+            let kernel = place(alloc, kernel, tensors, room)?;
+            place_convolution(alloc, axes, operand, kernel)
         }
         Node::Ternary(Ternary::Select, condition, yes, no) => {
             let condition = place(alloc, condition, tensors, room)?;
@@ -91,12 +105,12 @@ fn place_unary<'a>(
 ) -> Result<Part<'a>, AllocError>
     requires sound { IsSound operand.placed }
     requires count { count_of operand.placed ≡ size_of operand.dims }
-    requires dims { IsOk (unary_dims (unary_at operation) operand.dims) }
+    requires dims { IsOk (unary_dims highest_rank (unary_at operation) operand.dims) }
     ensures placed { IfOk result (λ r. Gives r.placed r.dims
         (unary_value (unary_at operation.entry) operand.entry.dims
         (meaning_at operand.entry.placed operand.entry.dims))) }
     ensures dims { IfOk result (λ r.
-        unary_dims (unary_at operation.entry) operand.entry.dims ≡ Ok r.dims) }
+        unary_dims highest_rank (unary_at operation.entry) operand.entry.dims ≡ Ok r.dims) }
 {
     match operation {
         Unary::Each(operation) => {
@@ -116,6 +130,7 @@ fn place_unary<'a>(
             })
         }
         Unary::Move(movement) => place_movement(alloc, movement, operand, room),
+        Unary::Pad(pairs) => place_pad(alloc, pairs, operand),
         Unary::Reduce(reducer, axes) => place_reduction(alloc, reducer, axes, operand),
     }
 }
@@ -238,9 +253,9 @@ fn place_movement<'a>(
 ) -> Result<Part<'a>, AllocError>
     requires sound { IsSound operand.placed }
     requires count { count_of operand.placed ≡ size_of operand.dims }
-    requires dims { IsOk (moved_dims (movement_at movement) operand.dims) }
+    requires dims { IsOk (moved_dims highest_rank (movement_at movement) operand.dims) }
     ensures dims { IfOk result (λ r.
-        moved_dims (movement_at movement.entry) operand.entry.dims ≡ Ok r.dims) }
+        moved_dims highest_rank (movement_at movement.entry) operand.entry.dims ≡ Ok r.dims) }
     ensures placed { IfOk result (λ r. Gives r.placed r.dims (λ index.
         meaning_at operand.entry.placed operand.entry.dims
         (moved (movement_at movement.entry) operand.entry.dims index))) }
@@ -272,17 +287,6 @@ fn place_movement<'a>(
     })
 }
 
-/// The result dims of a movement that has some.
-fn known_dims(movement: Movement<'_>, dims: &Dims) -> Dims
-    requires { IsOk (moved_dims (movement_at movement) dims.now) }
-    ensures { moved_dims (movement_at movement.entry) dims.now ≡ Ok result }
-{
-    match moved_dims(movement, dims) {
-        Ok(dims) => dims,
-        Err(_) => unreachable!(),
-    }
-}
-
 /// An operand with its values worked out, where it has fewer places than are read of it, as that of
 /// a broadcast, and there is room.
 fn kept<'a>(
@@ -312,7 +316,9 @@ fn kept<'a>(
 fn whole_view<'a>(alloc: Global, placed: Placed<'a>, dims: &Dims) -> Result<View<'a>, AllocError>
     requires sound { IsSound placed }
     requires count { count_of placed ≡ size_of dims.now }
-    ensures { IfOk result (λ v. IsView v.placed.value v.start v.axes.items placed.entry dims.now) }
+    ensures view { IfOk result (λ v.
+        IsView v.placed.value v.start v.axes.items placed.entry dims.now) }
+    ensures short { IfOk result (λ v. AreShort v.axes.items (2 ^ 32)) }
 {
     let axes = whole_axes(alloc, dims)?;
     let placed = Box::new(alloc, placed)?;

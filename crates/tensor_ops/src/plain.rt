@@ -17,11 +17,11 @@ use std::alloc::{AllocError, Global};
 /// The tensor whose value at each index list is the expression's: its values at the range of all
 /// places.
 pub fn eval_plain(alloc: Global, expr: &Expr, inputs: &Inputs) -> Result<Tensor, AllocError>
-    requires inputs { IsTrue (has_inputs (term_of expr.now) (length inputs.now)) }
-    requires dims { IsOk (dims_of (term_of expr.now) inputs.now) }
-    ensures tensor { IfOk result (λ t. t ≡ tensor_of (term_of expr.now) inputs.now) }
+    requires inputs { IsTrue (has_inputs (term_of expr.now) (length inputs.now.tensors)) }
+    requires dims { IsOk (dims_of inputs.now.rank (term_of expr.now) inputs.now.tensors) }
+    ensures tensor { IfOk result (λ t. t ≡ tensor_of (term_of expr.now) inputs.now.tensors) }
     ensures each { IfOk result (λ t. (index : List ℕ) → IsIndexOf t.dims index
-        → value_at t index ≡ value (term_of expr.now) inputs.now index) }
+        → value_at t index ≡ value (term_of expr.now) inputs.now.tensors index) }
 {
     let evaluator = TensorEvaluator::of(alloc, expr, inputs)?;
     let dims = evaluator.dims().copied();

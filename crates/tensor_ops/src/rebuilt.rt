@@ -18,6 +18,7 @@ impl Unary<'_> {
             Unary::Each(operation) => Ok(Expr::each(operation, operand)),
             Unary::Constant(value) => Ok(Expr::Constant(operand, value)),
             Unary::Move(movement) => moved(alloc, movement, operand),
+            Unary::Pad(pairs) => Ok(Expr::Pad(operand, pairs.to_vec(alloc)?)),
             Unary::Reduce(reducer, axes) => {
                 Ok(Expr::reduction(reducer, operand, axes.to_vec(alloc)?))
             }
@@ -35,7 +36,9 @@ impl Binary<'_> {
         let second = Box::new(alloc, second)?;
         match self {
             Binary::Pairwise(operation) => Ok(Expr::pairwise(operation, first, second)),
+            Binary::Concat(axis) => Ok(Expr::Concat(first, second, axis)),
             Binary::Contract(pairs) => Ok(Expr::Contract(first, second, pairs.to_vec(alloc)?)),
+            Binary::Convolve(axes) => Ok(Expr::Convolve(first, second, axes.to_vec(alloc)?)),
         }
     }
 }
@@ -75,5 +78,6 @@ fn moved(alloc: Global, moving: Movement<'_>, operand: Box<Expr>) -> Result<Expr
         Movement::Reshape(sizes) => Expr::Reshape(operand, sizes.to_vec(alloc)?),
         Movement::Chip(offset, axis) => Expr::Chip(operand, offset, axis),
         Movement::Reverse(flags) => Expr::Reverse(operand, flags.to_vec(alloc)?),
+        Movement::Stride(steps) => Expr::Stride(operand, steps.to_vec(alloc)?),
     })
 }

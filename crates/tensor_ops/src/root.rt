@@ -2,6 +2,7 @@
 
 ghost use Rattle.std.specs.Prelude.{◌≡◌, ◌≤◌, ◌-◌, length, map, IsTrue, IsOk, IfOk};
 ghost use Rattle.std.specs.List.{range_with_len};
+ghost use Rattle.tensor_shape.specs.Legal.{highest_rank};
 ghost use Rattle.tensor_ops.specs.Placing.{Gives, HasValues};
 ghost use Rattle.tensor_ops.specs.Result.{dims_of, shape_of};
 ghost use Rattle.tensor_ops.specs.Tensors.{tensors_in};
@@ -10,6 +11,7 @@ ghost use Rattle.tensor_ops.specs.Tree.{term_of};
 ghost use Rattle.tensor_ops.specs.Value.{value};
 
 use crate::contraction::Contraction;
+use crate::convolution::convolution_of;
 use crate::expr::Expr;
 use crate::kernels::{contraction_of, reduction_of};
 use crate::node::{Binary, Node, Unary};
@@ -45,7 +47,7 @@ impl<'a> Root<'a> {
         tensors: Tensors<'a>,
     ) -> Result<(Root<'a>, Dims), AllocError>
         requires inputs { IsTrue (has_inputs (term_of expr.now) (length (tensors_in tensors))) }
-        requires dims { IsOk (dims_of (term_of expr.now) (tensors_in tensors)) }
+        requires dims { IsOk (dims_of highest_rank (term_of expr.now) (tensors_in tensors)) }
         ensures sound { IfOk result (λ r. IsSoundRoot r.0) }
         ensures values { IfOk result (λ r. HasValues (root_count r.0) (root_value r.0) r.1
             (value (term_of expr.now) (tensors_in tensors.entry))) }
@@ -63,6 +65,12 @@ impl<'a> Root<'a> {
                 let first = place(alloc, first, tensors, &mut room)?;
                 let second = place(alloc, second, tensors, &mut room)?;
                 let (contraction, dims) = contraction_of(alloc, pairs, first, second)?;
+                Ok((Root::Contraction(contraction), dims))
+            }
+            Node::Binary(Binary::Convolve(axes), operand, kernel) => {
+                let operand = place(alloc, operand, tensors, &mut room)?;
+                let kernel = place(alloc, kernel, tensors, &mut room)?;
+                let (contraction, dims) = convolution_of(alloc, axes, operand, kernel)?;
                 Ok((Root::Contraction(contraction), dims))
             }
             _ => {
@@ -103,7 +111,7 @@ fn place_settled<'a>(
     room: &mut usize,
 ) -> Result<Part<'a>, AllocError>
     requires inputs { IsTrue (has_inputs (term_of expr.now) (length (tensors_in tensors))) }
-    requires dims { IsOk (dims_of (term_of expr.now) (tensors_in tensors)) }
+    requires dims { IsOk (dims_of highest_rank (term_of expr.now) (tensors_in tensors)) }
     ensures placed { IfOk result (λ r.
         Gives r.placed r.dims (value (term_of expr.now) (tensors_in tensors.entry))) }
     ensures dims { IfOk result (λ r.

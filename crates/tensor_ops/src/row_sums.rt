@@ -1,15 +1,21 @@
 //! Sums of the products of rows and one row: a row has the values at its start, moved by offsets.
+//! Rows that begin side by side are passed together.
 
-ghost use Rattle.std.specs.Prelude.{◌≡◌, ℕ, ◌+◌, ◌+ℤ◌, ◌*ℤ◌, ◌<◌, length, pos, slice_index};
+ghost use Rattle.std.specs.Prelude.{◌≡◌, ℕ, ◌+◌, ◌-◌, ◌<◌, ◌≤◌, ◌^◌, length, slice_index, IsTrue};
 ghost use Rattle.tensor_shape.specs.Wrap.{wrap};
-ghost use Rattle.tensor_ops.specs.Panels.{AreInside};
+ghost use Rattle.tensor_ops.specs.Panels.{AreInside, AreSmall};
 ghost use Rattle.tensor_ops.specs.Places.{value_in};
 ghost use Rattle.tensor_ops.specs.Products.{list_product};
 
+use crate::small_eight::small_eight;
 use crate::tile::mul_add;
+use crate::wide_eight::wide_eight;
 
-/// The sums of the products of each row of a and the row of b at y, row by row.
-pub(crate) fn sums_by_rows(
+/// The most rows whose starts are looked at before their sums are made.
+const TOGETHER: usize = 1024;
+
+/// The sums of the products of each row of a and the row of b at y.
+pub(crate) fn row_sums(
     a: &[i64],
     starts: &[usize],
     offsets: &[usize],
@@ -26,8 +32,114 @@ pub(crate) fn sums_by_rows(
     ensures each { (k : ℕ) → k < length starts.now → value_in out.new k ≡ wrap (list_product
         a.now (slice_index starts.now k) offsets.now b.now y others.now (length offsets.now)) }
 {
-    for k in 0..starts.len() {
-        out[k] = sum_of_products(a, starts[k], offsets, b, y, others);
+    let mut k = 0;
+    while k < starts.len() {
+        let count = side_by_side(starts, k);
+        sums_of_run(
+            a,
+            starts[k],
+            offsets,
+            b,
+            y,
+            others,
+            false,
+            &mut out[k..k + count],
+        );
+        k += count;
+    }
+}
+
+/// How many rows from row k on begin side by side, up to as many as are passed together.
+fn side_by_side(starts: &[usize], k: usize) -> usize
+    requires { k < length starts.now }
+    ensures some { 0 < result }
+    ensures few { k + result ≤ length starts.now }
+    ensures each { (j : ℕ) → j < result
+        → slice_index starts.now (k + j) ≡ slice_index starts.now k + j }
+{
+    let most = (starts.len() - k).min(TOGETHER);
+    let first = starts[k];
+    for j in 1..most {
+        let start = starts[k + j];
+        if start < first || start - first != j {
+            return j;
+        }
+    }
+    most
+}
+
+/// The same sums of rows that begin side by side, the first of them at x: eight at a time, and
+/// then one by one. Who knows that all values fit 32 bits may say so, for a faster way.
+pub(crate) fn sums_of_run(
+    a: &[i64],
+    x: usize,
+    offsets: &[usize],
+    b: &[i64],
+    y: usize,
+    others: &[usize],
+    small: bool,
+    out: &mut [i64],
+)
+    requires small { IsTrue small → AreSmall a.now × AreSmall b.now }
+    requires lengths { length offsets.now ≡ length others.now }
+    requires a { (q : ℕ) → q < length offsets.now
+        → x + slice_index offsets.now q + length out.old ≤ length a.now }
+    requires place { x + length out.old ≤ 2 ^ 64 }
+    requires b { (q : ℕ) → q < length others.now → y + slice_index others.now q < length b.now }
+    ensures len { length out.new ≡ length out.old }
+    ensures each { (k : ℕ) → k < length out.old → value_in out.new k ≡ wrap (list_product
+        a.now (x + k) offsets.now b.now y others.now (length offsets.now)) }
+{
+    let eights = fill_eights(a, x, offsets, b, y, others, small, out);
+    for k in eights..out.len() {
+        out[k] = sum_of_products(a, x + k, offsets, b, y, others);
+    }
+}
+
+/// Writes as many sums as there are eights of them, and tells how many those are.
+fn fill_eights(
+    a: &[i64],
+    x: usize,
+    offsets: &[usize],
+    b: &[i64],
+    y: usize,
+    others: &[usize],
+    small: bool,
+    out: &mut [i64],
+) -> usize
+    requires small { IsTrue small → AreSmall a.now × AreSmall b.now }
+    requires lengths { length offsets.now ≡ length others.now }
+    requires a { (q : ℕ) → q < length offsets.now
+        → x + slice_index offsets.now q + length out.old ≤ length a.now }
+    requires place { x + length out.old ≤ 2 ^ 64 }
+    requires b { (q : ℕ) → q < length others.now → y + slice_index others.now q < length b.now }
+    ensures few { result ≤ length out.old }
+    ensures len { length out.new ≡ length out.old }
+    ensures each { (k : ℕ) → k < result → value_in out.new k ≡ wrap (list_product
+        a.now (x + k) offsets.now b.now y others.now (length offsets.now)) }
+{
+    let mut k = 0;
+    while 8 <= out.len() - k {
+        let sums = if small {
+            small_eight(a, x + k, offsets, b, y, others)
+        } else {
+            wide_eight(a, x + k, offsets, b, y, others)
+        };
+        store(out, k, &sums);
+        k += 8;
+    }
+    k
+}
+
+/// Stores eight sums from place k on. What is before them stays.
+fn store(out: &mut [i64], k: usize, sums: &[i64; 8])
+    requires { k + 8 ≤ length out.old }
+    ensures len { length out.new ≡ length out.old }
+    ensures stored { (t : ℕ) → t < 8 → value_in out.new (k + t) ≡ value_in sums.now t }
+    ensures kept { (j : ℕ) → j < k → value_in out.new j ≡ value_in out.old j }
+{
+    for t in 0..8 {
+        out[k + t] = sums[t];
     }
 }
 
@@ -51,61 +163,4 @@ fn sum_of_products(
         sum = mul_add(sum, a[x + offsets[q]], b[y + others[q]]);
     }
     sum
-}
-
-/// The same sums as by rows, offset by offset.
-pub(crate) fn sums_by_offsets(
-    a: &[i64],
-    starts: &[usize],
-    offsets: &[usize],
-    b: &[i64],
-    y: usize,
-    others: &[usize],
-    out: &mut [i64],
-)
-    requires lengths { length offsets.now ≡ length others.now }
-    requires a { AreInside a.now starts.now offsets.now }
-    requires b { (q : ℕ) → q < length others.now → y + slice_index others.now q < length b.now }
-    requires out { length out.old ≡ length starts.now }
-    ensures len { length out.new ≡ length starts.now }
-    ensures each { (k : ℕ) → k < length starts.now → value_in out.new k ≡ wrap (list_product
-        a.now (slice_index starts.now k) offsets.now b.now y others.now (length offsets.now)) }
-{
-    clear(out);
-    for q in 0..offsets.len() {
-        add_products(a, starts, offsets[q], b, y + others[q], out);
-    }
-}
-
-/// Adds to each sum the product of the value of a at its start, moved by an offset, and that of b
-/// at a place.
-fn add_products(
-    a: &[i64],
-    starts: &[usize],
-    offset: usize,
-    b: &[i64],
-    place: usize,
-    sums: &mut [i64],
-)
-    requires a { (k : ℕ) → k < length starts.now
-        → slice_index starts.now k + offset < length a.now }
-    requires b { place < length b.now }
-    requires sums { length sums.old ≡ length starts.now }
-    ensures len { length sums.new ≡ length starts.now }
-    ensures each { (k : ℕ) → k < length starts.now → value_in sums.new k ≡ wrap (value_in sums.old k
-        +ℤ (value_in a.now (slice_index starts.now k + offset) *ℤ value_in b.now place)) }
-{
-    for k in 0..starts.len() {
-        sums[k] = mul_add(sums[k], a[starts[k] + offset], b[place]);
-    }
-}
-
-/// All sums become 0.
-fn clear(sums: &mut [i64])
-    ensures len { length sums.new ≡ length sums.old }
-    ensures each { (k : ℕ) → k < length sums.old → value_in sums.new k ≡ pos 0 }
-{
-    for k in 0..sums.len() {
-        sums[k] = 0;
-    }
 }

@@ -1,5 +1,5 @@
 //! An operand of a contraction as rows: a row for each index list of the axes that are kept, and
-//! in it a value for each index list of the paired ones.
+//! in it a value for each index list of the paired ones. The kernel of a convolution is one row.
 
 ghost use Rattle.std.specs.Prelude.{◌≡◌, ◌<◌, ◌≤◌, ℕ, length};
 ghost use Rattle.std.specs.Prelude.{IsTrue, IfOk};
@@ -29,6 +29,7 @@ pub(crate) struct Rows<'a> {
 impl<'a> Rows<'a> {
     ghost use Rattle.tensor_ops.specs.Products.{IsOperand};
     ghost use Rattle.tensor_ops.specs.Rows.{row_count, row_length, row_value};
+    ghost use Rattle.tensor_ops.specs.Slid.{IsOneRow};
 
     /// An operand of these dims, whose paired axes are these, in their order. Takes a number for
     /// each of its rows, and one for each value of a row.
@@ -52,6 +53,30 @@ impl<'a> Rows<'a> {
             values,
             starts,
             offsets: moves,
+        })
+    }
+
+    /// One row, which has all values of these dims in their order. Takes a number for each.
+    pub(crate) fn one(
+        alloc: Global,
+        dims: &Dims,
+        values: CowSlice<'a, i64, Global>,
+    ) -> Result<Rows<'a>, AllocError>
+        requires { length (cow_slice_items values) ≡ size_of dims.now }
+        ensures { IfOk result (λ rows.
+            IsOneRow (row_count rows) (row_length rows) (row_value rows)
+            (cow_slice_items values.entry) (size_of dims.now)) }
+    {
+        let count = dims.size() as usize;
+        let starts = vec![in alloc; 0usize]?;
+        let mut offsets = Vec::with_capacity(alloc, count)?;
+        for place in 0..count {
+            offsets.push_reserved(place);
+        }
+        Ok(Rows {
+            values,
+            starts,
+            offsets,
         })
     }
 }

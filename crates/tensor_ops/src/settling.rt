@@ -1,7 +1,7 @@
 //! Settling: the walks of a placed expression go down to what is read by places, where they become
 //! one walk each; what is worked out is then worked out in order.
 
-ghost use Rattle.std.specs.Prelude.{◌≡◌, ◌<◌, ◌≤◌, ℕ, IfOk};
+ghost use Rattle.std.specs.Prelude.{◌≡◌, ◌<◌, ◌≤◌, ◌+◌, ℕ, IfOk};
 ghost use Rattle.tensor_shape.specs.Index.{size_of};
 ghost use Rattle.tensor_shape.specs.Legal.{most_elements};
 ghost use Rattle.tensor_ops.specs.Loops.{either_way, selected};
@@ -9,6 +9,7 @@ ghost use Rattle.tensor_ops.specs.Meaning.{meaning, count_of, IsSound};
 ghost use Rattle.tensor_ops.specs.Placing.{Gives, IsJoined, meaning_at};
 ghost use Rattle.tensor_ops.specs.Scalars.{applied};
 ghost use Rattle.tensor_ops.specs.Settling.{Follows, meaning_along};
+ghost use Rattle.tensor_ops.specs.Splicing.{spliced, HaveTurns};
 ghost use Rattle.tensor_ops.specs.Walk.{walk_size, reached};
 
 use crate::joining::joined;
@@ -16,6 +17,7 @@ use crate::loops::SelectOrder;
 use crate::operations::{BinaryScalar, UnaryScalar};
 use crate::placed::Placed;
 use crate::route::{Route, places_along};
+use crate::turns::Turns;
 use std::alloc::{AllocError, Global};
 use tensor_shape::Dims;
 
@@ -63,6 +65,11 @@ fn settled<'a>(alloc: Global, placed: Placed<'a>) -> Result<Placed<'a>, AllocErr
         Placed::Walk(start, axes, operand) => {
             led(alloc, Box::into_inner(operand), Route { start, axes })
         }
+        Placed::Spliced(turns, first, second) => {
+            let first = settled(alloc, Box::into_inner(first))?;
+            let second = settled(alloc, Box::into_inner(second))?;
+            in_turns(alloc, turns, first, second)
+        }
         list => Ok(list),
     }
 }
@@ -103,6 +110,12 @@ fn led<'a>(alloc: Global, placed: Placed<'a>, route: Route) -> Result<Placed<'a>
             let operand = settled(alloc, Box::into_inner(operand))?;
             let inner = walk_over(alloc, operand, Route { start, axes })?;
             walk_over(alloc, inner, route)
+        }
+        Placed::Spliced(turns, first, second) => {
+            let first = settled(alloc, Box::into_inner(first))?;
+            let second = settled(alloc, Box::into_inner(second))?;
+            let splice = in_turns(alloc, turns, first, second)?;
+            walk_over(alloc, splice, route)
         }
         list => walk_over(alloc, list, route),
     }
@@ -174,4 +187,22 @@ fn all<'a>(
     let second = Box::new(alloc, second)?;
     let third = Box::new(alloc, third)?;
     Ok(Placed::Select(order, first, second, third))
+}
+
+/// Two operands in turns.
+fn in_turns<'a>(
+    alloc: Global,
+    turns: Turns,
+    first: Placed<'a>,
+    second: Placed<'a>,
+) -> Result<Placed<'a>, AllocError>
+    requires first { IsSound first }
+    requires second { IsSound second }
+    requires turns { HaveTurns turns.first turns.second (count_of first) (count_of second) }
+    ensures { IfOk result (λ r. Follows r (count_of first.entry + count_of second.entry)
+        (spliced turns.first turns.second (meaning first.entry) (meaning second.entry))) }
+{
+    let first = Box::new(alloc, first)?;
+    let second = Box::new(alloc, second)?;
+    Ok(Placed::Spliced(turns, first, second))
 }

@@ -9,7 +9,7 @@ use std::simd::prelude::*;
 
 /// One product more for each of four sums.
 #[inline(always)]
-fn add_column(sums: i64x4, x: i64x4, y: i64x4) -> i64x4
+pub(crate) fn add_column(sums: i64x4, x: i64x4, y: i64x4) -> i64x4
     requires sums { AreLanes sums }
     requires x { AreLanes x }
     requires y { AreLanes y }

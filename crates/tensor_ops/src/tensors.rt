@@ -18,7 +18,7 @@ impl<'a> Tensors<'a> {
 
     /// Inputs, and behind them others.
     pub(crate) fn of(inputs: &'a Inputs, others: &'a [Tensor]) -> Tensors<'a>
-        ensures { tensors_in result ≡ inputs.now ++ others.now }
+        ensures { tensors_in result ≡ inputs.now.tensors ++ others.now }
     {
         Tensors { inputs, others }
     }

@@ -2,27 +2,30 @@
 use Rattle.std.specs.Prelude.{ℕ, ◌+◌, ◌^◌, ◌%◌, List, [], ◌∷◌, ◌++◌, length}
 use Rattle.std.specs.Prelude.{Bool, true, false, not, ◌&&◌, ◌||◌, if◌then◌else◌}
 use Rattle.tensor_ops.specs.Term.{Term, input, unary, binary, ternary}
-use Rattle.tensor_ops.specs.Term.{Unary, each, constant, movement, reduce}
-use Rattle.tensor_ops.specs.Term.{Binary, pairwise, contract}
+use Rattle.tensor_ops.specs.Term.{Unary, each, constant, movement, pad, reduce}
+use Rattle.tensor_ops.specs.Term.{Binary, pairwise, concat, contract, convolve}
 
 -- whether an operation combines many values of an operand into one: reductions do
 abbrev pub combines : Unary → Bool
 combines (each o) = false
 combines (constant v) = false
 combines (movement m) = false
+combines (pad pairs) = false
 combines (reduce r axes) = true
 
--- the same of two operands: contractions do
+-- the same of two operands: contractions and convolutions do
 abbrev pub combines_two : Binary → Bool
 combines_two (pairwise o) = false
+combines_two (concat axis) = false
 combines_two (contract pairs) = true
+combines_two (convolve axes) = true
 
 -- a node, where it is a step
 abbrev pub own : Bool → Term → List Term
 own is_step t = if is_step then t ∷ [] else []
 
--- the nodes of an operand that are steps: each reduction and each contraction, and each operand of
--- these that isn't an input. The operand is one of the latter where it is needed whole
+-- the nodes of an operand that are steps: each reduction, contraction and convolution, and each
+-- operand of these that isn't an input. The operand is one of the latter where it is needed whole
 abbrev pub operand_nodes : Bool → Term → List Term
 operand_nodes whole (input n) = []
 operand_nodes whole (unary o a) =
@@ -82,7 +85,7 @@ cut before whole (ternary o a b c) =
 abbrev pub steps_of : ℕ → Term → List Term
 steps_of inputs t = if is_input t then t ∷ [] else (cut inputs true t).steps
 
--- whether a term has neither reductions nor contractions
+-- whether a term has no reductions, contractions and convolutions
 abbrev pub combines_nothing : Term → Bool
 combines_nothing (input n) = true
 combines_nothing (unary o a) = not (combines o) && combines_nothing a
@@ -91,8 +94,8 @@ combines_nothing (binary o a b) =
 combines_nothing (ternary o a b c) =
     combines_nothing a && (combines_nothing b && combines_nothing c)
 
--- whether a term can be worked out in one go: one reduction or contraction of tensors, or a term
--- without any
+-- whether a term can be worked out in one go: one reduction, contraction or convolution of tensors,
+-- or a term without any
 abbrev pub is_single : Term → Bool
 is_single (input n) = true
 is_single (unary o a) = if combines o then is_input a else combines_nothing a

@@ -1,6 +1,7 @@
 //! Cutting an expression into steps, in one walk.
 
 ghost use Rattle.std.specs.Prelude.{◌≡◌, ◌+◌, length, map, Ok, IsTrue, IsOk, IfOk, vec_len};
+ghost use Rattle.tensor_ops.specs.Legal.{highest_rank};
 ghost use Rattle.tensor_ops.specs.Result.{dims_of, operand_dims};
 ghost use Rattle.tensor_ops.specs.Term.{has_inputs};
 ghost use Rattle.tensor_ops.specs.Tree.{term_of, unary_at, binary_at};
@@ -9,16 +10,16 @@ ghost use Rattle.tensor_reduce.specs.Steps.{combines, combines_two, is_input, nu
 
 use crate::step::Step;
 use std::alloc::{AllocError, Global};
-use tensor_ops::{Binary, Dims, Expr, Inputs, Node, Unary};
+use tensor_ops::{Binary, Dims, Expr, Inputs, MAX_RANK, Node, Unary};
 
 /// How many numbers a tensor among the inputs of an expression may have.
 const NUMBERS: u64 = 1 << 32;
 
 /// The steps of an expression, of which the root is the last.
 pub(crate) fn steps_of(alloc: Global, inputs: &Inputs, expr: &Expr) -> Result<Vec<Step>, AllocError>
-    requires inputs { IsTrue (has_inputs (term_of expr.now) (length inputs.now)) }
-    requires dims { IsOk (dims_of (term_of expr.now) inputs.now) }
-    ensures { IfOk result (λ steps. AreStepsOf inputs.now (term_of expr.now) steps.items) }
+    requires inputs { IsTrue (has_inputs (term_of expr.now) (length inputs.now.tensors)) }
+    requires dims { IsOk (dims_of highest_rank (term_of expr.now) inputs.now.tensors) }
+    ensures { IfOk result (λ steps. AreStepsOf inputs.now.tensors (term_of expr.now) steps.items) }
 {
     let mut steps = Vec::new(alloc);
     let left = cut(alloc, inputs, expr, true, &mut steps)?;
@@ -38,10 +39,10 @@ fn cut(
     whole: bool,
     steps: &mut Vec<Step>,
 ) -> Result<Step, AllocError>
-    requires inputs { IsTrue (has_inputs (term_of expr.now) (length inputs.now)) }
-    requires dims { IsOk (dims_of (term_of expr.now) inputs.now) }
+    requires inputs { IsTrue (has_inputs (term_of expr.now) (length inputs.now.tensors)) }
+    requires dims { IsOk (dims_of highest_rank (term_of expr.now) inputs.now.tensors) }
     ensures { IfOk result (λ left.
-        IsCut inputs.now whole (term_of expr.now) steps.old.items steps.new.items left) }
+        IsCut inputs.now.tensors whole (term_of expr.now) steps.old.items steps.new.items left) }
 {
     match expr.node() {
         Node::Input(number) => {
@@ -82,7 +83,7 @@ fn settle(
     steps: &mut Vec<Step>,
 ) -> Result<Step, AllocError>
     ensures { IfOk result (λ left.
-        IsSettled inputs.now is_step node steps.old.items steps.new.items left) }
+        IsSettled inputs.now.tensors is_step node steps.old.items steps.new.items left) }
 {
     if !is_step {
         return Ok(node);
@@ -95,7 +96,7 @@ fn settle(
 
 /// The number of the tensor that comes behind the inputs and the steps.
 fn next_number(inputs: &Inputs, steps: &[Step]) -> u32
-    ensures { result ≡ number_of (length inputs.now + length steps.now) }
+    ensures { result ≡ number_of (length inputs.now.tensors + length steps.now) }
 {
     let place = u64::from(inputs.len()) + steps.len() as u64;
     (place % NUMBERS) as u32
@@ -103,12 +104,13 @@ fn next_number(inputs: &Inputs, steps: &[Step]) -> u32
 
 /// The dims of an expression that has dims, from those of its operands.
 fn dims_over(inputs: &Inputs, expr: &Expr, operands: &[Dims]) -> Dims
-    requires inputs { IsTrue (has_inputs (term_of expr.now) (length inputs.now)) }
-    requires operands { operand_dims (term_of expr.now) inputs.now ≡ map Ok operands.now }
-    requires dims { IsOk (dims_of (term_of expr.now) inputs.now) }
-    ensures { dims_of (term_of expr.now) inputs.now ≡ Ok result }
+    requires inputs { IsTrue (has_inputs (term_of expr.now) (length inputs.now.tensors)) }
+    requires operands { operand_dims highest_rank (term_of expr.now) inputs.now.tensors
+        ≡ map Ok operands.now }
+    requires dims { IsOk (dims_of highest_rank (term_of expr.now) inputs.now.tensors) }
+    ensures { dims_of highest_rank (term_of expr.now) inputs.now.tensors ≡ Ok result }
 {
-    let Ok(dims) = expr.dims_over(inputs, operands) else {
+    let Ok(dims) = expr.dims_over(MAX_RANK, inputs, operands) else {
         unreachable!()
     };
     dims
@@ -119,7 +121,7 @@ fn combines(operation: Unary<'_>) -> bool
     ensures { result ≡ combines (unary_at operation.entry) }
 {
     match operation {
-        Unary::Each(_) | Unary::Constant(_) | Unary::Move(_) => false,
+        Unary::Each(_) | Unary::Constant(_) | Unary::Move(_) | Unary::Pad(_) => false,
         Unary::Reduce(_, _) => true,
     }
 }
@@ -129,8 +131,8 @@ fn combines_two(operation: Binary<'_>) -> bool
     ensures { result ≡ combines_two (binary_at operation.entry) }
 {
     match operation {
-        Binary::Pairwise(_) => false,
-        Binary::Contract(_) => true,
+        Binary::Pairwise(_) | Binary::Concat(_) => false,
+        Binary::Contract(_) | Binary::Convolve(_) => true,
     }
 }
 

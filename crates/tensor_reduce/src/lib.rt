@@ -2,11 +2,12 @@
 //! another expression: it is evaluated into a tensor of its own, once, and what is above it reads
 //! that.
 //!
-//! A [`Plan`] has an expression's steps, children first: each reduction, each contraction, each
-//! operand of these that isn't an input, and the root. A node that is several of these is one step,
-//! and operands that repeat are not shared: each has its own steps. The expression of a step names
-//! an input by its number, and the tensor of an earlier step by the number of inputs and that
-//! step's own place; it is one reduction or contraction of such tensors, or has neither.
+//! A [`Plan`] has an expression's steps, children first: each reduction, contraction and
+//! convolution, each operand of these that isn't an input, and the root. A node that is several of
+//! these is one step, and operands that repeat are not shared: each has its own steps. The
+//! expression of a step names an input by its number, and the tensor of an earlier step by the
+//! number of inputs and that step's own place; it is one of these three, of such tensors, or has
+//! none of them.
 //!
 //! That the steps are these is proved, and that worked out one after the other each gives the
 //! tensor of its node, as the plain meaning of expressions has it, and the last that of the whole.

@@ -1,6 +1,7 @@
 //! Plans.
 
 ghost use Rattle.std.specs.Prelude.{◌≡◌, ◌+◌, ◌<◌, ◌≤◌, ◌^◌, ◌++◌, length, map, IsTrue, IsOk, IfOk};
+ghost use Rattle.tensor_ops.specs.Legal.{highest_rank};
 ghost use Rattle.tensor_ops.specs.Result.{dims_of};
 ghost use Rattle.tensor_ops.specs.Term.{has_inputs, nodes_of};
 ghost use Rattle.tensor_ops.specs.Tree.{term_of};
@@ -28,30 +29,34 @@ impl Plan {
     /// Numbers of tensors have 32 bits, so it can be worked out as long as there are at most
     /// 4,294,967,295 inputs and steps together.
     pub fn of(alloc: Global, expr: &Expr, inputs: &Inputs) -> Result<Plan, AllocError>
-        requires inputs { IsTrue (has_inputs (term_of expr.now) (length inputs.now)) }
-        requires dims { IsOk (dims_of (term_of expr.now) inputs.now) }
+        requires inputs { IsTrue (has_inputs (term_of expr.now) (length inputs.now.tensors)) }
+        requires dims { IsOk (dims_of inputs.now.rank (term_of expr.now) inputs.now.tensors) }
 
         // The steps are those of the definition, each with the dims of its node.
         ensures terms { IfOk result (λ plan.
-            terms_in (steps_in plan) ≡ steps_of (length inputs.now) (term_of expr.now)) }
+            terms_in (steps_in plan) ≡ steps_of (length inputs.now.tensors) (term_of expr.now)) }
         ensures dims { IfOk result (λ plan. dims_in (steps_in plan)
-            ≡ map (λ t. dims_of t inputs.now) (step_nodes (term_of expr.now))) }
+            ≡ map (λ t. dims_of highest_rank t inputs.now.tensors)
+            (step_nodes (term_of expr.now))) }
         ensures few { IfOk result (λ plan. length (steps_in plan) ≤ nodes_of (term_of expr.now)) }
 
         // They can be worked out one after the other, and give their nodes' tensors: the root's is
         // the last.
         ensures ready { IfOk result (λ plan.
-            length inputs.now + length (steps_in plan) < 2 ^ 32
-            → AreReady (steps_in plan) inputs.now) }
+            length inputs.now.tensors + length (steps_in plan) < 2 ^ 32
+            → AreReady (steps_in plan) inputs.now.tensors) }
         ensures tensors { IfOk result (λ plan.
-            length inputs.now + length (steps_in plan) < 2 ^ 32
-            → worked_out (terms_in (steps_in plan)) inputs.now
-            ≡ inputs.now ++ map (λ t. tensor_of t inputs.now) (step_nodes (term_of expr.now))) }
+            length inputs.now.tensors + length (steps_in plan) < 2 ^ 32
+            → worked_out (terms_in (steps_in plan)) inputs.now.tensors
+            ≡ inputs.now.tensors
+            ++ map (λ t. tensor_of t inputs.now.tensors) (step_nodes (term_of expr.now))) }
         ensures root { IfOk result (λ plan.
-            length inputs.now + length (steps_in plan) < 2 ^ 32
-            → last_tensor (worked_out (terms_in (steps_in plan)) inputs.now)
-            ≡ tensor_of (term_of expr.now) inputs.now) }
+            length inputs.now.tensors + length (steps_in plan) < 2 ^ 32
+            → last_tensor (worked_out (terms_in (steps_in plan)) inputs.now.tensors)
+            ≡ tensor_of (term_of expr.now) inputs.now.tensors) }
     {
+        // Says that the limit is a rank that dims can have.
+        let _limit = inputs.rank_limit();
         let steps = steps_of(alloc, inputs, expr)?;
         Ok(Plan { steps })
     }

@@ -30,9 +30,9 @@ pub fn run_plan<RT: Threads + Wait + Sync>(
     plan: &Plan,
     inputs: &Inputs,
 ) -> Result<Tensor, ForFault>
-    requires { AreReady (steps_in plan.now) inputs.now }
+    requires { AreReady (steps_in plan.now) inputs.now.tensors }
     ensures tensor { IfOk result (λ t.
-        t ≡ last_tensor (worked_out (terms_in (steps_in plan.now)) inputs.now)) }
+        t ≡ last_tensor (worked_out (terms_in (steps_in plan.now)) inputs.now.tensors)) }
 
     ensures bad_block { IsErrOf result ForFault.BadBlock ↔ (block ≡ 0) }
     ensures bad_workers { IsErrOf result (ForFault.Pool PoolFault.BadWorkers)
@@ -60,12 +60,12 @@ fn work_out<RT: Threads + Wait + Sync>(
     plan: &Plan,
     inputs: &Inputs,
 ) -> Result<Tensor, ForFault>
-    requires ready { AreReady (steps_in plan.now) inputs.now }
+    requires ready { AreReady (steps_in plan.now) inputs.now.tensors }
     requires block { 0 < block }
     requires workers { IsPoolSize setup.now.workers }
     requires partitions { AreNoPartitions setup.now.workers setup.now.partitions.items → ⊥ }
     ensures tensor { IfOk result (λ t.
-        t ≡ last_tensor (worked_out (terms_in (steps_in plan.now)) inputs.now)) }
+        t ≡ last_tensor (worked_out (terms_in (steps_in plan.now)) inputs.now.tensors)) }
     ensures faults { IfErr result (λ fault. fault ≡ ForFault.NoMemory) }
 {
     let steps = plan.steps();
@@ -90,12 +90,12 @@ fn work_out_step<RT: Threads + Wait + Sync>(
     inputs: &Inputs,
     earlier: &[Tensor],
 ) -> Result<Tensor, ForFault>
-    requires ready { IsReady step.now (inputs.now ++ earlier.now) }
+    requires ready { IsReady step.now (inputs.now.tensors ++ earlier.now) }
     requires block { 0 < block }
     requires workers { IsPoolSize setup.now.workers }
     requires partitions { AreNoPartitions setup.now.workers setup.now.partitions.items → ⊥ }
     ensures tensor { IfOk result (λ t.
-        t ≡ tensor_of (term_of_step step.now) (inputs.now ++ earlier.now)) }
+        t ≡ tensor_of (term_of_step step.now) (inputs.now.tensors ++ earlier.now)) }
     ensures faults { IfErr result (λ fault. fault ≡ ForFault.NoMemory) }
 {
     let kernel = StepKernel::of(alloc, step, inputs, earlier)?;

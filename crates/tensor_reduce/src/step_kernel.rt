@@ -25,10 +25,10 @@ impl<'a> StepKernel<'a> {
         inputs: &'a Inputs,
         earlier: &'a [Tensor],
     ) -> Result<StepKernel<'a>, AllocError>
-        requires { IsReady step.now (inputs.now ++ earlier.now) }
+        requires { IsReady step.now (inputs.now.tensors ++ earlier.now) }
         ensures term { IfOk result (λ kernel. kernel_term kernel ≡ term_of_step step.now) }
         ensures tensors { IfOk result (λ kernel.
-            kernel_tensors kernel ≡ inputs.now ++ earlier.now) }
+            kernel_tensors kernel ≡ inputs.now.tensors ++ earlier.now) }
     {
         let evaluator = TensorEvaluator::over(alloc, step.expr(), inputs, earlier)?;
         Ok(StepKernel { evaluator })

@@ -62,7 +62,7 @@ module _ (ds is : List ℕ) (i : ℕ) (index : IsIndexOf ds is) (below : i < len
       )
 
 -- a place below a product has a first factor that is not 0, and its quotient is below the second
-div-below : (d n p : ℕ) → p < d * n → (0 < d) × (p / d < n)
+pub div-below : (d n p : ℕ) → p < d * n → (0 < d) × (p / d < n)
 div-below zero n p h = absurd (omega arith)
 div-below (suc d) n p h = (omega arith, (div-lt_iff_lt-mul {k = suc d} {x = p} {y = n} (omega arith)).1 (omega arith))
 

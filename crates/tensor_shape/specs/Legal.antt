@@ -3,7 +3,7 @@ use Rattle.std.specs.Prelude.{ℕ, max, ◌*◌, ◌≤◌, ◌&&◌, nat_le, Bo
 
 -- the highest rank of legal dims
 abbrev pub highest_rank : ℕ
-highest_rank = 6
+highest_rank = 8
 
 -- the greatest product of all dimensions of legal dims, a 0 counted as 1
 abbrev pub most_elements : ℕ

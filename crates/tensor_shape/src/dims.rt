@@ -10,11 +10,8 @@ use arrayvec::ArrayVec;
 use std::marker::Model;
 use thiserror::Error;
 
-/// Places for dimensions. More than [`MAX_RANK`], so that the rank can grow without a new layout.
-const CAPACITY: usize = 8;
-
 /// A number for each axis, held in place.
-pub type PerAxis = ArrayVec<u64, CAPACITY>;
+pub type PerAxis = ArrayVec<u64, MAX_RANK>;
 
 /// The dimensions of a tensor, the fastest axis first. They are legal: the rank is at most
 /// [`MAX_RANK`], and their product, a 0 counted as 1, at most [`MAX_ELEMENTS`].

@@ -7,7 +7,7 @@ mod dims;
 pub use dims::{Dims, PerAxis, ShapeFault};
 
 /// The highest rank of legal dims.
-pub const MAX_RANK: usize = 6;
+pub const MAX_RANK: usize = 8;
 
 /// The greatest product of all dimensions, a 0 counted as 1.
 pub const MAX_ELEMENTS: u64 = 1_048_576;

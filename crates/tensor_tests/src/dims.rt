@@ -42,16 +42,16 @@ fn a_single_value_and_none(rt: HostRuntime) -> Result<(), Fail> {
 fn limits_of_rank_and_elements(rt: HostRuntime) {
     let large = Some(ShapeFault::TooManyElements);
     for (sizes, fault) in [
-        ([1, 1, 1, 1, 1, 1].as_slice(), None),
+        ([1, 1, 1, 1, 1, 1, 1, 1].as_slice(), None),
         ([1024, 1024, 1, 1, 1, 1].as_slice(), None),
         ([0, 1048576, 0, 1, 1, 0].as_slice(), None),
-        ([4, 4, 16, 16, 16, 16].as_slice(), None),
+        ([4, 4, 16, 4, 4, 4, 4, 16].as_slice(), None),
         ([1, 1, 1, 1, 1, 1048577].as_slice(), large),
         ([1024, 1025, 1, 1, 1, 1].as_slice(), large),
         ([0, 1048577, 0, 1, 1, 0].as_slice(), large),
         ([4294967296, 4294967296, 1, 1, 1, 1].as_slice(), large),
         (
-            [1048577, 1, 1, 1, 1, 1, 1].as_slice(),
+            [1048577, 1, 1, 1, 1, 1, 1, 1, 1].as_slice(),
             Some(ShapeFault::RankTooHigh),
         ),
     ] {

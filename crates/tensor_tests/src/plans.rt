@@ -12,7 +12,9 @@ use tensor_ops::{Dims, Expr, Inputs, Tensor, eval_plain};
 use tensor_reduce::{Plan, Step};
 
 /// The tensor of these sizes and values.
-fn tensor(alloc: Global, sizes: &[u64], values: &[i64]) -> Result<Tensor, Fail> {
+fn tensor(alloc: Global, sizes: &[u64], values: &[i64]) -> Result<Tensor, Fail>
+    ensures { IfOk result (λ t. t.dims ≡ sizes.now) }
+{
     let dims = Dims::new(sizes)?;
     if values.len() as u64 != dims.size() {
         return Err("the values do not fill the dims".into());
@@ -22,25 +24,34 @@ fn tensor(alloc: Global, sizes: &[u64], values: &[i64]) -> Result<Tensor, Fail> 
 
 /// Four inputs: of 2 by 3, of 3 by 2, of 2, and a scalar.
 fn four_inputs(alloc: Global) -> Result<Inputs, Fail>
-    ensures { IfOk result (λ inputs. length inputs ≡ 4) }
+    ensures { IfOk result (λ inputs. (length inputs.tensors ≡ 4) × (inputs.rank ≡ 8)) }
 {
     let first = tensor(alloc, &[2, 3], &[1, 4, 2, 5, 3, 6])?;
     let second = tensor(alloc, &[3, 2], &[1, 3, 5, 2, 4, 6])?;
     let third = tensor(alloc, &[2], &[10, -1])?;
     let fourth = tensor(alloc, &[], &[5])?;
-    Ok(Inputs::new(vec![in alloc; first, second, third, fourth]?))
+    let mut inputs = Inputs::with_rank(Vec::new(alloc), 8);
+    inputs.push(first)?;
+    inputs.push(second)?;
+    inputs.push(third)?;
+    inputs.push(fourth)?;
+    Ok(inputs)
 }
 
 /// Works out steps one after the other. Their tensors go behind those that are there.
 fn work_out(alloc: Global, steps: &[Step], tensors: &mut Inputs) -> Result<(), AllocError>
-    requires ready { AreReady steps.now tensors.old }
-    requires few { length tensors.old + length steps.now < 2 ^ 32 }
-    ensures { OnOk result (tensors.new ≡ worked_out (terms_in steps.now) tensors.old) }
+    requires ready { AreReady steps.now tensors.old.tensors }
+    requires few { length tensors.old.tensors + length steps.now < 2 ^ 32 }
+    requires rank { tensors.old.rank ≡ 8 }
+    ensures { OnOk result
+        (tensors.new.tensors ≡ worked_out (terms_in steps.now) tensors.old.tensors) }
 {
     match steps {
         [] => Ok(()),
         [step, rest @ ..] => {
             let tensor = eval_plain(alloc, step.expr(), tensors)?;
+            // Says that its rank is one that dims can have.
+            let _rank = tensor.dims().rank();
             tensors.push(tensor)?;
             work_out(alloc, rest, tensors)
         }
@@ -102,4 +113,15 @@ fn steps_of_nested_operations(rt: HostRuntime) -> Result<(), Fail> {
     let greatest = Expr::Maximum(Box::new(alloc, squares)?, vec![in alloc; 1]?);
     let product = Expr::Mul(Box::new(alloc, greatest)?, Box::new(alloc, Expr::Input(2))?);
     has_steps(&rt, alloc, &product, 5)
+}
+
+/// A negation, its convolution, and zeroes round that.
+#[test]
+fn steps_of_a_convolution(rt: HostRuntime) -> Result<(), Fail> {
+    let alloc = rt.alloc();
+    let negation = Box::new(alloc, Expr::Neg(Box::new(alloc, Expr::Input(0))?))?;
+    let kernel = Box::new(alloc, Expr::Input(2))?;
+    let slid = Expr::Convolve(negation, kernel, vec![in alloc; 0]?);
+    let framed = Expr::Pad(Box::new(alloc, slid)?, vec![in alloc; (1, 0), (0, 1)]?);
+    has_steps(&rt, alloc, &framed, 3)
 }

@@ -1,6 +1,6 @@
 //! Readers that give little, and readers that fail.
 
-use crate::texts::{SCALAR, SCALAR_LINE};
+use crate::texts::{PRODUCT, PRODUCT_LINE};
 use std::alloc::Global;
 use std::io;
 use std::io::Read;
@@ -75,7 +75,7 @@ fn run_from<RT: Threads + Wait + Sync, R: Read + Drop>(
 #[test]
 fn a_byte_a_read(rt: HostRuntime) {
     let dripping = Dripping {
-        rest: SCALAR.as_bytes(),
+        rest: PRODUCT.as_bytes(),
         good_calls: 1000,
         kind: io::ErrorKind::Other,
     };
@@ -83,10 +83,10 @@ fn a_byte_a_read(rt: HostRuntime) {
     let written = ran.writer.writer.as_slice();
     assert_eq!(rt;
         (ran.ended, written),
-        (Ok(Status::Tensor), SCALAR_LINE.as_bytes())
+        (Ok(Status::Tensor), PRODUCT_LINE.as_bytes())
     );
     // One more tells the end.
-    let wanted = (Some(SCALAR.len() as u64), 0);
+    let wanted = (Some(PRODUCT.len() as u64), 0);
     assert_eq!(rt;
         (ran.reader.calls.checked_sub(1), ran.reader.failures),
         wanted
@@ -96,10 +96,12 @@ fn a_byte_a_read(rt: HostRuntime) {
 /// The last read is of the one byte that tells that there are too many.
 #[test]
 fn no_end(rt: HostRuntime) {
-    let ran = run_from(&rt, rt.alloc(), Spaces { most_a_call: 4096 });
-    let found = (ran.ended, ran.writer.writer.as_slice(), ran.reader.calls);
-    let line = b"error 1 TooLong\n".as_slice();
-    assert_eq!(rt; found, (Ok(Status::Fault), line, 4097));
+    for (most_a_call, calls) in [(4096, 4097), (1, 16_777_217)] {
+        let ran = run_from(&rt, rt.alloc(), Spaces { most_a_call });
+        let found = (ran.ended, ran.writer.writer.as_slice(), ran.reader.calls);
+        let line = b"error 1 TooLong\n".as_slice();
+        assert_eq!(rt; found, (Ok(Status::Fault), line, calls));
+    }
 }
 
 /// Asserts that a read that fails after so many calls ends the run, with nothing written.
@@ -110,7 +112,7 @@ fn fails_after<RT: Threads + Wait + Abort + Sync>(
     kind: io::ErrorKind,
 ) {
     let dripping = Dripping {
-        rest: SCALAR.as_bytes(),
+        rest: PRODUCT.as_bytes(),
         good_calls,
         kind,
     };
@@ -133,7 +135,7 @@ fn failing_reader_at_each_place(rt: HostRuntime) {
         io::ErrorKind::BrokenPipe,
         io::ErrorKind::Interrupted,
     ] {
-        for good_calls in 0..=SCALAR.len() as u64 {
+        for good_calls in 0..=PRODUCT.len() as u64 {
             fails_after(&rt, rt.alloc(), good_calls, kind);
         }
     }

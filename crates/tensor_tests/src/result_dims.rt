@@ -1,5 +1,5 @@
 //! Result dims, and the faults in their place.
-ghost use Rattle.std.specs.Prelude.{◌≡◌, IfOk, length};
+ghost use Rattle.std.specs.Prelude.{◌≡◌, ◌⊎◌, IfOk, length};
 ghost use Rattle.tensor_ops.specs.Term.{input};
 ghost use Rattle.tensor_ops.specs.Tree.{term_of};
 
@@ -11,10 +11,12 @@ use tensor_ops::{Dims, Expr, ExprFault, Inputs, Tensor};
 
 // An input of 2 by 3.
 fn two_by_three(alloc: Global) -> Result<Inputs, Fail>
-    ensures { IfOk result (λ i. length i ≡ 1) }
+    ensures { IfOk result (λ i. length i.tensors ≡ 1) }
 {
     let tensor = Tensor::new(Dims::new(&[2, 3])?, vec![in alloc; 1, 2, 3, 4, 5, 6]?);
-    Ok(Inputs::new(vec![in alloc; tensor]?))
+    let mut inputs = Inputs::new(Vec::new(alloc));
+    inputs.push(tensor)?;
+    Ok(inputs)
 }
 
 // The input.
@@ -56,11 +58,46 @@ fn dims_over_those_of_the_operands(rt: HostRuntime) -> Result<(), Fail> {
     match &request.expr {
         Expr::Chip(operand, _, _) => {
             let known = [operand.dims(&request.inputs)?];
-            let dims = request.expr.dims_over(&request.inputs, &known)?;
+            let rank = request.inputs.rank_limit() as usize;
+            let dims = request.expr.dims_over(rank, &request.inputs, &known)?;
             assert_eq!(rt; dims.as_slice(), [2].as_slice());
         }
         _ => assert!(rt; false, "the expression is no chip"),
     }
+    Ok(())
+}
+
+/// The fault of a reshape of the input to so many ones.
+fn fault_at_rank(alloc: Global, inputs: &Inputs, rank: usize) -> Result<Option<ExprFault>, Fail>
+    requires { length inputs.now.tensors ≡ 1 }
+{
+    let ones = Expr::Reshape(input(alloc)?, vec![in alloc; 1; rank]?);
+    Ok(ones.dims(inputs).err())
+}
+
+/// One number, in results of this rank at most.
+fn one_number(alloc: Global, limit: u32) -> Result<Inputs, Fail>
+    requires { (limit ≡ 6) ⊎ (limit ≡ 8) }
+    ensures { IfOk result (λ i. length i.tensors ≡ 1) }
+{
+    let mut inputs = Inputs::with_rank(Vec::new(alloc), limit);
+    inputs.push(Tensor::new(Dims::new(&[1])?, vec![in alloc; 9]?))?;
+    Ok(inputs)
+}
+
+#[test]
+fn results_within_the_rank_of_the_inputs(rt: HostRuntime) -> Result<(), Fail> {
+    let six = one_number(rt.alloc(), 6)?;
+    let eight = one_number(rt.alloc(), 8)?;
+    assert_eq!(rt; (six.rank_limit(), eight.rank_limit()), (6, 8));
+    let found = [
+        fault_at_rank(rt.alloc(), &six, 6)?,
+        fault_at_rank(rt.alloc(), &six, 7)?,
+        fault_at_rank(rt.alloc(), &eight, 8)?,
+        fault_at_rank(rt.alloc(), &eight, 9)?,
+    ];
+    let large = Some(ExprFault::TooLarge);
+    assert_eq!(rt; found, [None, large, None, large]);
     Ok(())
 }
 

@@ -25,6 +25,7 @@ fn inputs_by_number(rt: HostRuntime) -> Result<(), Fail> {
     inputs.push(Tensor::new(Dims::new(&[2])?, vec![in rt.alloc(); 7, 8]?))?;
     inputs.push(Tensor::new(Dims::new(&[])?, vec![in rt.alloc(); 9]?))?;
     assert_eq!(rt; (inputs.is_empty(), inputs.len()), (false, 2));
+    assert_eq!(rt; inputs.rank_limit(), 6);
     let values = (inputs.get(0).values(), inputs.get(1).values());
     assert_eq!(rt; values, ([7, 8].as_slice(), [9].as_slice()));
     Ok(())

@@ -16,6 +16,16 @@ pub(crate) const SCALAR: &str = concat!(
 /// The line that answers it.
 pub(crate) const SCALAR_LINE: &str = "{\"data\":[5],\"dims\":[]}\n";
 
+/// The text that asks for a contraction of two matrices.
+pub(crate) const PRODUCT: &str = concat!(
+    r#"{"version":1,"workers":2,"block":4,"inputs":{"#,
+    r#""l":{"dims":[2,3],"data":[1,4,2,5,3,6]},"r":{"dims":[3,2],"data":[1,3,5,2,4,6]}},"#,
+    r#""expr":["contract","l","r",[[1,0]]]}"#
+);
+
+/// The line that answers it.
+pub(crate) const PRODUCT_LINE: &str = "{\"data\":[22,49,28,64],\"dims\":[2,2]}\n";
+
 /// The request text of these inputs and this expression, on two workers by blocks of four.
 pub(crate) fn request(alloc: Global, inputs: &str, expr: &str) -> Result<String, AllocError> {
     format!(in alloc;

@@ -1,6 +1,6 @@
 //! Writers that take little, and writers that fail.
 
-use crate::texts::{SCALAR, SCALAR_LINE};
+use crate::texts::{PRODUCT, PRODUCT_LINE};
 use std::alloc::Global;
 use std::io;
 use std::io::Write;
@@ -41,7 +41,7 @@ impl Write for Narrow {
     }
 }
 
-/// The writer after a run on the request for the scalar, and how the run ended.
+/// The writer after a run on the request for the contraction, and how the run ended.
 fn run_into<RT: Threads + Wait + Sync>(
     rt: &RT,
     alloc: Global,
@@ -53,24 +53,24 @@ fn run_into<RT: Threads + Wait + Sync>(
         room,
         full,
     };
-    let mut reader = CountedReader::new(SCALAR.as_bytes());
+    let mut reader = CountedReader::new(PRODUCT.as_bytes());
     let mut writer = CountedWriter::new(narrow);
     let ended = run(rt, alloc, &mut reader, &mut writer);
     (writer, ended)
 }
 
-/// A byte a call; and room that the line, of 23 bytes, just fills with five calls.
+/// A byte a call; and room that the line, of 36 bytes, just fills with eight calls.
 #[test]
 fn room_for_the_line(rt: HostRuntime) {
-    let length = SCALAR_LINE.len();
+    let length = PRODUCT_LINE.len();
     for (narrow, calls) in [
         ((1, 1000, Full::Fails), length as u64),
-        ((5, length, Full::Fails), 5),
-        ((5, length, Full::TakesNone), 5),
+        ((5, length, Full::Fails), 8),
+        ((5, length, Full::TakesNone), 8),
     ] {
         let (writer, ended) = run_into(&rt, rt.alloc(), narrow);
         let found = (ended, writer.writer.taken.as_slice());
-        assert_eq!(rt; found, (Ok(Status::Tensor), SCALAR_LINE.as_bytes()));
+        assert_eq!(rt; found, (Ok(Status::Tensor), PRODUCT_LINE.as_bytes()));
         assert_eq!(rt; (writer.calls, writer.failures), (calls, 0));
     }
 }
@@ -91,14 +91,14 @@ fn cuts_short<RT: Threads + Wait + Abort + Sync>(
         "{full:?} at {room}"
     );
     let taken = writer.writer.taken.as_slice();
-    assert_eq!(rt; SCALAR_LINE.as_bytes().get(..room), Some(taken));
+    assert_eq!(rt; PRODUCT_LINE.as_bytes().get(..room), Some(taken));
 }
 
 #[test]
 fn full_writer_at_each_place(rt: HostRuntime) {
     for full in [Full::Fails, Full::TakesNone] {
         for most_a_call in [1, 1000] {
-            for room in 0..SCALAR_LINE.len() {
+            for room in 0..PRODUCT_LINE.len() {
                 cuts_short(&rt, rt.alloc(), room, most_a_call, full);
             }
         }

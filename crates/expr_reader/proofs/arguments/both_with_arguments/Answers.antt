@@ -1,9 +1,9 @@
 use Rattle.std.proofs.lemmas.Result.{err_from_is_err_and}
 use Rattle.tensor_ops.specs.Term.{binary}
 use Rattle.tensor_ops.specs.Tree.{term_of}
-use Rattle.expr_reader.specs.Arguments.{pairs}
+use Rattle.expr_reader.specs.Arguments.{size, sizes, pairs}
 use Rattle.expr_reader.specs.Version.{binary_of}
-use Rattle.expr_reader.specs.declared.operation.Binary.TheVariants.{Pairwise, Contract}
+use Rattle.expr_reader.specs.declared.operation.Binary.TheVariants.{Pairwise, Concat, Contract, Convolve}
 use Rattle.expr_reader.proofs.Forms.{none-made, one-made, one-unread}
 use Rattle.expr_reader.proofs.arguments.both_with_arguments.Goals as goal
 
@@ -15,15 +15,45 @@ returns-in-Pairwise c =
 
 pub returns-in_err-pairs-in-Contract : goal.returns-in_err-pairs-in-Contract
 returns-in_err-pairs-in-Contract c =
-    let p = err_from_is_err_and c.from_residual.result c.from_residual.ensures.1 in
+    let p = err_from_is_err_and c.from_residual-in_err-pairs-in-Contract.result c.from_residual-in_err-pairs-in-Contract.ensures.1 in
     let long = rw c.in-Contract.is at c.requires in
     rw (c.in-Contract.is, p.1, p.2)
-    (one-unread pairs c.index-arguments-0.result c.args.arguments.now long c.index-arguments-0.is
+    (one-unread pairs c.index-arguments-0-in-Contract.result c.args.arguments.now long c.index-arguments-0-in-Contract.is
     (λ a. binary (binary_of Contract a) (term_of c.args.left.value) (term_of c.args.right.value)) _ c.in_err-pairs-in-Contract.ensures)
 
 pub returns-in_ok-pairs-in-Contract : goal.returns-in_ok-pairs-in-Contract
 returns-in_ok-pairs-in-Contract c =
     let long = rw c.in-Contract.is at c.requires in
     rw c.in-Contract.is
-    (one-made pairs c.index-arguments-0.result c.args.arguments.now long c.index-arguments-0.is
+    (one-made pairs c.index-arguments-0-in-Contract.result c.args.arguments.now long c.index-arguments-0-in-Contract.is
     (λ a. binary (binary_of Contract a) (term_of c.args.left.value) (term_of c.args.right.value)) _ c.in_ok-pairs-in-Contract.ensures)
+
+pub returns-in_err-axis-in-Concat : goal.returns-in_err-axis-in-Concat
+returns-in_err-axis-in-Concat c =
+    let p = err_from_is_err_and c.from_residual.result c.from_residual.ensures.1 in
+    let long = rw c.in-Concat.is at c.requires in
+    rw (c.in-Concat.is, p.1, p.2)
+    (one-unread size c.index-arguments-0.result c.args.arguments.now long c.index-arguments-0.is
+    (λ a. binary (binary_of Concat a) (term_of c.args.left.value) (term_of c.args.right.value)) _ c.in_err-axis-in-Concat.ensures)
+
+pub returns-in_ok-axis-in-Concat : goal.returns-in_ok-axis-in-Concat
+returns-in_ok-axis-in-Concat c =
+    let long = rw c.in-Concat.is at c.requires in
+    rw c.in-Concat.is
+    (one-made size c.index-arguments-0.result c.args.arguments.now long c.index-arguments-0.is
+    (λ a. binary (binary_of Concat a) (term_of c.args.left.value) (term_of c.args.right.value)) _ c.in_ok-axis-in-Concat.ensures)
+
+pub returns-in_err-axes-in-Convolve : goal.returns-in_err-axes-in-Convolve
+returns-in_err-axes-in-Convolve c =
+    let p = err_from_is_err_and c.from_residual-in_err-axes-in-Convolve.result c.from_residual-in_err-axes-in-Convolve.ensures.1 in
+    let long = rw c.in-Convolve.is at c.requires in
+    rw (c.in-Convolve.is, p.1, p.2)
+    (one-unread sizes c.index-arguments-0-in-Convolve.result c.args.arguments.now long c.index-arguments-0-in-Convolve.is
+    (λ a. binary (binary_of Convolve a) (term_of c.args.left.value) (term_of c.args.right.value)) _ c.in_err-axes-in-Convolve.ensures)
+
+pub returns-in_ok-axes-in-Convolve : goal.returns-in_ok-axes-in-Convolve
+returns-in_ok-axes-in-Convolve c =
+    let long = rw c.in-Convolve.is at c.requires in
+    rw c.in-Convolve.is
+    (one-made sizes c.index-arguments-0-in-Convolve.result c.args.arguments.now long c.index-arguments-0-in-Convolve.is
+    (λ a. binary (binary_of Convolve a) (term_of c.args.left.value) (term_of c.args.right.value)) _ c.in_ok-axes-in-Convolve.ensures)

@@ -5,9 +5,9 @@ use Rattle.std.specs.Int.{w64}
 use mir.Val.{SFits}
 use Rattle.tensor_ops.specs.Term.{unary, constant}
 use Rattle.tensor_ops.specs.Tree.{term_of}
-use Rattle.expr_reader.specs.Arguments.{size, sizes, flags, value}
+use Rattle.expr_reader.specs.Arguments.{size, sizes, pairs, flags, value}
 use Rattle.expr_reader.specs.Version.{unary_of}
-use Rattle.expr_reader.specs.declared.operation.Unary.TheVariants.{Each, Constant, Broadcast, Slice, Shuffle, Reshape, Chip, Reverse, Reduce}
+use Rattle.expr_reader.specs.declared.operation.Unary.TheVariants.{Each, Constant, Broadcast, Slice, Shuffle, Reshape, Chip, Reverse, Stride, Pad, Reduce}
 use Rattle.expr_reader.proofs.Forms.{none-made, one-made, one-unread, two-made, two-unread-first, two-unread-second}
 use Rattle.expr_reader.proofs.arguments.with_arguments.Goals as goal
 
@@ -93,6 +93,36 @@ returns-in_ok-flags-in-Reverse c =
     rw c.in-Reverse.is
     (one-made flags c.index-arguments-0-in-Reverse.result c.args.arguments.now long c.index-arguments-0-in-Reverse.is (λ a. unary (unary_of Reverse a) (term_of c.args.operand.value))
     _ c.in_ok-flags-in-Reverse.ensures)
+
+pub returns-in_err-steps-in-Stride : goal.returns-in_err-steps-in-Stride
+returns-in_err-steps-in-Stride c =
+    let p = err_from_is_err_and c.from_residual-in_err-steps-in-Stride.result c.from_residual-in_err-steps-in-Stride.ensures.1 in
+    let long = rw c.in-Stride.is at c.requires in
+    rw (c.in-Stride.is, p.1, p.2)
+    (one-unread sizes c.index-arguments-0-in-Stride.result c.args.arguments.now long c.index-arguments-0-in-Stride.is (λ a. unary (unary_of Stride a) (term_of c.args.operand.value))
+    _ c.in_err-steps-in-Stride.ensures)
+
+pub returns-in_ok-steps-in-Stride : goal.returns-in_ok-steps-in-Stride
+returns-in_ok-steps-in-Stride c =
+    let long = rw c.in-Stride.is at c.requires in
+    rw c.in-Stride.is
+    (one-made sizes c.index-arguments-0-in-Stride.result c.args.arguments.now long c.index-arguments-0-in-Stride.is (λ a. unary (unary_of Stride a) (term_of c.args.operand.value))
+    _ c.in_ok-steps-in-Stride.ensures)
+
+pub returns-in_err-pairs-in-Pad : goal.returns-in_err-pairs-in-Pad
+returns-in_err-pairs-in-Pad c =
+    let p = err_from_is_err_and c.from_residual-in_err-pairs-in-Pad.result c.from_residual-in_err-pairs-in-Pad.ensures.1 in
+    let long = rw c.in-Pad.is at c.requires in
+    rw (c.in-Pad.is, p.1, p.2)
+    (one-unread pairs c.index-arguments-0-in-Pad.result c.args.arguments.now long c.index-arguments-0-in-Pad.is (λ a. unary (unary_of Pad a) (term_of c.args.operand.value))
+    _ c.in_err-pairs-in-Pad.ensures)
+
+pub returns-in_ok-pairs-in-Pad : goal.returns-in_ok-pairs-in-Pad
+returns-in_ok-pairs-in-Pad c =
+    let long = rw c.in-Pad.is at c.requires in
+    rw c.in-Pad.is
+    (one-made pairs c.index-arguments-0-in-Pad.result c.args.arguments.now long c.index-arguments-0-in-Pad.is (λ a. unary (unary_of Pad a) (term_of c.args.operand.value))
+    _ c.in_ok-pairs-in-Pad.ensures)
 
 pub returns-in_err-offsets-in-Slice : goal.returns-in_err-offsets-in-Slice
 returns-in_err-offsets-in-Slice c =

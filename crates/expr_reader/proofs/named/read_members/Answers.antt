@@ -1,4 +1,4 @@
-use Rattle.std.proofs.Common.{◌≡◌, ℕ, List, ◌+◌, ◌++◌, [], ◌∷◌, Some, None, length, sym, ◌∙◌}
+use Rattle.std.proofs.Common.{◌≡◌, ap, ℕ, List, ◌+◌, ◌++◌, [], ◌∷◌, Some, None, length, sym, ◌∙◌}
 use Rattle.std.proofs.Common.{string_bytes, if◌then◌else◌, arith}
 use Rattle.std.specs.Option.{option_or}
 use Rattle.std.specs.Str.{bytes_eq}
@@ -6,7 +6,7 @@ use Rattle.std.proofs.lemmas.List.{append-nil}
 use Rattle.serde_json.specs.View.{members_view}
 use Rattle.expr_reader.specs.Numbers.{number_in}
 use Rattle.expr_reader.specs.Tensors.{names_in}
-use Rattle.expr_reader.proofs.Members.{length-turn, after-turn, number-turn, length-names_in}
+use Rattle.expr_reader.proofs.Members.{length-turn, after-turn, number-turn, length-names_in, HaveRank-append}
 use Rattle.expr_reader.proofs.Numbers.{option_or-None}
 use Rattle.expr_reader.proofs.named.read_members.Goals as goal
 
@@ -25,16 +25,17 @@ loop-name-preserved c =
       tt,
       tt,
       rw (items, length-turn c.args.rank _ _ _ _ first done c.in_ok-tensor.tensor) c.loop-name.invariant.2,
-      rw (items, after-turn c.args.rank _ _ _ _ first done c.in_ok-tensor.tensor c.in_ok-tensor.ensures) c.loop-name.invariant.3,
+      rw items (HaveRank-append c.args.rank done c.in_ok-tensor.tensor c.loop-name.invariant.3 c.in_ok-tensor.ensures.rank),
+      rw (items, after-turn c.args.rank _ _ _ _ first done c.in_ok-tensor.tensor c.in_ok-tensor.ensures.tensor) c.loop-name.invariant.4,
       λ q. rw long
           (number-turn c.args.rank _ _ _ _ first (number_in c.loop-name.numbers q) (number_in c.put_first.new.numbers q) (length done) q (put q)
-          ∙ c.loop-name.invariant.4 q),
+          ∙ c.loop-name.invariant.5 q),
     )
 
 pub returns : goal.returns
 returns c =
     let end = c.in-None.ensures.steps.0 in
-    let tensors = rw (end, append-nil) at c.loop-name.invariant.3 in
+    let tensors = rw (end, append-nil) at c.loop-name.invariant.4 in
     let count = rw end at c.loop-name.invariant.2 in (
       record {
         names = names_in (members_view c.args.members.now.entries);
@@ -43,8 +44,9 @@ returns c =
       sym tensors,
       (λ i. names_in (members_view c.args.members.now.entries)),
       record {
-        tensors = c.new-inputs.ensures;
+        inputs = ap (λ ts. record { tensors = ts; rank = c.with_rank-inputs.result.rank }) c.with_rank-inputs.ensures.tensors
+            ∙ ap (λ r. record { tensors = c.loop-name.tensors.items; rank = r }) c.with_rank-inputs.ensures.limit;
         aligned = length-names_in c.args.members.now.entries ∙ omega (arith, count);
-        numbers = λ q. sym (option_or-None (number_in c.loop-name.numbers q)) ∙ rw end at (c.loop-name.invariant.4 q);
+        numbers = λ q. sym (option_or-None (number_in c.loop-name.numbers q)) ∙ rw end at (c.loop-name.invariant.5 q);
       },
     )

@@ -1,9 +1,13 @@
-use Rattle.std.proofs.Common.{◌≡◌, ◌+◌, ◌-◌, length, drop, get_or, refl, inl, inr, arith}
+use Rattle.std.proofs.Common.{subst, ◌≡◌, ◌+◌, ◌-◌, length, drop, get_or, refl, inl, inr, arith}
 use Rattle.std.proofs.lemmas.List.{take_all, length-drop}
 use Rattle.std.proofs.lemmas.Result.{err_from_is_err_and}
+use Rattle.serde_json.specs.View.{items_view}
 use Rattle.tensor_ops.specs.Term as term
+use Rattle.tensor_ops.specs.Tree.{term_of}
+use Rattle.expr_reader.specs.Node.{made, checked}
 use Rattle.expr_reader.specs.Version.{profile_under, operation_under, forms_of, unary_of}
 use Rattle.expr_reader.specs.Version.{forms_of_two, binary_of}
+use Rattle.expr_reader.specs.Walked.{IsFound}
 use Rattle.expr_reader.proofs.Walk.{tree_at-arity, tree_at-first, tree_at-one, tree_at-two, tree_at-three, get_or-at}
 use Rattle.expr_reader.proofs.node.+read_node.Goals as goal
 
@@ -35,7 +39,10 @@ returns-in-One t c = λ n named.
           (forms_of c.in-One.unary) (unary_of c.in-One.unary) c.index.result.now names long c.index.ensures,
       first.0,
     )
-    (rw (named.tensors, take_all (length c.deref.result.now - 2) (drop 2 c.deref.result.now) (omega (arith, length-drop 2 c.deref.result.now)), c.deref.ensures.value) at c.read_unary.ensures)
+    (subst (λ g. IsFound g (made g (forms_of c.in-One.unary) (items_view (drop 2 c.in-Array.list.items))
+    (λ args. term.unary (unary_of c.in-One.unary args) (term_of c.in_ok-first-in-Array.first.expr)) c.in_ok-first-in-Array.first.end)
+    c.read_unary.result) named.inputs
+    (rw (take_all (length c.deref.result.now - 2) (drop 2 c.deref.result.now) (omega (arith, length-drop 2 c.deref.result.now)), c.deref.ensures.value) at c.read_unary.ensures))
 
 pub returns-in_err-second-in-Two : goal.returns-in_err-second-in-Two
 returns-in_err-second-in-Two t c = λ n named.
@@ -68,7 +75,10 @@ returns-in_ok-second-in-Two t c = λ n named.
       first.0,
       second.0,
     )
-    (rw (named.tensors, take_all (length c.deref-in-Two.result.now - 3) (drop 3 c.deref-in-Two.result.now) (omega (arith, length-drop 3 c.deref-in-Two.result.now)), c.deref-in-Two.ensures.value) at c.read_binary.ensures)
+    (subst (λ g. IsFound g (made g (forms_of_two c.in-Two.binary) (items_view (drop 3 c.in-Array.list.items))
+    (λ args. term.binary (binary_of c.in-Two.binary args) (term_of c.in_ok-first-in-Array.first.expr) (term_of c.in_ok-second-in-Two.second.expr))
+    c.in_ok-second-in-Two.second.end) c.read_binary.result) named.inputs
+    (rw (take_all (length c.deref-in-Two.result.now - 3) (drop 3 c.deref-in-Two.result.now) (omega (arith, length-drop 3 c.deref-in-Two.result.now)), c.deref-in-Two.ensures.value) at c.read_binary.ensures))
 
 pub returns-in_err-second-in-Select : goal.returns-in_err-second-in-Select
 returns-in_err-second-in-Select t c = λ n named.
@@ -123,4 +133,6 @@ returns-in_ok-third-in-Select t c = λ n named.
       second.0,
       third.0,
     )
-    (rw named.tensors at c.read_ternary.ensures)
+    (subst (λ g. IsFound g (checked g (term.ternary term.select (term_of c.in_ok-first-in-Array.first.expr)
+    (term_of c.in_ok-second-in-Select.second.expr) (term_of c.in_ok-third-in-Select.third.expr)) c.in_ok-third-in-Select.third.end)
+    c.read_ternary.result) named.inputs c.read_ternary.ensures)

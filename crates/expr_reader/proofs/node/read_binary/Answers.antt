@@ -12,14 +12,14 @@ checked-requires-clause-inputs c =
     let read = rw (c.in_ok-first.ensures, c.in_ok-second.ensures) at c.in_ok-expr.ensures in
     let both = made-binary (binary_of c.args.operation) (term_of c.args.left.expr) (term_of c.args.right.expr) (term_of c.in_ok-expr.expr)
     (arguments_in (forms_of_two c.args.operation) (items_view c.args.arguments.now)) read in
-    rw (both.1 (length c.args.inputs.now)) (rw (c.requires.left.inputs_known, c.requires.right.inputs_known) refl)
+    rw (both.1 (length c.args.inputs.now.tensors)) (rw (c.requires.left.inputs_known, c.requires.right.inputs_known) refl)
 
 pub checked-requires-clause-operands : goal.checked-requires-clause-operands
 checked-requires-clause-operands c =
     let read = rw (c.in_ok-first.ensures, c.in_ok-second.ensures) at c.in_ok-expr.ensures in
     let both = made-binary (binary_of c.args.operation) (term_of c.args.left.expr) (term_of c.args.right.expr) (term_of c.in_ok-expr.expr)
     (arguments_in (forms_of_two c.args.operation) (items_view c.args.arguments.now)) read in
-    rw (both.0 c.args.inputs.now, c.requires.left.dims_known, c.requires.right.dims_known) refl
+    rw (both.0 c.args.inputs.now.rank c.args.inputs.now.tensors, c.requires.left.dims_known, c.requires.right.dims_known) refl
 
 pub returns : goal.returns
 returns c =

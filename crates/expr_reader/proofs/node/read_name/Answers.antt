@@ -1,21 +1,27 @@
-use Rattle.std.proofs.Common.{◌<◌, length, refl, sym, arith}
+use Rattle.std.proofs.Common.{◌<◌, length, refl, sym, inr, arith}
 use Rattle.std.proofs.lemmas.Bool.{lt-ltb}
 use Rattle.expr_reader.proofs.Numbers.{number_of-below}
 use Rattle.expr_reader.proofs.node.read_name.Goals as goal
 
 pub get-requires : goal.get-requires
 get-requires c =
-    let n = c.requires.0 in
-    let named = c.requires.1 in
-    let below : c.in-Some.number < length n.names = number_of-below n.names c.args.name.now c.in-Some.number (sym (c.in-Some.ensures n named)) in
-    rw named.tensors (omega (arith, below, named.aligned))
+    let rank = c.requires.0 in
+    let n = c.requires.1 in
+    let named = c.requires.2 in
+    let below : c.in-Some.number < length n.names =
+    number_of-below n.names c.args.name.now c.in-Some.number (sym (c.in-Some.ensures rank n named)) in
+    rw named.inputs (omega (arith, below, named.aligned))
 
 pub returns : goal.returns
-returns c = λ n named.
-    let below : c.in-Some.number < length n.names = number_of-below n.names c.args.name.now c.in-Some.number (sym (c.in-Some.ensures n named)) in (
-      rw (← c.in-Some.ensures n named) refl,
+returns c = λ rank n named.
+    let below : c.in-Some.number < length n.names =
+    number_of-below n.names c.args.name.now c.in-Some.number (sym (c.in-Some.ensures rank n named)) in (
+      rw (← c.in-Some.ensures rank n named) refl,
       record {
         inputs_known = lt-ltb c.in-Some.number (length n.tensors) (omega (arith, below, named.aligned));
-        dims_known = rw (c.copied.ensures, c.dims.ensures, c.get.ensures, named.tensors) refl;
+        dims_known = rw (c.copied.ensures, c.dims.ensures, c.get.ensures, named.inputs) refl;
       },
     )
+
+pub returns-in_default : goal.returns-in_default
+returns-in_default c = λ rank n named. inr (rw (← c.number.ensures rank n named, c.in_default.is) refl)

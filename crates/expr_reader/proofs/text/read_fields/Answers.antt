@@ -12,6 +12,7 @@ use Rattle.expr_reader.proofs.text.read_fields.Goals as goal
 -- no version allows more workers
 workers-few : (v : Version) → (profile_under v).workers ≤ most_workers
 workers-few version.One = omega arith
+workers-few version.Two = omega arith
 
 pub invariant_of-result-clause-few_workers : goal.invariant_of-result-clause-few_workers
 invariant_of-result-clause-few_workers c =
@@ -25,12 +26,12 @@ invariant_of-result-clause-few_workers c =
 pub invariant_of-result-clause-few : goal.invariant_of-result-clause-few
 invariant_of-result-clause-few c =
     let n = c.in_ok-named.ensures.0 in
-    let named = c.in_ok-named.ensures.2 in
+    let named = rw c.rank.ensures.value at c.in_ok-named.ensures.2 in
     let tree = c.in_ok-tree.ensures n named in
     omega (
       arith,
       c.requires,
-      ap length named.tensors,
+      ap (λ g. length g.tensors) named.inputs,
       length-named_in c.rank.result (view c.args.fields.now.inputs.now) n c.in_ok-named.ensures.1,
       nodes_of-tree_at (profile_under c.in-Some.version) n 0 (view c.args.fields.now.expr.now)
           (tree_under c.in_ok-tree.tree) tree.0,

@@ -1,9 +1,9 @@
 use Rattle.std.proofs.Common.{◌<◌, length, get_or, refl, ap, sym, ◌∙◌, arith}
 use Rattle.std.proofs.lemmas.List.{length-map}
-use Rattle.tensor_ops.specs.Term.{broadcast, slice, shuffle, chip, reverse}
-use Rattle.tensor_ops.proofs.Known.{broadcast-known, slice-known, shuffle-known, chip-known, reverse-known}
+use Rattle.tensor_ops.specs.Term.{broadcast, slice, shuffle, chip, reverse, stride}
+use Rattle.tensor_ops.proofs.Known.{moved_dims-unique, broadcast-known, slice-known, shuffle-known, chip-known, reverse-known, stride-known}
 use Rattle.tensor_ops.proofs.Moved.{IsIndexOf-moved, dimension-some, length-moved, length-repeated_dims, length-remove}
-use Rattle.tensor_ops.proofs.Moved.{get_or-IsIndexOf, get_or-offset_by, get_or-legal}
+use Rattle.tensor_ops.proofs.Moved.{get_or-IsIndexOf, get_or-offset_by, get_or-scaled, length-strided_dims, get_or-legal}
 use Rattle.tensor_ops.proofs.Permutations.{get_or-permutation}
 use Rattle.tensor_ops.proofs.moved_index.moved.Goals as goal
 
@@ -77,3 +77,36 @@ mirrored-requires-clause-same c =
     let known = reverse-known c.in-Reverse.flags.now c.args.dims.now (rw shape refl) in
     length-moved (reverse c.in-Reverse.flags.now) c.args.dims.now c.args.shape.now _ c.args.index.now shape known.dims c.requires.index
     ∙ sym (ap length c.as_slice-sizes.ensures.value)
+
+pub scaled-requires-clause-same : goal.scaled-requires-clause-same
+scaled-requires-clause-same c =
+    let shape = rw c.in-Stride.is at c.requires.shape in
+    let known = stride-known c.in-Stride.steps.now c.args.dims.now (rw shape refl) in
+    omega (
+      arith,
+      known.long,
+      length-strided_dims c.args.dims.now c.in-Stride.steps.now known.long,
+      length-moved (stride c.in-Stride.steps.now) c.args.dims.now c.args.shape.now _ c.args.index.now shape known.dims c.requires.index,
+    )
+
+pub scaled-requires-clause-small : goal.scaled-requires-clause-small
+scaled-requires-clause-small c = λ k within.
+    let shape = rw c.in-Stride.is at c.requires.shape in
+    let known = stride-known c.in-Stride.steps.now c.args.dims.now (rw shape refl) in
+    let inside = IsIndexOf-moved (stride c.in-Stride.steps.now) c.args.dims.now c.args.shape.now c.args.index.now shape c.requires.index in
+    let in_dims : k < length c.args.dims.now = omega (arith, known.long) in
+    omega (
+      arith,
+      get_or-scaled c.in-Stride.steps.now c.args.index.now k (scaled-requires-clause-same c) within,
+      get_or-IsIndexOf c.args.dims.now _ k inside in_dims,
+      get_or-legal c.args.dims.now k c.as_slice-sizes.ensures.legal in_dims,
+    )
+
+pub mirrored-requires-clause-below : goal.mirrored-requires-clause-below
+mirrored-requires-clause-below c = λ k within.
+    let shape = rw c.in-Reverse.is at c.requires.shape in
+    let known = reverse-known c.in-Reverse.flags.now c.args.dims.now (rw shape refl) in
+    let same = moved_dims-unique (reverse c.in-Reverse.flags.now) c.args.dims.now c.args.shape.now _ shape known.dims in
+    let index = rw same at c.requires.index in
+    rw c.as_slice-sizes.ensures.value
+    (get_or-IsIndexOf c.args.dims.now c.args.index.now k index (rw c.as_slice-sizes.ensures.value at within))

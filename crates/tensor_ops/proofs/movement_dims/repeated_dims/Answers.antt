@@ -6,5 +6,5 @@ use Rattle.tensor_ops.proofs.movement_dims.repeated_dims.Goals as goal
 pub returns-in_default : goal.returns-in_default
 returns-in_default c =
     let past : most_elements < get_or c.args.sizes.now c.loop-axis.axis 0 * get_or c.args.counts.now c.loop-axis.axis 0 = grind arith in
-    let illegal = are_legal-repeated c.args.sizes.now c.args.counts.now c.loop-axis.axis c.requires.same (omega arith) past in
+    let illegal = are_legal-repeated c.args.rank c.args.sizes.now c.args.counts.now c.loop-axis.axis c.requires.same (omega arith) past in
     rw illegal refl

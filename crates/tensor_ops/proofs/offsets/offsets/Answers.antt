@@ -1,120 +1,87 @@
-use Rattle.std.proofs.Common.{◌≡◌, ℕ, ◌-◌, ◌*◌, ◌<◌, ◌≤◌, List, [], ◌∷◌, length, get_or, drop, true}
-use Rattle.std.proofs.Common.{ap, sym, subst, ◌∙◌, arith}
-use Rattle.std.proofs.lemmas.Grind.{common_steps}
-use Rattle.std.proofs.lemmas.List.{drop_all}
-use Rattle.tensor_shape.specs.Index.{size_of}
-use Rattle.tensor_ops.specs.Offsets.{offset_of}
-use Rattle.tensor_ops.specs.Reduction.{are_axes}
+use Rattle.std.proofs.Common.{◌≡◌, ◌<◌, ℕ, List, length, get_or, ap, sym, ◌∙◌, arith}
+use Rattle.std.proofs.lemmas.List.{get_or-map, length-map}
+use Rattle.std.proofs.lemmas.Result.{IfOk-weaker}
+use Rattle.tensor_shape.specs.Index.{strides_from}
 use Rattle.tensor_ops.specs.Woven.{dims_at}
-use Rattle.tensor_ops.proofs.Others.{are_axes-drop, get_or-are_axes}
-use Rattle.tensor_ops.proofs.Steps.{offset_of-nil, offset_of-more, drop-before}
-use Rattle.tensor_ops.proofs.Steps.{offset_of-below-bulk_of, step-below-bulk_of, size_of-dims_at-le}
+use Rattle.tensor_ops.proofs.Dropped.{length-axes, are_legal-axes}
+use Rattle.tensor_ops.proofs.Known.{IsLegal-are_legal}
+use Rattle.tensor_ops.proofs.Others.{get_or-are_axes}
+use Rattle.tensor_ops.proofs.Stepping.{length-strides_from, strides_from-short, offset_of-stepped}
+use Rattle.tensor_ops.proofs.Steps.{offset_of-below-bulk_of}
 use Rattle.tensor_ops.proofs.offsets.offsets.Goals as goal
 
-pub loop-k-init : goal.loop-k-init
-loop-k-init c =
-    let none : drop (length c.args.axes.now) c.args.axes.now ≡ [] =
-    drop_all (length c.args.axes.now) c.args.axes.now (omega arith) in
-    rw none
-    (record {
-      len = grind (arith, common_steps);
-      each = λ p below. let first : p ≡ 0 = omega arith in
-          rw first (grind (arith, common_steps, offset_of-nil c.args.dims.now 0));
-    })
-
-axis-below : (rank k : ℕ) (axes : List ℕ) → are_axes rank axes ≡ true → 0 < k → k ≤ length axes
-    → get_or axes (k - 1) 0 < rank
-axis-below rank k axes once some within = get_or-are_axes rank (k - 1) axes once (omega arith)
-
--- the axes from one of them on, with that one first
-axes-before : (rank k : ℕ) (axes : List ℕ) → are_axes rank axes ≡ true → 0 < k → k ≤ length axes
-    → are_axes rank (get_or axes (k - 1) 0 ∷ drop k axes) ≡ true
-axes-before rank k axes once some within =
-    subst (λ l. are_axes rank l ≡ true) (drop-before axes k some within)
-    (are_axes-drop rank (k - 1) axes once)
-
-pub stride-requires : goal.stride-requires
-stride-requires c =
-    axis-below (length c.args.dims.now) c.loop-k.k c.args.axes.now c.requires (omega arith)
-    (omega arith)
-
-pub bounds-sizes-axis : goal.bounds-sizes-axis
-bounds-sizes-axis c =
-    rw c.as_slice-sizes.ensures.value
-    (axis-below (length c.args.dims.now) c.loop-k.k c.args.axes.now c.requires (omega arith)
-    (omega arith))
-
-pub offset_bounds-sizes-axis : goal.offset_bounds-sizes-axis
-offset_bounds-sizes-axis c =
+pub shuffled-sizes-requires-clause-few : goal.shuffled-sizes-requires-clause-few
+shuffled-sizes-requires-clause-few c =
     omega (
       arith,
-      axis-below (length c.args.dims.now) c.loop-k.k c.args.axes.now c.requires (omega arith)
-          (omega arith),
-      c.as_slice-sizes.ensures.legal.rank,
+      length-axes (length c.args.dims.now) c.args.axes.now c.requires,
+      c.as_slice.ensures.legal.rank,
     )
 
-pub with_axis-requires-clause-few : goal.with_axis-requires-clause-few
-with_axis-requires-clause-few c =
-    let axis = get_or c.args.axes.now (c.loop-k.k - 1) 0 in
-    let rest = drop c.loop-k.k c.args.axes.now in
-    let once = axes-before (length c.args.dims.now) c.loop-k.k c.args.axes.now c.requires
-    (omega arith) (omega arith) in
-    let few = size_of-dims_at-le (axis ∷ rest) c.args.dims.now once in
-    let limit = c.as_slice-sizes.ensures.legal.elements in
-    rw (c.deref.ensures.value, c.as_slice-sizes.ensures.value, c.loop-k.invariant.len)
-    (omega (arith, few, limit))
+pub shuffled-sizes-requires-clause-axes : goal.shuffled-sizes-requires-clause-axes
+shuffled-sizes-requires-clause-axes c k within =
+    rw c.as_slice.ensures.value
+    (get_or-are_axes (length c.args.dims.now) k c.args.axes.now c.requires within)
 
-pub with_axis-requires-clause-small : goal.with_axis-requires-clause-small
-with_axis-requires-clause-small c k i below within =
+pub shuffled-steps-requires-clause-axes : goal.shuffled-steps-requires-clause-axes
+shuffled-steps-requires-clause-axes c k within =
+    omega (
+      arith,
+      get_or-are_axes (length c.args.dims.now) k c.args.axes.now c.requires within,
+      ap length c.as_slice-2.ensures.value,
+      ap length c.strides-strides.ensures,
+      length-strides_from 1 c.args.dims.now,
+    )
+
+-- the sizes and the steps of the axes
+sizes-at : (ds axes found sizes items : List ℕ) → found ≡ items → items ≡ dims_at axes sizes
+    → sizes ≡ ds → found ≡ dims_at axes ds
+sizes-at ds axes found sizes items is made same = is ∙ made ∙ ap (dims_at axes) same
+
+pub stepped_places-requires-clause-legal : goal.stepped_places-requires-clause-legal
+stepped_places-requires-clause-legal c =
+    rw (sizes-at c.args.dims.now c.args.axes.now _ _ _ c.as_slice-3.ensures.value
+    c.shuffled-sizes.ensures c.as_slice.ensures.value)
+    (IsLegal-are_legal (dims_at c.args.axes.now c.args.dims.now) (are_legal-axes c.args.dims.now
+    c.args.axes.now c.as_slice.ensures.legal c.requires))
+
+pub stepped_places-requires-clause-short : goal.stepped_places-requires-clause-short
+stepped_places-requires-clause-short c k within =
     let ds = c.args.dims.now in
-    let axis = get_or c.args.axes.now (c.loop-k.k - 1) 0 in
-    let rest = drop c.loop-k.k c.args.axes.now in
-    let once = axes-before (length ds) c.loop-k.k c.args.axes.now c.requires (omega arith)
-    (omega arith) in
-    let inside : k < size_of (dims_at rest ds) =
-    rw (c.deref.ensures.value, c.loop-k.invariant.len) at below in
-    let index : i < get_or ds axis 0 = rw c.as_slice-sizes.ensures.value at within in
-    let at = c.loop-k.invariant.each k inside in
-    let limit = c.as_slice-sizes.ensures.legal.elements in
-    rw (c.deref.ensures.value, c.stride.ensures)
-    (omega (arith, at, step-below-bulk_of axis rest ds k i once inside index, limit))
+    let axes = c.args.axes.now in
+    let sizes = sizes-at ds axes _ _ _ c.as_slice-3.ensures.value c.shuffled-sizes.ensures
+    c.as_slice.ensures.value in
+    let steps = sizes-at (strides_from 1 ds) axes _ _ _ c.as_slice-4.ensures.value
+    c.shuffled-steps.ensures (c.as_slice-2.ensures.value ∙ c.strides-strides.ensures) in
+    let inside : k < length axes =
+    omega (arith, ap length sizes, length-map axes (λ s. get_or ds s 0)) in
+    let axis : ℕ = get_or axes k 0 in
+    let below = get_or-are_axes (length ds) k axes c.requires inside in
+    let size = get_or-map (λ s. get_or ds s 0) axes k 0 0 inside in
+    let step = get_or-map (λ s. get_or (strides_from 1 ds) s 0) axes k 0 0 inside in
+    rw (sizes, steps, size, step)
+    (omega (arith, strides_from-short ds axis below, c.as_slice.ensures.legal.elements))
 
-turned : (n d : ℕ) → n * d ≡ d * n
-turned n d = grind arith
-
-pub loop-k-preserved : goal.loop-k-preserved
-loop-k-preserved c =
+pub returns-clause-each : goal.returns-clause-each
+returns-clause-each c =
     let ds = c.args.dims.now in
-    let axis = get_or c.args.axes.now (c.loop-k.k - 1) 0 in
-    let rest = drop c.loop-k.k c.args.axes.now in
-    let once = axes-before (length ds) c.loop-k.k c.args.axes.now c.requires (omega arith)
-    (omega arith) in
-    let split : drop (c.loop-k.k - 1) c.args.axes.now ≡ axis ∷ rest =
-    drop-before c.args.axes.now c.loop-k.k (omega arith) (omega arith) in
-    let long : length c.deref.result.now ≡ size_of (dims_at rest ds) =
-    ap length c.deref.ensures.value ∙ c.loop-k.invariant.len in
-    let size : get_or c.as_slice-sizes.result.now axis 0 ≡ get_or ds axis 0 =
-    ap (λ l. get_or l axis 0) c.as_slice-sizes.ensures.value in
-    let step = rw (size, c.stride.ensures) at c.in_ok-places-2.ensures.each in
-    record {
-      len =
-          c.in_ok-places-2.ensures.len
-          ∙ rw (long, size) (turned (size_of (dims_at rest ds)) (get_or ds axis 0)
-          ∙ sym (ap (λ l. size_of (dims_at l ds)) split));
-      each = λ p below.
-          offset_of-more axis rest ds c.deref.result.now c.in_ok-places-2.places.items once long
-          (λ q h. ap (λ l. get_or l q 0) c.deref.ensures.value ∙ c.loop-k.invariant.each q h) step p
-          (rw split at below)
-          ∙ sym (ap (λ l. offset_of l ds p) split);
-    }
+    let axes = c.args.axes.now in
+    let sizes = sizes-at ds axes _ _ _ c.as_slice-3.ensures.value c.shuffled-sizes.ensures
+    c.as_slice.ensures.value in
+    let steps = sizes-at (strides_from 1 ds) axes _ _ _ c.as_slice-4.ensures.value
+    c.shuffled-steps.ensures (c.as_slice-2.ensures.value ∙ c.strides-strides.ensures) in
+    IfOk-weaker c.stepped_places.result _ _
+    (λ v each p below. each p below ∙ sym (offset_of-stepped axes ds p c.requires))
+    (rw (sizes, steps) at c.stepped_places.ensures.each)
 
 pub returns-clause-small : goal.returns-clause-small
-returns-clause-small c = λ p below.
-    let done : c.loop-k.k ≡ 0 = omega arith in
-    let each = rw done at c.loop-k.invariant.each in
-    omega (
+returns-clause-small c =
+    let ds = c.args.dims.now in
+    let axes = c.args.axes.now in
+    IfOk-weaker c.stepped_places.result _ _
+    (λ v each p below. omega (
       arith,
       each p below,
-      offset_of-below-bulk_of c.args.axes.now c.args.dims.now c.requires p below,
-      c.as_slice-sizes.ensures.legal.elements,
-    )
+      offset_of-below-bulk_of axes ds c.requires p below,
+      c.as_slice.ensures.legal.elements,
+    )) (returns-clause-each c)

@@ -1,22 +1,26 @@
-use Rattle.std.proofs.Common.{◌≡◌, map, IfOk, ap, subst, ◌∙◌, rules, arith}
+use Rattle.std.proofs.Common.{◌≡◌, ℕ, ℤ, ◌-◌, length, map, IfOk, ap, sym, subst, ◌∙◌, rules, arith}
+use Rattle.std.specs.List.{range_with_len}
+use Rattle.std.proofs.lemmas.List.FromFn.{length-map-range_with_len}
 use Rattle.std.specs.Cow.{cow_slice_items}
 use Rattle.std.specs.Prelude.{replicate}
 use Rattle.tensor_ops.specs.Loops.{either_way, selected}
 use Rattle.tensor_ops.specs.Meaning.{meaning, count_of, depth_of}
 use Rattle.tensor_ops.specs.Places.{places_of}
 use Rattle.tensor_ops.specs.Scalars.{applied}
+use Rattle.tensor_ops.specs.Splicing.{firsts_before, seconds_before, spliced}
 use Rattle.tensor_ops.specs.Walk.{reached, walk_size}
+use Rattle.tensor_ops.proofs.InTurns.{firsts-run, seconds-run, first_places-below, second_places-below, map-first_alone, map-second_alone}
 use Rattle.tensor_ops.proofs.Runs.{places-applied, places-combined, places-selected, places-moved, map-constant}
 use Rattle.tensor_ops.proofs.Soundness.{reached-within}
 use Rattle.tensor_ops.proofs.placed.+values_at.Goals as goal
 
-pub sources-requires-clause-fits : goal.sources-requires-clause-fits
-sources-requires-clause-fits t c =
+pub values_at-sources-requires-clause-fits : goal.values_at-sources-requires-clause-fits
+values_at-sources-requires-clause-fits t c =
     let sound = rw c.in-Walk.is at c.requires.sound in
     rw c.deref-in-Walk-2.ensures.value (λ p below. omega (arith, sound.1.0, sound.1.1 p below))
 
-pub values_at-requires : goal.values_at-requires
-values_at-requires t c = (
+pub values_at-values_at-requires : goal.values_at-values_at-requires
+values_at-values_at-requires t c = (
   omega (arith, c.decreases, ap depth_of c.in-Unary.is, ap depth_of c.deref.ensures),
   (
     rw (c.deref.ensures) (rw c.in-Unary.is at c.requires.sound),
@@ -24,8 +28,8 @@ values_at-requires t c = (
   ),
 )
 
-pub values_at-requires-in-Binary : goal.values_at-requires-in-Binary
-values_at-requires-in-Binary t c =
+pub values_at-values_at-requires-in-Binary : goal.values_at-values_at-requires-in-Binary
+values_at-values_at-requires-in-Binary t c =
     let sound = rw c.in-Binary.is at c.requires.sound in (
       omega (arith, c.decreases, ap depth_of c.in-Binary.is, ap depth_of c.deref-in-Binary.ensures),
       (
@@ -34,8 +38,8 @@ values_at-requires-in-Binary t c =
       ),
     )
 
-pub values_at-requires-in-Binary-2 : goal.values_at-requires-in-Binary-2
-values_at-requires-in-Binary-2 t c =
+pub values_at-values_at-requires-in-Binary-2 : goal.values_at-values_at-requires-in-Binary-2
+values_at-values_at-requires-in-Binary-2 t c =
     let sound = rw c.in-Binary.is at c.requires.sound in (
       omega (arith, c.decreases, ap depth_of c.in-Binary.is, ap depth_of c.deref-in-Binary-2.ensures),
       (
@@ -44,8 +48,8 @@ values_at-requires-in-Binary-2 t c =
       ),
     )
 
-pub values_at-requires-in-Walk : goal.values_at-requires-in-Walk
-values_at-requires-in-Walk t c = (
+pub values_at-values_at-requires-in-Walk : goal.values_at-values_at-requires-in-Walk
+values_at-values_at-requires-in-Walk t c = (
   omega (arith, c.decreases, ap depth_of c.in-Walk.is, ap depth_of c.deref-in-Walk-3.ensures),
   (
     let sound = rw c.in-Walk.is at c.requires.sound in rw c.deref-in-Walk-3.ensures sound.0,
@@ -60,8 +64,8 @@ values_at-requires-in-Walk t c = (
   ),
 )
 
-pub returns-in_ok-values-in-Unary : goal.returns-in_ok-values-in-Unary
-returns-in_ok-values-in-Unary t c =
+pub values_at-returns-in_ok-values-in-Unary : goal.values_at-returns-in_ok-values-in-Unary
+values_at-returns-in_ok-values-in-Unary t c =
     rw c.in-Unary.is
     (places-applied (places_of c.args.places.now) (applied c.in-Unary.operation) (meaning c.in-Unary.operand.value)
     c.in_ok-values-in-Unary.values.items c.apply.new.values.items
@@ -69,8 +73,8 @@ returns-in_ok-values-in-Unary t c =
     ∙ ap (λ a. map (meaning a) (places_of c.args.places.now)) c.deref.ensures)
     c.apply.ensures.len c.apply.ensures.each)
 
-pub returns-in_ok-second-in-Binary : goal.returns-in_ok-second-in-Binary
-returns-in_ok-second-in-Binary t c =
+pub values_at-returns-in_ok-second-in-Binary : goal.values_at-returns-in_ok-second-in-Binary
+values_at-returns-in_ok-second-in-Binary t c =
     rw c.in-Binary.is
     (places-combined (places_of c.args.places.now) (either_way c.in-Binary.operation c.in-Binary.turned)
     (meaning c.in-Binary.first.value) (meaning c.in-Binary.second.value)
@@ -81,8 +85,8 @@ returns-in_ok-second-in-Binary t c =
     ∙ ap (λ a. map (meaning a) (places_of c.args.places.now)) c.deref-in-Binary-2.ensures)
     c.combine.ensures.len c.combine.ensures.each)
 
-pub returns-in_ok-sources-in-Walk : goal.returns-in_ok-sources-in-Walk
-returns-in_ok-sources-in-Walk t c =
+pub values_at-returns-in_ok-sources-in-Walk : goal.values_at-returns-in_ok-sources-in-Walk
+values_at-returns-in_ok-sources-in-Walk t c =
     let listed : c.deref-in-Walk-4.result.now ≡ map (reached c.in-Walk.start c.in-Walk.axes.items) (places_of c.args.places.now) =
     c.deref-in-Walk-4.ensures.value ∙ c.in_ok-sources-in-Walk.ensures
     ∙ ap (λ l. map (reached c.in-Walk.start l) (places_of c.args.places.now)) c.deref-in-Walk-2.ensures.value in
@@ -94,8 +98,8 @@ returns-in_ok-sources-in-Walk t c =
     rw c.in-Walk.is
     (subst (λ l. IfOk c.values_at-in-Walk.result (λ v. cow_slice_items v ≡ l)) whole c.values_at-in-Walk.ensures)
 
-pub values_at-requires-in-Select : goal.values_at-requires-in-Select
-values_at-requires-in-Select t c =
+pub values_at-values_at-requires-in-Select : goal.values_at-values_at-requires-in-Select
+values_at-values_at-requires-in-Select t c =
     let sound = rw c.in-Select.is at c.requires.sound in (
       omega (arith, c.decreases, ap depth_of c.in-Select.is, ap depth_of c.deref-in-Select.ensures),
       (
@@ -104,8 +108,8 @@ values_at-requires-in-Select t c =
       ),
     )
 
-pub values_at-requires-in-Select-2 : goal.values_at-requires-in-Select-2
-values_at-requires-in-Select-2 t c =
+pub values_at-values_at-requires-in-Select-2 : goal.values_at-values_at-requires-in-Select-2
+values_at-values_at-requires-in-Select-2 t c =
     let sound = rw c.in-Select.is at c.requires.sound in (
       omega (arith, c.decreases, ap depth_of c.in-Select.is, ap depth_of c.deref-in-Select-2.ensures),
       (
@@ -114,8 +118,8 @@ values_at-requires-in-Select-2 t c =
       ),
     )
 
-pub values_at-requires-in-Select-3 : goal.values_at-requires-in-Select-3
-values_at-requires-in-Select-3 t c =
+pub values_at-values_at-requires-in-Select-3 : goal.values_at-values_at-requires-in-Select-3
+values_at-values_at-requires-in-Select-3 t c =
     let sound = rw c.in-Select.is at c.requires.sound in (
       omega (arith, c.decreases, ap depth_of c.in-Select.is, ap depth_of c.deref-in-Select-3.ensures),
       (
@@ -124,8 +128,8 @@ values_at-requires-in-Select-3 t c =
       ),
     )
 
-pub returns-in_ok-third-in-Select : goal.returns-in_ok-third-in-Select
-returns-in_ok-third-in-Select t c =
+pub values_at-returns-in_ok-third-in-Select : goal.values_at-returns-in_ok-third-in-Select
+values_at-returns-in_ok-third-in-Select t c =
     rw c.in-Select.is
     (places-selected (places_of c.args.places.now) (selected c.in-Select.order)
     (meaning c.in-Select.first.value) (meaning c.in-Select.second.value) (meaning c.in-Select.third.value)
@@ -138,8 +142,142 @@ returns-in_ok-third-in-Select t c =
     ∙ ap (λ a. map (meaning a) (places_of c.args.places.now)) c.deref-in-Select-3.ensures)
     c.select.ensures.len c.select.ensures.each)
 
-pub returns-in_ok-values-in-Same : goal.returns-in_ok-values-in-Same
-returns-in_ok-values-in-Same t c =
+pub values_at-returns-in_ok-values-in-Same : goal.values_at-returns-in_ok-values-in-Same
+values_at-returns-in_ok-values-in-Same t c =
     let made : c.in_ok-values-in-Same.values.items ≡ replicate c.len.result c.in-Same.value = search rules in
     rw c.in-Same.is
     (made ∙ ap (λ n. replicate n c.in-Same.value) c.len.ensures ∙ map-constant c.in-Same.value (places_of c.args.places.now))
+
+pub spliced_at-values_at-requires : goal.spliced_at-values_at-requires
+spliced_at-values_at-requires t c =
+    let turns = c.args.turns in
+    let below = rw c.in-Run.is at c.requires.places in (
+      omega (arith, c.decreases),
+      (
+        c.requires.second,
+        rw (c.seconds_before-second_from.ensures, c.seconds_before-second_to.ensures)
+            (seconds-run turns.first turns.second (count_of c.args.first.now) (count_of c.args.second.now) c.requires.turns c.in-Run.from c.in-Run.to
+            below.0 below.1),
+      ),
+    )
+
+pub spliced_at-values_at-requires-then-second_from-second_to : goal.spliced_at-values_at-requires-then-second_from-second_to
+spliced_at-values_at-requires-then-second_from-second_to t c =
+    let turns = c.args.turns in
+    let below = rw c.in-Run.is at c.requires.places in (
+      omega (arith, c.decreases),
+      (
+        c.requires.first,
+        rw (c.firsts_before-first_from.ensures, c.firsts_before-first_to.ensures)
+            (firsts-run turns.first turns.second (count_of c.args.first.now) (count_of c.args.second.now) c.requires.turns c.in-Run.from c.in-Run.to
+            below.0 below.1),
+      ),
+    )
+
+pub spliced_at-values_at-requires-in-Run : goal.spliced_at-values_at-requires-in-Run
+spliced_at-values_at-requires-in-Run t c =
+    let turns = c.args.turns in
+    let below = rw c.in-Run.is at c.requires.places in (
+      omega (arith, c.decreases),
+      (
+        c.requires.first,
+        rw (c.firsts_before-first_from.ensures, c.firsts_before-first_to.ensures)
+            (firsts-run turns.first turns.second (count_of c.args.first.now) (count_of c.args.second.now) c.requires.turns c.in-Run.from c.in-Run.to
+            below.0 below.1),
+      ),
+    )
+
+pub spliced_at-values_at-requires-in-Run-2 : goal.spliced_at-values_at-requires-in-Run-2
+spliced_at-values_at-requires-in-Run-2 t c =
+    let turns = c.args.turns in
+    let below = rw c.in-Run.is at c.requires.places in (
+      omega (arith, c.decreases),
+      (
+        c.requires.second,
+        rw (c.seconds_before-second_from.ensures, c.seconds_before-second_to.ensures)
+            (seconds-run turns.first turns.second (count_of c.args.first.now) (count_of c.args.second.now) c.requires.turns c.in-Run.from c.in-Run.to
+            below.0 below.1),
+      ),
+    )
+
+pub spliced_at-values_at-requires-in-Listed : goal.spliced_at-values_at-requires-in-Listed
+spliced_at-values_at-requires-in-Listed t c =
+    let turns = c.args.turns in
+    let below = rw c.in-Listed.is at c.requires.places in (
+      omega (arith, c.decreases),
+      (
+        c.requires.first,
+        rw (c.deref.ensures.value ∙ c.in_ok-firsts-in-Listed.ensures.firsts)
+            (first_places-below turns.first turns.second (count_of c.args.first.now) (count_of c.args.second.now) c.requires.turns
+            c.in-Listed.places.now below),
+      ),
+    )
+
+pub spliced_at-values_at-requires-in-Listed-2 : goal.spliced_at-values_at-requires-in-Listed-2
+spliced_at-values_at-requires-in-Listed-2 t c =
+    let turns = c.args.turns in
+    let below = rw c.in-Listed.is at c.requires.places in (
+      omega (arith, c.decreases),
+      (
+        c.requires.second,
+        rw (c.deref-in-Listed.ensures.value ∙ c.in_ok-firsts-in-Listed.ensures.seconds)
+            (second_places-below turns.first turns.second (count_of c.args.first.now) (count_of c.args.second.now) c.requires.turns
+            c.in-Listed.places.now below),
+      ),
+    )
+
+pub spliced_at-spliced_run-requires-clause-firsts : goal.spliced_at-spliced_run-requires-clause-firsts
+spliced_at-spliced_run-requires-clause-firsts t c =
+    let from : ℕ = c.firsts_before-first_from.result in
+    let to : ℕ = c.firsts_before-first_to.result in
+    ap length (c.as_slice-firsts.ensures.value ∙ c.in_ok-firsts-in-Run.ensures)
+    ∙ length-map-range_with_len (meaning c.args.first.now) from (to - from)
+    ∙ ap (λ n. n - from) c.firsts_before-first_to.ensures
+    ∙ ap (λ n. firsts_before c.args.turns.first c.args.turns.second c.in-Run.to - n) c.firsts_before-first_from.ensures
+
+pub spliced_at-spliced_run-requires-clause-seconds : goal.spliced_at-spliced_run-requires-clause-seconds
+spliced_at-spliced_run-requires-clause-seconds t c =
+    let from : ℕ = c.seconds_before-second_from.result in
+    let to : ℕ = c.seconds_before-second_to.result in
+    ap length (c.as_slice-seconds.ensures.value ∙ c.in_ok-seconds-in-Run.ensures)
+    ∙ length-map-range_with_len (meaning c.args.second.now) from (to - from)
+    ∙ ap (λ n. n - from) c.seconds_before-second_to.ensures
+    ∙ ap (λ n. seconds_before c.args.turns.first c.args.turns.second c.in-Run.to - n) c.seconds_before-second_from.ensures
+
+pub spliced_at-returns-then-first_from-first_to : goal.spliced_at-returns-then-first_from-first_to
+spliced_at-returns-then-first_from-first_to t c =
+    let turns = c.args.turns in
+    let f : ℕ → ℤ = meaning c.args.first.now in
+    let g : ℕ → ℤ = meaning c.args.second.now in
+    let from : ℕ = c.in-Run.from in
+    let to : ℕ = c.in-Run.to in
+    let below = rw c.in-Run.is at c.requires.places in
+    let none : firsts_before turns.first turns.second to ≡ firsts_before turns.first turns.second from =
+    sym c.firsts_before-first_to.ensures ∙ sym c.if-first_from-first_to.true ∙ c.firsts_before-first_from.ensures in
+    let whole : map g (range_with_len c.seconds_before-second_from.result (c.seconds_before-second_to.result - c.seconds_before-second_from.result))
+    ≡ map (spliced turns.first turns.second f g) (range_with_len from (to - from)) =
+    ap (λ a. map g (range_with_len a (c.seconds_before-second_to.result - a))) c.seconds_before-second_from.ensures
+    ∙ ap (λ b. map g (range_with_len (seconds_before turns.first turns.second from) (b - seconds_before turns.first turns.second from)))
+    c.seconds_before-second_to.ensures
+    ∙ map-second_alone turns.first turns.second turns.some f g from to below.0 none in
+    rw c.in-Run.is (subst (λ l. IfOk c.values_at.result (λ v. cow_slice_items v ≡ l)) whole c.values_at.ensures)
+
+pub spliced_at-returns-then-second_from-second_to : goal.spliced_at-returns-then-second_from-second_to
+spliced_at-returns-then-second_from-second_to t c =
+    let turns = c.args.turns in
+    let f : ℕ → ℤ = meaning c.args.first.now in
+    let g : ℕ → ℤ = meaning c.args.second.now in
+    let from : ℕ = c.in-Run.from in
+    let to : ℕ = c.in-Run.to in
+    let below = rw c.in-Run.is at c.requires.places in
+    let none : seconds_before turns.first turns.second to ≡ seconds_before turns.first turns.second from =
+    sym c.seconds_before-second_to.ensures ∙ sym c.if-second_from-second_to.true ∙ c.seconds_before-second_from.ensures in
+    let whole : map f (range_with_len c.firsts_before-first_from.result (c.firsts_before-first_to.result - c.firsts_before-first_from.result))
+    ≡ map (spliced turns.first turns.second f g) (range_with_len from (to - from)) =
+    ap (λ a. map f (range_with_len a (c.firsts_before-first_to.result - a))) c.firsts_before-first_from.ensures
+    ∙ ap (λ b. map f (range_with_len (firsts_before turns.first turns.second from) (b - firsts_before turns.first turns.second from)))
+    c.firsts_before-first_to.ensures
+    ∙ map-first_alone turns.first turns.second turns.some f g from to below.0 none in
+    rw c.in-Run.is
+    (subst (λ l. IfOk c.values_at-then-second_from-second_to.result (λ v. cow_slice_items v ≡ l)) whole
+    c.values_at-then-second_from-second_to.ensures)

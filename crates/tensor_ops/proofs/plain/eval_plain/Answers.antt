@@ -18,7 +18,7 @@ pub returns-clause-tensor : goal.returns-clause-tensor
 returns-clause-tensor c =
     let e = c.in_ok-evaluator.evaluator in
     let t = term_of c.args.expr.now in
-    let inputs = c.args.inputs.now in
+    let inputs = c.args.inputs.now.tensors in
     let shape : shape_of (term_evaluated e) (inputs_evaluated e) ≡ shape_of t inputs =
     ap (λ u. shape_of u (inputs_evaluated e)) c.in_ok-evaluator.ensures.term ∙ ap (shape_of t) c.in_ok-evaluator.ensures.inputs in
     let dims : c.copied-dims.result ≡ shape_of t inputs = c.copied-dims.ensures ∙ c.dims.ensures ∙ shape in
@@ -30,6 +30,6 @@ returns-clause-tensor c =
 
 pub returns-clause-each : goal.returns-clause-each
 returns-clause-each c = λ index is_index.
-    let whole : c.new.result ≡ tensor_of (term_of c.args.expr.now) c.args.inputs.now = returns-clause-tensor c in
+    let whole : c.new.result ≡ tensor_of (term_of c.args.expr.now) c.args.inputs.now.tensors = returns-clause-tensor c in
     ap (λ t. value_at t index) whole
-    ∙ value_at-tensor_of c.args.inputs.now (term_of c.args.expr.now) index (subst (λ t. IsIndexOf t.dims index) whole is_index)
+    ∙ value_at-tensor_of c.args.inputs.now.tensors (term_of c.args.expr.now) index (subst (λ t. IsIndexOf t.dims index) whole is_index)

@@ -10,7 +10,7 @@ returns-in_ok-over-in-Unary t c =
     let node = c.new-node in
     IfOk-then c.settle.result _ _
     (λ rest done.
-    cut-unary c.args.inputs.now c.args.whole c.combines-combining.result
+    cut-unary c.args.inputs.now.tensors c.args.whole c.combines-combining.result
     (unary_at c.in-Unary.operation) (term_of c.in-Unary.a.now)
     (term_of c.args.expr.now) (term_of u.result.0) c.args.steps.now.items c.cut.new.steps.items
     c.settle.new.steps.items
@@ -28,7 +28,7 @@ returns-in_ok-over-in-Binary t c =
     let node = c.new-node-in-Binary in
     IfOk-then c.settle-in-Binary.result _ _
     (λ rest done.
-    cut-binary c.args.inputs.now c.args.whole c.combines_two-combining.result
+    cut-binary c.args.inputs.now.tensors c.args.whole c.combines_two-combining.result
     (binary_at c.in-Binary.operation) (term_of c.in-Binary.a.now)
     (term_of c.in-Binary.b.now) (term_of c.args.expr.now) (term_of u.result.0) (term_of v.result.0)
     c.args.steps.now.items
@@ -51,7 +51,7 @@ returns-in_ok-over-in-Ternary t c =
     let node = c.new-node-in-Ternary in
     IfOk-then c.settle-in-Ternary.result _ _
     (λ rest done.
-    cut-ternary c.args.inputs.now c.args.whole (ternary_at c.in-Ternary.operation)
+    cut-ternary c.args.inputs.now.tensors c.args.whole (ternary_at c.in-Ternary.operation)
     (term_of c.in-Ternary.a.now) (term_of c.in-Ternary.b.now)
     (term_of c.in-Ternary.c.now) (term_of c.args.expr.now) (term_of u.result.0)
     (term_of v.result.0) (term_of w.result.0)

@@ -9,9 +9,9 @@ use Rattle.tensor_ops.proofs.cursor.Pairing.of.Goals as goal
 
 pub unreachable-requires : goal.unreachable-requires
 unreachable-requires c =
-    let known = contracted-known c.args.inputs.now c.args.pairs.now (term_of c.args.a.now)
+    let known = contracted-known c.args.inputs.now.tensors c.args.pairs.now (term_of c.args.a.now)
     (term_of c.args.b.now) c.requires.dims in
-    let ds : List ℕ = shape_of (term_of c.args.a.now) c.args.inputs.now in
+    let ds : List ℕ = shape_of (term_of c.args.a.now) c.args.inputs.now.tensors in
     let few : length c.args.pairs.now ≤ length c.known_dims-first.result =
     omega (
       arith,

@@ -23,25 +23,13 @@ dot_at-lists first second a b offsets others x y s t is_a is_b is_offsets is_oth
     let column = div-mul-add y (row_count first) x below in
     rw (is_a, is_b, is_offsets, is_others, is_s, is_t, row, column) refl
 
-pub returns-then-lie_side_by_side-clause-each : goal.returns-then-lie_side_by_side-clause-each
-returns-then-lie_side_by_side-clause-each c k below =
+pub returns-clause-each : goal.returns-clause-each
+returns-clause-each c k below =
     let x = c.args.x in
-    c.sums_by_offsets.ensures.each k (omega (arith, c.sums_by_offsets.ensures.len))
+    c.row_sums.ensures.each k (omega (arith, c.row_sums.ensures.len))
     ∙ dot_at-lists c.args.self.now.first c.args.self.now.second _ _ _ _ (x + k) c.args.y _ _
     c.as_slice-a.ensures.value c.as_slice-b.ensures.value c.deref.ensures.value
-    c.deref-then-lie_side_by_side.ensures.value
-    (get_or-between c.as_slice.result.now x (x + length c.args.out.now) k 0 (omega arith)
-    ∙ ap (λ l. slice_index l (x + k)) c.as_slice.ensures.value)
-    (ap (λ l. slice_index l c.args.y) c.as_slice-2.ensures.value) (omega arith)
-
-pub returns-else-lie_side_by_side-clause-each : goal.returns-else-lie_side_by_side-clause-each
-returns-else-lie_side_by_side-clause-each c k below =
-    let x = c.args.x in
-    c.sums_by_rows.ensures.each k (omega (arith, c.sums_by_rows.ensures.len))
-    ∙ dot_at-lists c.args.self.now.first c.args.self.now.second _ _ _ _ (x + k) c.args.y _ _
-    c.as_slice-a.ensures.value c.as_slice-b.ensures.value
-    c.deref-else-lie_side_by_side.ensures.value
-    c.deref-else-lie_side_by_side-2.ensures.value
+    c.deref-2.ensures.value
     (get_or-between c.as_slice.result.now x (x + length c.args.out.now) k 0 (omega arith)
     ∙ ap (λ l. slice_index l (x + k)) c.as_slice.ensures.value)
     (ap (λ l. slice_index l c.args.y) c.as_slice-2.ensures.value) (omega arith)

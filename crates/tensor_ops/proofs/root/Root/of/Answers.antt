@@ -1,13 +1,15 @@
 use Rattle.std.proofs.Common.{◌≡◌, ap, sym, ◌∙◌}
 use Rattle.tensor_ops.specs.Contracting.{contraction_count, contraction_value}
 use Rattle.tensor_ops.specs.Contraction.{contracted}
+use Rattle.tensor_ops.specs.Convolution.{convolved}
 use Rattle.tensor_ops.specs.Placing.{meaning_at}
 use Rattle.tensor_ops.specs.Reduced.{places_of_result, reduction_at}
 use Rattle.tensor_ops.specs.Reduction.{reduced}
 use Rattle.tensor_ops.specs.Tensors.{tensors_in}
-use Rattle.tensor_ops.specs.Term.{unary, reduce, binary, contract}
+use Rattle.tensor_ops.specs.Term.{unary, reduce, binary, contract, convolve}
 use Rattle.tensor_ops.specs.Tree.{term_of, unary_at, binary_at}
 use Rattle.tensor_ops.specs.Value.{value}
+use Rattle.tensor_ops.proofs.Convolved.{agree-convolution}
 use Rattle.tensor_ops.proofs.Worked.{values-other, agree-term, agree-contraction}
 use Rattle.tensor_ops.proofs.root.Root.of.Goals as goal
 
@@ -52,4 +54,28 @@ returns-in_ok-contraction-in-Binary-Contract-default-default-clause-values c =
     (agree-contraction (tensors_in c.args.tensors) (term_of arm.first.now)
     (term_of arm.second.now) arm.pairs.now left.first.placed right.second.placed
     left.first.dims right.second.dims made.dims left.ensures.placed right.ensures.placed
+    left.ensures.dims right.ensures.dims made.ensures.dims))
+
+pub returns-in_ok-contraction-in-Binary-Convolve-default-default-clause-values :
+    goal.returns-in_ok-contraction-in-Binary-Convolve-default-default-clause-values
+returns-in_ok-contraction-in-Binary-Convolve-default-default-clause-values c =
+    let arm = c.in-Binary-Convolve-default-default in
+    let left = c.in_ok-operand-in-Binary-Convolve-default-default in
+    let right = c.in_ok-kernel-in-Binary-Convolve-default-default in
+    let made = c.in_ok-contraction-in-Binary-Convolve-default-default in
+    let node : binary (convolve arm.axes.now) (term_of arm.operand.now) (term_of arm.kernel.now)
+    ≡ term_of c.args.expr.now =
+    ap (λ o. binary (binary_at o) (term_of arm.operand.now) (term_of arm.kernel.now))
+    (sym arm.field-0-is) ∙ arm.ensures in
+    rw (← node)
+    (values-other (contraction_count made.contraction) (contraction_value made.contraction)
+    made.dims
+    (convolved arm.axes.now right.kernel.dims
+    (meaning_at left.operand.placed left.operand.dims)
+    (meaning_at right.kernel.placed right.kernel.dims))
+    (value (binary (convolve arm.axes.now) (term_of arm.operand.now)
+    (term_of arm.kernel.now)) (tensors_in c.args.tensors)) made.ensures.values
+    (agree-convolution (tensors_in c.args.tensors) (term_of arm.operand.now)
+    (term_of arm.kernel.now) arm.axes.now left.operand.placed right.kernel.placed
+    left.operand.dims right.kernel.dims made.dims left.ensures.placed right.ensures.placed
     left.ensures.dims right.ensures.dims made.ensures.dims))

@@ -1,0 +1,65 @@
+use Rattle.std.proofs.Common.{◌≡◌, ℕ, ◌+◌, ◌<◌, ℤ, ◌+ℤ◌, ◌*ℤ◌, List, slice_index, map}
+use Rattle.std.proofs.Common.{to_z, of_z, ap, ◌∙◌, arith}
+use Rattle.std.specs.Int.{w64}
+use Rattle.tensor_shape.specs.Wrap.{wrap}
+use Rattle.tensor_ops.specs.Panels.{AreLanes}
+use Rattle.tensor_ops.specs.Places.{value_in}
+use Rattle.tensor_ops.specs.Products.{product_of, sum_to}
+use Rattle.tensor_ops.proofs.ProductSums.{wrap-next}
+use Rattle.tensor_ops.proofs.SimdLanes.{value_in-lanes, lanes-bits}
+use Rattle.tensor_ops.proofs.small_eight.small_eight.Goals as goal
+
+-- one product more in a lane
+next_lane : (f : ℕ → ℤ) (sums x y out : List ℤ) (r q : ℕ) → r < 4 → AreLanes x → AreLanes y
+    → AreLanes out → value_in sums r ≡ wrap (sum_to f q)
+    → value_in x r *ℤ value_in y r ≡ f q
+    → value_in out r ≡ wrap (value_in sums r +ℤ (value_in (map (to_z w64) (map (of_z w64) x)) r
+    *ℤ value_in (map (to_z w64) (map (of_z w64) y)) r))
+    → value_in (map (to_z w64) (map (of_z w64) out)) r ≡ wrap (sum_to f (q + 1))
+next_lane f sums x y out r q h lanes_x lanes_y lanes so_far product is =
+    let left = value_in-lanes x lanes_x r h in
+    let right = value_in-lanes y lanes_y r h in
+    value_in-lanes out lanes r h
+    ∙ wrap-next f q (value_in sums r) (value_in out r) so_far
+    (rw (left, right, product) at is)
+
+pub add_column-low-requires-clause-x : goal.add_column-low-requires-clause-x
+add_column-low-requires-clause-x c = lanes-bits _ c.four_from.ensures.lanes
+
+pub add_column-low-requires-clause-y : goal.add_column-low-requires-clause-y
+add_column-low-requires-clause-y c = lanes-bits _ c.spread_from-factor.ensures.lanes
+
+pub add_column-high-requires-clause-x : goal.add_column-high-requires-clause-x
+add_column-high-requires-clause-x c = lanes-bits _ c.four_from-in-loop-q.ensures.lanes
+
+pub add_column-high-requires-clause-y : goal.add_column-high-requires-clause-y
+add_column-high-requires-clause-y c = lanes-bits _ c.spread_from-factor.ensures.lanes
+
+pub loop-q-preserved : goal.loop-q-preserved
+loop-q-preserved c =
+    let q = c.loop-q.q in
+    let a = c.args.a.now in
+    let b = c.args.b.now in
+    let offset : ℕ = slice_index c.args.offsets.now q in
+    let f : ℕ → ℕ → ℤ = λ x. product_of a x c.args.offsets.now b c.args.y c.args.others.now in
+    let factor = c.spread_from-factor.ensures in
+    record {
+      lanes_low = lanes-bits _ c.add_column-low.ensures.lanes;
+      lanes_high = lanes-bits _ c.add_column-high.ensures.lanes;
+      low = λ r h.
+          let here : c.args.x + offset + r ≡ c.args.x + r + offset = omega arith in
+          let left = c.four_from.ensures.each r h ∙ ap (value_in a) here in
+          let right = factor.each r h in
+          next_lane (f (c.args.x + r)) (map (to_z w64) c.loop-q.low) c.four_from.result
+          c.spread_from-factor.result c.add_column-low.result r q h c.four_from.ensures.lanes
+          factor.lanes c.add_column-low.ensures.lanes (c.loop-q.invariant.low r h) (cc (left, right))
+          (c.add_column-low.ensures.each r h);
+      high = λ r h.
+          let here : c.args.x + offset + 4 + r ≡ c.args.x + 4 + r + offset = omega arith in
+          let left = c.four_from-in-loop-q.ensures.each r h ∙ ap (value_in a) here in
+          let right = factor.each r h in
+          next_lane (f (c.args.x + 4 + r)) (map (to_z w64) c.loop-q.high)
+          c.four_from-in-loop-q.result c.spread_from-factor.result c.add_column-high.result r q h
+          c.four_from-in-loop-q.ensures.lanes factor.lanes c.add_column-high.ensures.lanes
+          (c.loop-q.invariant.high r h) (cc (left, right)) (c.add_column-high.ensures.each r h);
+    }

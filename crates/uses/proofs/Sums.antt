@@ -1,0 +1,34 @@
+-- Sums of numbers, and of numbers of lists.
+use Rattle.std.proofs.Common.{◌≡◌, ℕ, List, [], ◌∷◌, map, refl, arith}
+use Rattle.std.specs.Prelude.{sum, sum_by}
+use Rattle.std.specs.List.{flat_map}
+use Rattle.std.proofs.lemmas.List.Sums.{sum_by-cons, sum_by-append}
+use Rattle.run_queue.specs.Bag.{total}
+
+-- numbers that are weighed by themselves
+pub total-sum : (numbers : List ℕ) → total (λ n. n) numbers ≡ sum numbers
+total-sum [] = refl
+total-sum (n ∷ numbers) =
+    let rest = total-sum numbers in
+    let more = sum_by-cons (λ m. m) n numbers in
+    omega arith
+
+-- the numbers of lists, list by list
+pub sum-flat_map : {X : Type 0} (numbers_of : X → List ℕ) (xs : List X)
+    → sum (flat_map numbers_of xs) ≡ sum_by (λ x. sum (numbers_of x)) xs
+sum-flat_map numbers_of [] = refl
+sum-flat_map numbers_of (x ∷ xs) =
+    let rest = sum-flat_map numbers_of xs in
+    let more = sum_by-cons (λ y. sum (numbers_of y)) x xs in
+    let both = sum_by-append (λ n. n) (numbers_of x) (flat_map numbers_of xs) in
+    omega arith
+
+-- what is summed of mapped items
+pub sum_by-map : {X Y : Type 0} (f : Y → ℕ) (g : X → Y) (xs : List X)
+    → sum_by f (map g xs) ≡ sum_by (λ x. f (g x)) xs
+sum_by-map f g [] = refl
+sum_by-map f g (x ∷ xs) =
+    let rest = sum_by-map f g xs in
+    let one = sum_by-cons f (g x) (map g xs) in
+    let other = sum_by-cons (λ y. f (g y)) x xs in
+    omega arith

@@ -1,0 +1,106 @@
+//! Fork and join: the leaves of a tree, counted by the workers of a pool.
+ghost use Rattle.std.specs.Prelude.{◌≡◌, ◌^◌, ◌%◌, ◌↔◌, IfOk, IsErrOf, sum};
+ghost use Rattle.worker_pool.specs.Setup.{IsNoPoolSize};
+ghost use Rattle.uses.specs.Trees.{leaves_of};
+
+use event_count::EventCount;
+use run_queue::SlotRows;
+use std::alloc::{AllocError, Global};
+use std::sync::Wait;
+use std::test::Fail;
+use std::thread::Threads;
+use worker_pool::{Job, NoGate, PoolFault, Progress, Setup, VecLists, with_root};
+
+/// A tree whose kids are one lower and two lower than it. Below height 2 it is a leaf.
+#[derive(Debug, Drop)]
+struct Tree {
+    height: u32,
+}
+
+impl Job<Global> for Tree {
+    ghost use Rattle.uses.specs.Trees.{KeepsLeaves};
+
+    type Ctx = ();
+
+    type Out = u64;
+
+    type Abandoned = ();
+
+    ghost weight_of = { λ tree. tree.height };
+
+    ghost allows = { λ _ tree progress. KeepsLeaves (λ tree. tree.height) tree progress };
+
+    ghost abandons = { λ _ _ _. Unit {0} };
+
+    fn weight(&self) -> u64 {
+        u64::from(self.height)
+    }
+
+    fn step(self, _alloc: Global, _ctx: &()) -> Result<Progress<Tree, u64>, AllocError> {
+        let Tree { height } = self;
+        if height < 2 {
+            return Ok(Progress::Done(1));
+        }
+        let kid = Tree { height: height - 2 };
+        let rest = Tree { height: height - 1 };
+        Ok(Progress::Fork { kid, rest })
+    }
+
+    fn abandon(self, _ctx: &()) {}
+}
+
+// The sum of the numbers.
+fn added(numbers: &[u64]) -> u64
+    ensures { result ≡ sum numbers.now % 2 ^ 64 }
+{
+    let mut sum = 0u64;
+    for number in numbers {
+        sum = sum.wrapping_add(*number);
+    }
+    sum
+}
+
+/// How many leaves the tree of this height has.
+pub fn count_leaves<RT: Threads + Wait + Sync>(
+    rt: &RT,
+    alloc: Global,
+    workers: u32,
+    height: u32,
+) -> Result<u64, PoolFault>
+    ensures leaves { IfOk result (λ count. count ≡ leaves_of height % 2 ^ 64) }
+    ensures bad_workers { IsErrOf result PoolFault.BadWorkers ↔ IsNoPoolSize workers }
+{
+    let setup = Setup {
+        workers,
+        partitions: Vec::new(alloc),
+    };
+    let closed = with_root::<EventCount, SlotRows<Tree>, VecLists, RT, Tree, Global, NoGate, _>(
+        rt,
+        alloc,
+        &setup,
+        &(),
+        &NoGate,
+        Tree { height },
+        || {},
+    )?;
+    if closed.refused > 0 {
+        return Err(PoolFault::NoMemory);
+    }
+    let mut count = 0u64;
+    for outs in &closed.outs {
+        count = count.wrapping_add(added(outs));
+    }
+    Ok(count)
+}
+
+#[test]
+fn leaves_of_a_tree(rt: HostRuntime) -> Result<(), Fail> {
+    for (height, count) in [(0, 1), (1, 1), (2, 2), (10, 89), (20, 10_946)] {
+        assert_eq!(rt; count_leaves(&rt, rt.alloc(), 4, height)?, count);
+    }
+    assert_eq!(rt;
+        count_leaves(&rt, rt.alloc(), 0, 1),
+        Err(PoolFault::BadWorkers)
+    );
+    Ok(())
+}

@@ -1,0 +1,10 @@
+//! One caller of each crate of the kit, whole: the pages `CALLING.md` of those crates quote them.
+#![tactic(auto)]
+
+pub mod distances;
+pub mod fence;
+pub mod hand_over;
+pub mod leaves;
+pub mod squares;
+pub mod walk_once;
+pub mod word_alone;

@@ -1,0 +1,69 @@
+//! A parallel map: the square of each number of a list.
+ghost use Rattle.std.specs.Prelude.{◌≡◌, ◌*◌, IfOk, length, map};
+
+use parallel_for::{ForFault, Kernel, Setup, parallel_for};
+use std::alloc::{AllocError, Allocator, Global};
+use std::sync::Wait;
+use std::test::Fail;
+use std::thread::Threads;
+
+/// Has the square of a number at the number's place.
+#[derive(Drop)]
+struct Squares<'a> {
+    numbers: &'a [u32],
+}
+
+impl<'a> Kernel for Squares<'a> {
+    ghost use Rattle.std.specs.Prelude.{◌*◌, length, slice_index};
+
+    type Item = u64;
+
+    ghost size = { λ kernel. length kernel.numbers.now };
+
+    ghost item_at = { λ kernel place.
+        slice_index kernel.numbers.now place * slice_index kernel.numbers.now place };
+
+    fn fill<A: Allocator>(
+        &self,
+        alloc: A,
+        first: u64,
+        last: u64,
+    ) -> Result<Vec<u64, A>, AllocError> {
+        let mut squares = Vec::with_capacity(alloc, (last - first) as usize)?;
+        for place in first..last {
+            let number = u64::from(self.numbers[place as usize]);
+            squares.push_reserved(number * number);
+        }
+        Ok(squares)
+    }
+}
+
+/// The squares of the numbers, by so many workers, which take so many places at a time.
+pub fn squares_of<RT: Threads + Wait + Sync>(
+    rt: &RT,
+    alloc: Global,
+    setup: &Setup,
+    numbers: &[u32],
+    block: u64,
+) -> Result<Vec<u64>, ForFault>
+    ensures { IfOk result (λ squares. squares.items ≡ map (λ n. n * n) numbers.now) }
+{
+    let kernel = Squares { numbers };
+    let squares = parallel_for(rt, alloc, setup, &kernel, numbers.len() as u64, block)?;
+    Ok(squares)
+}
+
+#[test]
+fn squares_of_a_few(rt: HostRuntime) -> Result<(), Fail> {
+    let alloc = rt.alloc();
+    let setup = Setup {
+        workers: 2,
+        partitions: Vec::new(alloc),
+    };
+    let squares = squares_of(&rt, alloc, &setup, &[0, 1, 2, u32::MAX], 1)?;
+    assert_eq!(rt;
+        squares.as_slice(),
+        [0, 1, 4, 18_446_744_065_119_617_025].as_slice()
+    );
+    Ok(())
+}

@@ -1,0 +1,48 @@
+//! A schedule of a pool's threads, written down as events and tried without any thread.
+ghost use Rattle.std.specs.Prelude.{◌≡◌, ◌≤◌, ℕ, IfOk};
+ghost use Rattle.event_word.specs.Limits.{most_workers};
+ghost use Rattle.event_word.specs.Play.{Plays};
+ghost use Rattle.event_word.specs.Waking.{StaysAwake};
+ghost use Rattle.event_word.specs.World.{opening_world};
+
+use event_word::{Event, Phase, World, runs_stay_awake};
+use std::alloc::{AllocError, Global};
+use std::test::Fail;
+
+/// The World that the events lead to, with the impossible ones passed over. No schedule forgets a
+/// row with jobs while all workers sleep.
+pub fn tried(
+    alloc: Global,
+    workers: u16,
+    notifiers: u16,
+    rows: u16,
+    events: &[Event],
+) -> Result<World, AllocError>
+    requires some { 1 ≤ workers }
+    requires few { workers ≤ most_workers }
+    ensures played { IfOk result (λ world. (taken : ℕ)
+        × Plays (opening_world workers notifiers rows) events.now taken world) }
+    ensures awake { IfOk result StaysAwake }
+{
+    let mut world = World::new(alloc, workers, notifiers, rows)?;
+    world.play(events);
+    runs_stay_awake();
+    Ok(world)
+}
+
+// A worker is about to sleep while a job comes: whoever is first, it doesn't sleep on it.
+#[test]
+fn a_job_that_comes_late(rt: HostRuntime) -> Result<(), Fail> {
+    let events = [
+        Event::Prewait { seat: 0 },
+        Event::PassFlag { seat: 0 },
+        Event::Pass { seat: 0, row: 0 },
+        Event::Publish { actor: 1, row: 0 },
+        Event::Notify { actor: 1 },
+        Event::Commit { seat: 0 },
+    ];
+    let world = tried(rt.alloc(), 1, 1, 1, &events)?;
+    assert_eq!(rt; (world.phase(0), world.length(0)), (Phase::Running, 1));
+    assert!(rt; world.stack().is_empty());
+    Ok(())
+}
