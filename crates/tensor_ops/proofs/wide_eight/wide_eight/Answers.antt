@@ -1,19 +1,21 @@
-use Rattle.std.proofs.Common.{◌≡◌, ◌+◌, slice_index, arith}
-use Rattle.std.proofs.lemmas.Int.{to_z-of_z}
+use Rattle.std.proofs.Common.{◌≡◌, ◌+◌, ◌*◌, ◌/◌, ◌%◌, ◌<◌, ◌∙◌, length, length-set, arith}
+use Rattle.tensor_shape.specs.Wrap.{wrap}
 use Rattle.tensor_ops.specs.Places.{value_in}
-use Rattle.tensor_ops.specs.Products.{product_of, with_product}
-use Rattle.tensor_ops.proofs.ProductSums.{wrap-next}
+use Rattle.tensor_ops.specs.Products.{list_product}
+use Rattle.tensor_ops.proofs.ListWrites.{stored, set-next}
 use Rattle.tensor_ops.proofs.wide_eight.wide_eight.Goals as goal
 
-pub loop-q-preserved : goal.loop-q-preserved
-loop-q-preserved c t h =
-    let q = c.loop-q.q in
-    let f = product_of c.args.a.now (c.args.x + t) c.args.offsets.now c.args.b.now c.args.y
-    c.args.others.now in
-    let sum = c.add_eight.ensures t h in
-    let here : c.args.x + slice_index c.args.offsets.now q + t
-    ≡ c.args.x + t + slice_index c.args.offsets.now q = omega arith in
-    let added : value_in c.add_eight.new.sums t ≡ with_product (value_in c.loop-q.sums t) (f q) =
-    grind (arith, to_z-of_z, sum, here) in
-    wrap-next f q (value_in c.loop-q.sums t) (value_in c.add_eight.new.sums t)
-    (c.loop-q.invariant t h) added
+pub loop-t-preserved : goal.loop-t-preserved
+loop-t-preserved c =
+    let t = c.loop-t.t in
+    let s = t % 4 * 2 + t / 4 in
+    let few : s < 8 = omega arith in
+    let row : s % 2 * 4 + s / 2 ≡ t = omega arith in
+    let is = rw row at (c.dealt_eight-dealt.ensures s few) in (
+      simp length-set (c.loop-t.invariant.0),
+      set-next
+          (λ k. wrap (list_product c.args.a.now (c.args.x + k) c.args.offsets.now c.args.b.now
+          c.args.y c.args.others.now (length c.args.offsets.now)))
+          c.loop-t.sums t _ (omega arith) c.loop-t.invariant.1
+          (stored (value_in c.dealt_eight-dealt.result s) _ is ∙ is),
+    )

@@ -1,10 +1,12 @@
--- The products before q.
-use Rattle.std.proofs.Common.{◌≡◌, ℕ, ◌+◌, ◌<◌}
+-- The first t sums, in the order of their rows.
+use Rattle.std.proofs.Common.{◌≡◌, ℕ, ◌+◌, ◌<◌, length}
 use Rattle.tensor_shape.specs.Wrap.{wrap}
 use Rattle.tensor_ops.specs.Places.{value_in}
 use Rattle.tensor_ops.specs.Products.{list_product}
 use Rattle.tensor_ops.proofs.wide_eight.wide_eight.Given as goal
 
-abbrev pub invariant-loop-q : goal.invariant-loop-q
-invariant-loop-q l = (t : ℕ) → t < 8 → value_in l.sums t
-    ≡ wrap (list_product l.a (l.x + t) l.offsets l.b l.y l.others l.q)
+abbrev pub invariant-loop-t : goal.invariant-loop-t
+invariant-loop-t l =
+    (length l.sums ≡ 8)
+    × ((s : ℕ) → s < l.t → value_in l.sums s ≡ wrap (list_product l.fn.a (l.fn.x + s)
+    l.fn.offsets l.fn.b l.fn.y l.fn.others (length l.fn.offsets)))
