@@ -1,5 +1,7 @@
+ghost use Rattle.std.specs.Prelude.{◌≤◌};
+
 use crate::kernels::{Meeting, Places, Refusing};
-use parallel_for::{ForFault, parallel_for};
+use parallel_for::{ForFault, Kernel, parallel_for};
 use std::alloc::{AllocError, Global};
 use std::process::Abort;
 use std::sync::Wait;
@@ -40,6 +42,43 @@ fn expect_places<R: Threads + Wait + Abort + Sync>(
     for (place, item) in (0..n).zip(items) {
         assert_eq!(rt; item, place, "{workers} workers, block {block}");
     }
+    Ok(())
+}
+
+// Asserts that a kernel has these items from a place on, and so has one that is lent.
+fn expect_items<R: Abort>(
+    rt: &R,
+    alloc: Global,
+    first: u64,
+    items: &[u64],
+) -> Result<(), AllocError>
+    requires { first ≤ 100 }
+{
+    let last = first + items.len() as u64;
+    let own = filled(&Places, alloc, first, last)?;
+    let lent = filled(&&Places, alloc, first, last)?;
+    assert_eq!(rt; (own.as_slice(), lent.as_slice()), (items, items));
+    Ok(())
+}
+
+// The items of a range, by the kernel alone.
+fn filled<K: Kernel>(
+    kernel: &K,
+    alloc: Global,
+    first: u64,
+    last: u64,
+) -> Result<Vec<K::Item>, AllocError>
+    requires order { first ≤ last }
+    requires inside { last ≤ K.size kernel.now }
+{
+    kernel.fill(alloc, first, last)
+}
+
+#[test]
+fn items_by_a_kernel_alone(rt: HostRuntime) -> Result<(), Fail> {
+    expect_items(&rt, rt.alloc(), 0, &[0, 1, 2])?;
+    expect_items(&rt, rt.alloc(), 7, &[7, 8])?;
+    expect_items(&rt, rt.alloc(), 5, &[])?;
     Ok(())
 }
 

@@ -1,11 +1,15 @@
 //! Pools that aren't opened.
+use crate::bodies::run_limited;
 use crate::opened::{planted, scheduled};
 use crate::setups::setup_of;
 use crate::tree::Tree;
-use event_count::LockedCount;
-use run_queue::LockedRows;
+use event_count::{EventCount, LockedCount};
+use run_queue::{LockedRows, SlotRows};
+use std::alloc::Global;
+use std::sync::Wait;
 use std::test::Fail;
-use worker_pool::{PoolFault, VecLists};
+use std::thread::Threads;
+use worker_pool::{BoxedJob, NoGate, PoolFault, Setup, VecLists};
 
 type Locked = LockedRows<Tree>;
 
@@ -26,7 +30,24 @@ const OPENINGS: [(u32, &[(u32, u32)], Option<PoolFault>); 8] = [
     (256, &[], None),
 ];
 
-// Both ways to open a pool end with the same fault.
+// Why no pool is opened of which one worker is started, if it isn't.
+fn limited<RT>(rt: &RT, alloc: Global, setup: &Setup) -> Option<PoolFault>
+where
+    RT: Threads + Wait + Sync,
+{
+    run_limited::<EventCount, SlotRows<BoxedJob>, VecLists, RT, BoxedJob, NoGate>(
+        rt,
+        alloc,
+        setup,
+        &(),
+        &NoGate,
+        1,
+        Vec::new(alloc),
+        None,
+    ).err()
+}
+
+// All ways to open a pool end with the same fault.
 #[test]
 fn setups_that_are_not_opened(rt: HostRuntime) -> Result<(), Fail> {
     for (workers, ranges, fault) in OPENINGS {
@@ -39,8 +60,13 @@ fn setups_that_are_not_opened(rt: HostRuntime) -> Result<(), Fail> {
             LEAF,
         );
         let by_root = planted(&rt, rt.alloc(), &setup, LEAF);
-        let found = (by_caller.err(), by_root.err());
-        assert_eq!(rt; found, (fault, fault), "{workers} workers, {ranges:?}");
+        let by_limited = limited(&rt, rt.alloc(), &setup);
+        let found = (by_caller.err(), by_root.err(), by_limited);
+        assert_eq!(rt;
+            found,
+            (fault, fault, fault),
+            "{workers} workers, {ranges:?}"
+        );
     }
     Ok(())
 }

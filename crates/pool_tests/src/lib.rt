@@ -14,6 +14,8 @@ mod kinds;
 #[cfg(test)]
 mod limited;
 #[cfg(test)]
+mod lists;
+#[cfg(test)]
 mod opened;
 #[cfg(test)]
 mod over_slots;
@@ -30,6 +32,10 @@ mod setups;
 #[cfg(test)]
 mod slots;
 #[cfg(test)]
+mod spent;
+#[cfg(test)]
 mod tasks;
 #[cfg(test)]
 mod tree;
+#[cfg(test)]
+mod worn;

@@ -23,7 +23,7 @@ fn sorted(alloc: Global, lists: Vec<Vec<u64>>) -> Result<Vec<u64>, AllocError> {
 }
 
 // What so many workers leave of a tree of this height.
-fn grown<W, R, RT>(
+pub(crate) fn grown<W, R, RT>(
     rt: &RT,
     alloc: Global,
     workers: u32,
@@ -44,7 +44,7 @@ where
 }
 
 // Each of so many leaves stands once among the outs.
-fn expect_each_once<RT: Abort>(
+pub(crate) fn expect_each_once<RT: Abort>(
     rt: &RT,
     alloc: Global,
     closed: Closed<Tree>,

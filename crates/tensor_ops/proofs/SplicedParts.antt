@@ -1,14 +1,14 @@
 -- Parts of values of two operands in turns.
 use Rattle.std.proofs.Common.{◌≡◌, ℕ, zero, suc, ℤ, pos, ◌+◌, ◌-◌, ◌%◌, ◌<◌, ◌≤◌, List, [], ◌∷◌, ◌++◌, length, map, take, drop, get_or}
-use Rattle.std.proofs.Common.{Bool, true, false, not, refl, ap, sym, ◌∙◌, arith, inl, inr}
+use Rattle.std.proofs.Common.{Bool, true, false, if◌then◌else◌, not, refl, ap, sym, ◌∙◌, arith, inl, inr}
 use Rattle.std.specs.List.{range_with_len, filter}
 use Rattle.std.proofs.lemmas.Bool.{cases_Bool}
 use Rattle.std.proofs.lemmas.List.{length-map, length-take-le, get_or-map, take_more, map-append}
 use Rattle.std.proofs.lemmas.List.Filters.{length-filter_both, length-filter_more}
 use Rattle.std.proofs.lemmas.List.FromFn.{length-map-range_with_len, get_or-map-range_with_len}
-use Rattle.tensor_ops.specs.Splicing.{is_of_first, firsts_before, seconds_before, spliced}
-use Rattle.tensor_ops.proofs.InTurns.{firsts-seconds, firsts_before-next, firsts_before-same, firsts-le, seconds-le, first-in_turn, second-in_turn}
-use Rattle.tensor_ops.proofs.Runs.{map-shifted, part-read}
+use Rattle.tensor_ops.specs.Splicing.{is_of_first, firsts_before, seconds_before, spliced, HaveTurns}
+use Rattle.tensor_ops.proofs.InTurns.{firsts-seconds, firsts_before-next, firsts_before-same, firsts-le, seconds-le, first-in_turn, second-in_turn, firsts-run, seconds-run}
+use Rattle.tensor_ops.proofs.Runs.{map-shifted, part-read, row-more}
 
 -- a part of the values of a run
 take-run : (f : ℕ → ℤ) (xs : List ℤ) (a n s c : ℕ) → xs ≡ map f (range_with_len a n) → s + c ≤ n
@@ -42,6 +42,20 @@ module _ (v w : ℕ) (some : 0 < v + w) (from place end : ℕ) (above : from ≤
         firsts-seconds v w (place + (end - place - 1)),
       )
 
+  -- which are places that the operand has
+  module _ (m n : ℕ) (turns : HaveTurns v w m n) (within : end ≤ m + n) where
+    pub first-within : true ≡ is_of_first v w place
+        → place % (v + w) + (end - place) ≤ (if is_of_first v w place then v else v + w)
+        → firsts_before v w place + (end - place) ≤ m
+    first-within first turn =
+        omega (arith, firsts_before-part (sym first) (rw (← first) at turn), (firsts-run v w m n turns place end (omega arith) within).1)
+
+    pub second-within : false ≡ is_of_first v w place
+        → place % (v + w) + (end - place) ≤ (if is_of_first v w place then v else v + w)
+        → seconds_before v w place + (end - place) ≤ n
+    second-within second turn =
+        omega (arith, seconds_before-part (sym second) (rw (← second) at turn), (seconds-run v w m n turns place end (omega arith) within).1)
+
   -- and they have its values
   pub take-first : (f g : ℕ → ℤ) (xs : List ℤ) (n : ℕ) → is_of_first v w place ≡ true → place % (v + w) + (end - place) ≤ v
       → xs ≡ map f (range_with_len (firsts_before v w from) n) → firsts_before v w end - firsts_before v w from ≤ n
@@ -68,6 +82,30 @@ module _ (v w : ℕ) (some : 0 < v + w) (from place end : ℕ) (above : from ≤
       ∙ ap (λ a. map g (range_with_len a (end - place))) start
       ∙ map-shifted g (spliced v w f g) (seconds_before v w place) place (end - place)
       (λ k below. let here = second-in_turn v w place k second (omega arith) in rw (here.0, here.1) refl)
+
+  -- the values up to the part, and then those of the part
+  module _ (f g : ℕ → ℤ) (start : ℕ) (xs ys zs : List ℤ)
+      (before : ys ≡ xs ++ map (spliced v w f g) (range_with_len from (place - from)))
+      (turn : place % (v + w) + (end - place) ≤ (if is_of_first v w place then v else v + w)) where
+    pub add-first : true ≡ is_of_first v w place → start ≡ firsts_before v w place
+        → zs ≡ ys ++ map f (range_with_len start (start + (end - place) - start))
+        → zs ≡ xs ++ map (spliced v w f g) (range_with_len from (end - from))
+    add-first first at added =
+        let part = rw (← first) at turn in
+        let long : place + (end - place) ≡ end = omega arith in
+        row-more (spliced v w f g) f from place start (end - place) xs ys zs above before added
+        (λ k below. let here = first-in_turn v w place k (sym first) (omega arith) in rw (here.0, here.1, at) refl)
+        ∙ ap (λ p. xs ++ map (spliced v w f g) (range_with_len from (p - from))) long
+
+    pub add-second : false ≡ is_of_first v w place → start ≡ seconds_before v w place
+        → zs ≡ ys ++ map g (range_with_len start (start + (end - place) - start))
+        → zs ≡ xs ++ map (spliced v w f g) (range_with_len from (end - from))
+    add-second second at added =
+        let part = rw (← second) at turn in
+        let long : place + (end - place) ≡ end = omega arith in
+        row-more (spliced v w f g) g from place start (end - place) xs ys zs above before added
+        (λ k below. let here = second-in_turn v w place k (sym second) (omega arith) in rw (here.0, here.1, at) refl)
+        ∙ ap (λ p. xs ++ map (spliced v w f g) (range_with_len from (p - from))) long
 
 -- no more than the places passed are of one operand
 pub length-places-le : (m : ℕ → ℕ) (P : ℕ → Bool) (ps : List ℕ) (i : ℕ) → i ≤ length ps → length (map m (filter P (take i ps))) ≤ i

@@ -1,7 +1,7 @@
 //! Placed expressions: what is left of an expression once index lists are settled, a tree whose
 //! values are asked for by place. The values are worked out by loops over places.
 
-ghost use Rattle.std.specs.Prelude.{◌≡◌, ◌≤◌, ◌-◌, ◌+◌, length, map, IfOk, IfSome};
+ghost use Rattle.std.specs.Prelude.{◌≡◌, ◌≤◌, ◌-◌, ◌+◌, ◌++◌, length, map, IfOk, IfSome, OnOk};
 ghost use Rattle.std.specs.Cow.{cow_slice_items};
 ghost use Rattle.std.specs.List.{range_with_len};
 ghost use Rattle.tensor_ops.specs.Meaning.{meaning, count_of, IsSound, IsListOf};
@@ -20,6 +20,9 @@ use std::borrow::CowSlice;
 
 /// How many places are worked out at a time, so that their values stay in the nearest cache.
 const PIECE: usize = 1024;
+
+/// How many places a turn of two operands has at least where their values are added part by part.
+const LONG_TURN: usize = 64;
 
 /// An expression over inputs that are lent, without dims, index lists and arguments. Where there
 /// are several operands the first is the one that wants the most memory, which is then worked out
@@ -65,8 +68,7 @@ impl<'a> Placed<'a> {
         let mut from = first;
         while from < last {
             let to = from + (last - from).min(PIECE);
-            let piece = values_at(alloc, self, &Places::Run(from, to))?;
-            values.extend_from_slice(piece.as_slice())?;
+            add_values(alloc, self, from, to, &mut values)?;
             from = to;
         }
         Ok(values)
@@ -91,6 +93,69 @@ impl<'a> Placed<'a> {
             _ => None,
         }
     }
+}
+
+/// Adds the values at the places from one to before another. Where two operands have long turns
+/// each value is copied once, from where it is.
+#[cycle(add_values)]
+fn add_values<A: Allocator>(
+    alloc: Global,
+    placed: &Placed<'_>,
+    from: usize,
+    to: usize,
+    values: &mut Vec<i64, A>,
+) -> Result<(), AllocError>
+    requires order { from ≤ to }
+    requires sound { IsSound placed.now }
+    requires within { to ≤ count_of placed.now }
+    ensures { OnOk result (values.new.items ≡ values.old.items
+        ++ map (meaning placed.now) (range_with_len from (to - from))) }
+{
+    match placed {
+        Placed::Spliced(turns, first, second) if turns.first + turns.second >= LONG_TURN => {
+            add_turns(alloc, *turns, first, second, from, to, values)
+        }
+        _ => {
+            let piece = values_at(alloc, placed, &Places::Run(from, to))?;
+            values.extend_from_slice(piece.as_slice())
+        }
+    }
+}
+
+/// Adds the values of two operands in turns at the places from one to before another, by what is of
+/// one operand and one turn.
+#[cycle(add_values)]
+fn add_turns<A: Allocator>(
+    alloc: Global,
+    turns: Turns,
+    first: &Placed<'_>,
+    second: &Placed<'_>,
+    from: usize,
+    to: usize,
+    values: &mut Vec<i64, A>,
+) -> Result<(), AllocError>
+    requires order { from ≤ to }
+    requires first { IsSound first.now }
+    requires second { IsSound second.now }
+    requires turns { HaveTurns turns.first turns.second (count_of first.now) (count_of second.now) }
+    requires within { to ≤ count_of first.now + count_of second.now }
+    ensures { OnOk result (values.new.items ≡ values.old.items
+        ++ map (spliced turns.first turns.second (meaning first.now) (meaning second.now))
+        (range_with_len from (to - from))) }
+{
+    let mut place = from;
+    while place < to {
+        let end = turns.end_after(place, to);
+        if turns.is_of_first(place) {
+            let start = turns.firsts_before(place);
+            add_values(alloc, first, start, start + (end - place), values)?;
+        } else {
+            let start = turns.seconds_before(place);
+            add_values(alloc, second, start, start + (end - place), values)?;
+        }
+        place = end;
+    }
+    Ok(())
 }
 
 /// The values at places, in their order. Those of a run of a list are lent.

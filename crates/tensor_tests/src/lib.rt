@@ -8,7 +8,11 @@
 #[cfg(test)]
 mod bytes;
 #[cfg(test)]
+mod copies;
+#[cfg(test)]
 mod dims;
+#[cfg(test)]
+mod endings;
 #[cfg(test)]
 mod evaluation;
 #[cfg(test)]
@@ -25,6 +29,8 @@ mod requests;
 mod result_dims;
 #[cfg(test)]
 mod shards;
+#[cfg(test)]
+mod step_kernels;
 #[cfg(test)]
 mod tensors;
 #[cfg(test)]

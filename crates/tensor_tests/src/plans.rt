@@ -23,7 +23,7 @@ fn tensor(alloc: Global, sizes: &[u64], values: &[i64]) -> Result<Tensor, Fail>
 }
 
 /// Four inputs: of 2 by 3, of 3 by 2, of 2, and a scalar.
-fn four_inputs(alloc: Global) -> Result<Inputs, Fail>
+pub(crate) fn four_inputs(alloc: Global) -> Result<Inputs, Fail>
     ensures { IfOk result (λ inputs. (length inputs.tensors ≡ 4) × (inputs.rank ≡ 8)) }
 {
     let first = tensor(alloc, &[2, 3], &[1, 4, 2, 5, 3, 6])?;
@@ -79,7 +79,7 @@ fn has_steps(rt: &impl Abort, alloc: Global, expr: &Expr, count: usize) -> Resul
 }
 
 /// The contraction of the first input's columns with the second's rows.
-fn contraction(alloc: Global, first: Expr) -> Result<Expr, AllocError>
+pub(crate) fn contraction(alloc: Global, first: Expr) -> Result<Expr, AllocError>
     ensures { IfOk result (λ e.
         IsTrue (has_inputs (term_of first) 4) → IsTrue (has_inputs (term_of e) 4)) }
 {

@@ -11,10 +11,10 @@ use tensor_runner::{CountedReader, CountedWriter, Status, StreamFault, run};
 
 /// Gives a byte a call, and fails after so many calls.
 #[derive(Drop)]
-struct Dripping<'t> {
-    rest: &'t [u8],
-    good_calls: u64,
-    kind: io::ErrorKind,
+pub(crate) struct Dripping<'t> {
+    pub(crate) rest: &'t [u8],
+    pub(crate) good_calls: u64,
+    pub(crate) kind: io::ErrorKind,
 }
 
 impl<'t> Read for Dripping<'t> {

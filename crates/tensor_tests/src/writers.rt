@@ -11,18 +11,18 @@ use tensor_runner::{CountedReader, CountedWriter, Status, StreamFault, run};
 
 /// What a writer does where its room is full.
 #[derive(Clone, Copy, Debug, Drop, Eq, PartialEq)]
-enum Full {
+pub(crate) enum Full {
     Fails,
     TakesNone,
 }
 
 /// Takes some bytes a call, until its room is full.
 #[derive(Drop)]
-struct Narrow {
-    taken: Vec<u8>,
-    most_a_call: usize,
-    room: usize,
-    full: Full,
+pub(crate) struct Narrow {
+    pub(crate) taken: Vec<u8>,
+    pub(crate) most_a_call: usize,
+    pub(crate) room: usize,
+    pub(crate) full: Full,
 }
 
 impl Write for Narrow {

@@ -1,5 +1,5 @@
 -- Sums of numbers, and of numbers of lists.
-use Rattle.std.proofs.Common.{◌≡◌, ℕ, List, [], ◌∷◌, map, refl, arith}
+use Rattle.std.proofs.Common.{◌≡◌, ℕ, zero, suc, ◌<◌, List, [], ◌∷◌, length, get_or, map, refl, arith}
 use Rattle.std.specs.Prelude.{sum, sum_by}
 use Rattle.std.specs.List.{flat_map}
 use Rattle.std.proofs.lemmas.List.Sums.{sum_by-cons, sum_by-append}
@@ -31,4 +31,29 @@ sum_by-map f g (x ∷ xs) =
     let rest = sum_by-map f g xs in
     let one = sum_by-cons f (g x) (map g xs) in
     let other = sum_by-cons (λ y. f (g y)) x xs in
+    omega arith
+
+-- sums of items that weigh the same, place by place
+pub sum_by-same : {X Y : Type 0} (f : X → ℕ) (g : Y → ℕ) (xs : List X) (ys : List Y)
+    → length xs ≡ length ys
+    → ((i : ℕ) (d : X) (e : Y) → i < length xs → f (get_or xs i d) ≡ g (get_or ys i e))
+    → sum_by f xs ≡ sum_by g ys
+sum_by-same f g [] [] same each = refl
+sum_by-same f g [] (y ∷ ys) same each = absurd (omega (arith, same))
+sum_by-same f g (x ∷ xs) [] same each = absurd (omega (arith, same))
+sum_by-same f g (x ∷ xs) (y ∷ ys) same each =
+    let here = each zero x y (omega arith) in
+    let rest = sum_by-same f g xs ys (omega (arith, same)) (λ i d e below. each (suc i) d e (omega (arith, below))) in
+    let one = sum_by-cons f x xs in
+    let other = sum_by-cons g y ys in
+    omega arith
+
+-- items that weigh nothing
+pub sum_by-none : {X : Type 0} (f : X → ℕ) (xs : List X)
+    → ((i : ℕ) (d : X) → i < length xs → f (get_or xs i d) ≡ 0) → sum_by f xs ≡ 0
+sum_by-none f [] each = refl
+sum_by-none f (x ∷ xs) each =
+    let here = each zero x (omega arith) in
+    let rest = sum_by-none f xs (λ i d below. each (suc i) d (omega (arith, below))) in
+    let one = sum_by-cons f x xs in
     omega arith

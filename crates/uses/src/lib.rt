@@ -6,5 +6,6 @@ pub mod fence;
 pub mod hand_over;
 pub mod leaves;
 pub mod squares;
+pub mod stolen_sum;
 pub mod walk_once;
 pub mod word_alone;

@@ -1,0 +1,120 @@
+//! Steps by their kernels, and plans that are run.
+
+ghost use Rattle.std.specs.Prelude.{◌++◌, IsTrue, IfOk};
+ghost use Rattle.tensor_reduce.specs.Plan.{IsReady};
+ghost use Rattle.tensor_reduce.specs.Term.{has_inputs};
+ghost use Rattle.tensor_reduce.specs.Tree.{term_of};
+
+use crate::plans::{contraction, four_inputs};
+use std::alloc::{AllocError, Global};
+use std::process::Abort;
+use std::sync::Wait;
+use std::test::Fail;
+use std::thread::Threads;
+use tensor_ops::{Expr, Inputs, Tensor, TensorEvaluator, eval_plain};
+use tensor_reduce::{ForFault, Kernel, Plan, PoolFault, Setup, Step, StepKernel, run_plan};
+
+/// The values of the squares of the first input's columns contracted with the second's rows.
+const SQUARES: [i64; 4] = [484, 2401, 784, 4096];
+
+/// That expression, which has two steps.
+fn squares(alloc: Global) -> Result<Expr, AllocError>
+    ensures { IfOk result (λ e. IsTrue (has_inputs (term_of e) 4)) }
+{
+    let product = contraction(alloc, Expr::Input(0))?;
+    Ok(Expr::Square(Box::new(alloc, product)?))
+}
+
+/// A step of which these are the tensors of the steps before it, by its kernel and by an
+/// evaluator: the values of two ranges that meet at a place, and of the second one.
+fn gives_squares(
+    rt: &impl Abort,
+    alloc: Global,
+    step: &Step,
+    inputs: &Inputs,
+    earlier: &[Tensor],
+    place: u64,
+) -> Result<(), Fail>
+    requires { IsReady step.now (inputs.now.tensors ++ earlier.now) }
+{
+    let kernel = StepKernel::of(alloc, step, inputs, earlier)?;
+    let evaluator = TensorEvaluator::over(alloc, step.expr(), inputs, earlier)?;
+    let size = step.dims().size();
+    assert!(rt; place <= size);
+    let mut filled = kernel.fill(alloc, 0, place)?;
+    let upper = kernel.fill(alloc, place, size)?;
+    filled.extend_from_slice(upper.as_slice())?;
+    assert_eq!(rt; filled.as_slice(), SQUARES.as_slice());
+    let values = evaluator.values(alloc, place, size)?;
+    assert_eq!(rt; values.as_slice(), upper.as_slice());
+    Ok(())
+}
+
+/// The last of the steps of the squares, over the tensor of the first.
+fn last_gives_squares(rt: &impl Abort, alloc: Global, place: u64) -> Result<(), Fail> {
+    let inputs = four_inputs(alloc)?;
+    let expr = squares(alloc)?;
+    expr.dims(&inputs)?;
+    let plan = Plan::of(alloc, &expr, &inputs)?;
+    let [first, last] = plan.steps() else {
+        return Err("not two steps".into());
+    };
+    let earlier = [eval_plain(alloc, first.expr(), &inputs)?];
+    gives_squares(rt, alloc, last, &inputs, &earlier, place)
+}
+
+#[test]
+fn values_of_a_step_in_two_ranges(rt: HostRuntime) -> Result<(), Fail> {
+    for place in 0..=4 {
+        last_gives_squares(&rt, rt.alloc(), place)?;
+    }
+    Ok(())
+}
+
+/// What is answered for the squares on so many workers, by blocks of so many places.
+fn run_squares<RT: Threads + Wait + Sync>(
+    rt: &RT,
+    alloc: Global,
+    workers: u32,
+    block: u64,
+) -> Result<Result<Vec<i64>, ForFault>, Fail> {
+    let inputs = four_inputs(alloc)?;
+    let expr = squares(alloc)?;
+    expr.dims(&inputs)?;
+    let plan = Plan::of(alloc, &expr, &inputs)?;
+    if plan.steps().len() != 2 {
+        return Err("not two steps".into());
+    }
+    let setup = Setup {
+        workers,
+        partitions: Vec::new(alloc),
+    };
+    match run_plan(rt, alloc, &setup, block, &plan, &inputs) {
+        Ok(tensor) => Ok(Ok(tensor.values().to_vec(alloc)?)),
+        Err(fault) => Ok(Err(fault)),
+    }
+}
+
+#[test]
+fn tensor_of_a_plan(rt: HostRuntime) -> Result<(), Fail> {
+    for (workers, block) in [(1, 1), (1, 100), (2, 1), (3, 3), (64, 2)] {
+        let values = run_squares(&rt, rt.alloc(), workers, block)??;
+        assert_eq!(rt; values.as_slice(), SQUARES.as_slice());
+    }
+    Ok(())
+}
+
+/// By number: the block before the workers.
+#[test]
+fn faults_of_a_plan(rt: HostRuntime) -> Result<(), Fail> {
+    for (workers, block, fault) in [
+        (0, 0, ForFault::BadBlock),
+        (1, 0, ForFault::BadBlock),
+        (0, 1, ForFault::Pool(PoolFault::BadWorkers)),
+        (257, 1, ForFault::Pool(PoolFault::BadWorkers)),
+    ] {
+        let ended = run_squares(&rt, rt.alloc(), workers, block)?;
+        assert_eq!(rt; ended.err(), Some(fault));
+    }
+    Ok(())
+}
