@@ -1,3 +1,4 @@
+pub mod Counts
 pub mod Heights
 pub mod Histories
 pub mod Maps

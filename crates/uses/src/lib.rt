@@ -4,6 +4,7 @@
 pub mod distances;
 pub mod fence;
 pub mod hand_over;
+pub mod histogram;
 pub mod leaves;
 pub mod squares;
 pub mod stolen_sum;

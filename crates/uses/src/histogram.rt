@@ -1,0 +1,128 @@
+//! A parallel histogram: how often each byte stands in a text.
+ghost use Rattle.std.specs.Prelude.{◌≡◌, ◌+◌, ◌%◌, ◌^◌, ◌<◌, ℕ, IfOk, length, slice_index, sum_by};
+ghost use Rattle.parallel_for.specs.Leaves.{blocks_of};
+ghost use Rattle.uses.specs.Counts.{counts_of, part_of};
+
+use parallel_for::{ForFault, Kernel, Setup, blocks, parallel_for};
+use std::alloc::{AllocError, Allocator, Global};
+use std::sync::Wait;
+use std::test::Fail;
+use std::thread::Threads;
+
+/// Has the counts of a part of the text at the part's number.
+#[derive(Drop)]
+struct Parts<'a> {
+    text: &'a [u8],
+    part_length: u64,
+    ghost some: { 0 < part_length },
+}
+
+impl<'a> Kernel for Parts<'a> {
+    ghost use Rattle.std.specs.Prelude.{length};
+    ghost use Rattle.parallel_for.specs.Leaves.{blocks_of};
+    ghost use Rattle.uses.specs.Counts.{counts_of, part_of};
+
+    type Item = [u64; 256];
+
+    ghost size = { λ kernel. blocks_of (length kernel.text.now) kernel.part_length };
+
+    ghost item_at = { λ kernel i. counts_of (part_of kernel.text.now kernel.part_length i) };
+
+    fn fill<A: Allocator>(
+        &self,
+        alloc: A,
+        first: u64,
+        last: u64,
+    ) -> Result<Vec<[u64; 256], A>, AllocError> {
+        let mut filled = Vec::with_capacity(alloc, (last - first) as usize)?;
+        for i in first..last {
+            filled.push_reserved(counted(part_at(self.text, self.part_length, i)));
+        }
+        Ok(filled)
+    }
+}
+
+// Part i of the text.
+fn part_at(text: &[u8], part_length: u64, i: u64) -> &[u8]
+    requires some { 0 < part_length }
+    requires inside { i < blocks_of (length text.now) part_length }
+    ensures { result.now ≡ part_of text.now part_length i }
+{
+    let rest = &text[(i * part_length) as usize..];
+    &rest[..rest.len().min(part_length as usize)]
+}
+
+// How often each byte stands in the text.
+fn counted(text: &[u8]) -> [u64; 256]
+    ensures { result ≡ counts_of text.now }
+{
+    let mut counts = [0u64; 256];
+    for byte in text {
+        counts[usize::from(*byte)] += 1;
+    }
+    counts
+}
+
+// Adds counts to others, modulo 2^64.
+fn add(total: &mut [u64; 256], counts: &[u64; 256])
+    ensures all { length total.new ≡ 256 }
+    ensures sums { (b : ℕ) → b < 256 → slice_index total.new b
+        ≡ (slice_index total.old b + slice_index counts.now b) % 2 ^ 64 }
+{
+    for byte in 0..256 {
+        total[byte] = total[byte].wrapping_add(counts[byte]);
+    }
+}
+
+// The counts of all parts together, modulo 2^64.
+fn added(parts: &[[u64; 256]]) -> [u64; 256]
+    ensures all { length result ≡ 256 }
+    ensures sums { (b : ℕ) → b < 256 → slice_index result b
+        ≡ sum_by (λ part. slice_index part b) parts.now % 2 ^ 64 }
+{
+    let mut total = [0u64; 256];
+    for part in parts {
+        add(&mut total, part);
+    }
+    total
+}
+
+/// How often each byte stands in the text, of which each part of so many bytes is counted on some
+/// worker. Parts of no length are `BadBlock`.
+pub fn histogram<RT: Threads + Wait + Sync>(
+    rt: &RT,
+    alloc: Global,
+    setup: &Setup,
+    text: &[u8],
+    part_length: u64,
+) -> Result<[u64; 256], ForFault>
+    ensures { IfOk result (λ counts. counts ≡ counts_of text.now) }
+{
+    if part_length == 0 {
+        return Err(ForFault::BadBlock);
+    }
+    let kernel = Parts { text, part_length };
+    let parts = blocks(text.len() as u64, part_length);
+    let counts = parallel_for(rt, alloc, setup, &kernel, parts, 1)?;
+    Ok(added(&counts))
+}
+
+#[test]
+fn counts_of_a_few(rt: HostRuntime) -> Result<(), Fail> {
+    let alloc = rt.alloc();
+    let setup = Setup {
+        workers: 2,
+        partitions: Vec::new(alloc),
+    };
+    let mut few = [0; 256];
+    for (byte, count) in [(b'a', 5), (b'b', 2), (b'c', 1), (b'd', 1), (b'r', 2)] {
+        few[usize::from(byte)] = count;
+    }
+    for part_length in [1, 3, 4, 100] {
+        let counts = histogram(&rt, alloc, &setup, b"abracadabra", part_length)?;
+        assert_eq!(rt; counts.as_slice(), few.as_slice());
+    }
+    let none = histogram(&rt, alloc, &setup, b"", 1)?;
+    assert_eq!(rt; none.as_slice(), [0; 256].as_slice());
+    Ok(())
+}
