@@ -1,5 +1,6 @@
 //! A parallel histogram: how often each byte stands in a text.
-ghost use Rattle.std.specs.Prelude.{◌≡◌, ◌+◌, ◌%◌, ◌^◌, ◌<◌, ℕ, IfOk, length, slice_index, sum_by};
+ghost use Rattle.std.specs.Prelude.{◌≡◌, ◌+◌, ◌%◌, ◌^◌, ◌<◌, ℕ, IfOk, IsErrOf};
+ghost use Rattle.std.specs.Prelude.{length, slice_index, sum_by};
 ghost use Rattle.parallel_for.specs.Leaves.{blocks_of};
 ghost use Rattle.uses.specs.Counts.{counts_of, part_of};
 
@@ -96,7 +97,8 @@ pub fn histogram<RT: Threads + Wait + Sync>(
     text: &[u8],
     part_length: u64,
 ) -> Result<[u64; 256], ForFault>
-    ensures { IfOk result (λ counts. counts ≡ counts_of text.now) }
+    ensures counts { IfOk result (λ counts. counts ≡ counts_of text.now) }
+    ensures bad_block { part_length ≡ 0 → IsErrOf result ForFault.BadBlock }
 {
     if part_length == 0 {
         return Err(ForFault::BadBlock);
@@ -124,5 +126,7 @@ fn counts_of_a_few(rt: HostRuntime) -> Result<(), Fail> {
     }
     let none = histogram(&rt, alloc, &setup, b"", 1)?;
     assert_eq!(rt; none.as_slice(), [0; 256].as_slice());
+    let uncut = histogram(&rt, alloc, &setup, b"abracadabra", 0);
+    assert_eq!(rt; uncut.err(), Some(ForFault::BadBlock));
     Ok(())
 }

@@ -8,8 +8,8 @@ use Rattle.uses.specs.Counts.{count_of, counts_of, part_of}
 use Rattle.uses.proofs.Counts.{get_or-counts_of, length-counts_of, sum_by-parts}
 use Rattle.uses.proofs.histogram.histogram.Goals as goal
 
-pub returns : goal.returns
-returns g c =
+pub returns-clause-counts : goal.returns-clause-counts
+returns-clause-counts g c =
     let text = c.args.text.now in
     let part_length = c.args.part_length in
     let parts = c.blocks-parts.result in
