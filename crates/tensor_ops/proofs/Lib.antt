@@ -1,5 +1,6 @@
 pub mod AxisLists
 pub mod Combined
+pub mod CombinedRows
 pub mod Contractions
 pub mod Convolutions
 pub mod Convolved

@@ -106,6 +106,14 @@ module _ (ps : List ℕ) where
       ∙ ap (λ l. o (get_or l k (pos 0)) (get_or ys k (pos 0))) left ∙ ap (λ x. o x (get_or ys k (pos 0))) (get_or-map f ps k 0 (pos 0) below)
       ∙ ap (λ l. o (f (get_or ps k 0)) (get_or l k (pos 0))) right ∙ ap (o (f (get_or ps k 0))) (get_or-map g ps k 0 (pos 0) below))
 
+  -- the same where the second values are a function's at each place
+  pub places-paired : (o : ℤ → ℤ → ℤ) (f g : ℕ → ℤ) (xs vs : List ℤ) → xs ≡ map f ps → length vs ≡ length ps
+      → ((k : ℕ) → k < length ps → get_or vs k (pos 0) ≡ o (get_or xs k (pos 0)) (g (get_or ps k 0))) → vs ≡ map (λ p. o (f p) (g p)) ps
+  places-paired o f g xs vs left long each =
+      places-read (λ p. o (f p) (g p)) ps vs long
+      (λ k below. each k below
+      ∙ ap (λ l. o (get_or l k (pos 0)) (g (get_or ps k 0))) left ∙ ap (λ x. o x (g (get_or ps k 0))) (get_or-map f ps k 0 (pos 0) below))
+
   -- a function of the places that another one gives
   pub places-moved : (f : ℕ → ℤ) (m : ℕ → ℕ) → map f (map m ps) ≡ map (λ p. f (m p)) ps
   places-moved f m = map-map-of f m ps

@@ -9,6 +9,7 @@ use Rattle.tensor_ops.specs.Scalars.{applied}
 use Rattle.tensor_ops.specs.Splicing.{spliced, HaveTurns}
 use Rattle.tensor_ops.specs.Walk.{walk_size, reached}
 use Rattle.tensor_ops.specs.declared.placed.Placed.{Placed}
+use Rattle.tensor_ops.specs.declared.walk.Reading.{Reading}
 use Rattle.tensor_ops.specs.declared.placed.Placed.TheVariants.{Lent, Kept, Same}
 use Rattle.tensor_ops.specs.declared.placed.Placed.TheVariants.{Unary', Binary', Select', Walk'}
 use Rattle.tensor_ops.specs.declared.placed.Placed.TheVariants.{Spliced'}
@@ -82,3 +83,11 @@ IsSound-prop (Spliced' turns k a l b) =
 pub record IsListOf (placed : Placed) (values : List ℤ) : Type 0 where
   pub count : count_of placed ≡ length values
   pub each : (p : ℕ) → meaning placed p ≡ value_in values p
+
+-- its values are those of a list along a walk, which stays in the list
+pub record IsReadingOf (placed : Placed) (reading : Reading) : Type 0 where
+  pub count : count_of placed ≡ walk_size reading.axes.now
+  pub each : (p : ℕ) → meaning placed p ≡ value_in reading.list.now (reached reading.start reading.axes.now p)
+  pub inside : (p : ℕ) → p < walk_size reading.axes.now
+      → reached reading.start reading.axes.now p < length reading.list.now
+  pub few : length reading.list.now ≤ most_elements

@@ -1,6 +1,7 @@
 -- Walks: the operand's places in the order of the result's, by a size and a step an axis.
 use Rattle.std.specs.Prelude.{ℕ, ◌+◌, ◌-◌, ◌*◌, ◌/◌, ◌%◌, List, [], ◌∷◌, slice_index, if◌then◌else◌}
 use Rattle.tensor_ops.specs.declared.walk.Axis.{Axis}
+use Rattle.tensor_ops.specs.declared.walk.Row.{Row}
 
 -- how many places the axes have, the fastest first
 abbrev pub walk_size : List Axis → ℕ
@@ -20,3 +21,7 @@ reached start (a ∷ rest) p = reached start rest (p / a.size) + steps_to a (p %
 abbrev pub along : List ℕ → Axis → ℕ → ℕ → ℕ
 along rows a first p =
     slice_index rows (p / a.size - first / a.size) + steps_to a (p % a.size) * a.step
+
+-- the place of a part of a row at one of its numbers
+abbrev pub place_in : Row → ℕ → ℕ
+place_in row k = row.start + steps_to row.axis (row.from + k) * row.axis.step

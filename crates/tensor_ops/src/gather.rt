@@ -147,8 +147,38 @@ fn gather_row(
     if axis.step == 1 && !axis.falls && from < to {
         return gathered.extend_from_slice(&values[row + from..row + to]);
     }
+    match (axis.step, axis.falls) {
+        (1, true) => gather_each(gathered, values, row, axis.known(1, true), from, to),
+        (0, false) => gather_each(gathered, values, row, axis.known(0, false), from, to),
+        _ => gather_each(gathered, values, row, axis, from, to),
+    }
+    Ok(())
+}
+
+/// Appends a row's values from index to index, one by one. The step is a constant where it can be,
+/// so that each call becomes a loop of its own.
+#[inline(always)]
+fn gather_each(
+    gathered: &mut Vec<i64>,
+    values: &[i64],
+    row: usize,
+    axis: Axis,
+    from: usize,
+    to: usize,
+)
+    requires order { from ≤ to }
+    requires within { to ≤ axis.size }
+    requires room { vec_len gathered.old + (to - from) ≤ vec_capacity gathered.old }
+    requires inside { (i : ℕ) → from ≤ i → i < to
+        → row + steps_to axis i * axis.step < length values.now }
+    requires few { length values.now < 2 ^ 32 }
+    ensures items { gathered.new.items ≡ gathered.old.items
+        ++ map (λ i. value_in values.now (row + steps_to axis i * axis.step))
+        (range_with_len from (to - from)) }
+    ensures len { vec_len gathered.new ≡ vec_len gathered.old + (to - from) }
+    ensures capacity { vec_capacity gathered.new ≡ vec_capacity gathered.old }
+{
     for index in from..to {
         gathered.push_reserved(values[row + steps_to(axis, index) * axis.step]);
     }
-    Ok(())
 }

@@ -4,6 +4,7 @@
 
 mod axes;
 mod cell;
+mod combining;
 mod concatenation_dims;
 mod contraction;
 mod contraction_dims;

@@ -1,12 +1,14 @@
 //! One loop for each arity. The operation is a constant at each call, so that each call becomes a
 //! loop of its own, with no test in it.
 
-ghost use Rattle.std.specs.Prelude.{◌≡◌, ◌<◌, ℕ, pos, length, slice_index_or, vec_len};
+ghost use Rattle.std.specs.Prelude.{◌≡◌, ◌<◌, ◌≤◌, ◌+◌, ℕ, pos, length, slice_index_or, vec_len};
 ghost use Rattle.std.specs.Prelude.{if◌then◌else◌};
 ghost use Rattle.tensor_ops.specs.Loops.{either_way, selected};
 ghost use Rattle.tensor_ops.specs.Scalars.{applied, is_true};
+ghost use Rattle.tensor_ops.specs.Walk.{place_in};
 
 use crate::operations::{BinaryScalar, UnaryScalar, applied, combined, is_true};
+use crate::walk::{Axis, Row, steps_to};
 
 /// The order in which the operands of a select are worked out: this one, and then the others as
 /// they stand, condition, yes, no.
@@ -40,20 +42,71 @@ pub(crate) fn combine(operation: BinaryScalar, turned: bool, values: &mut Vec<i6
         ≡ either_way operation turned (slice_index_or values.old.items k (pos 0))
         (slice_index_or others.now k (pos 0)) }
 {
+    let count = others.len();
+    let axis = Axis {
+        size: count,
+        step: 1,
+        falls: false,
+    };
+    let row = Row {
+        start: 0,
+        axis,
+        from: 0,
+        count,
+    };
+    combine_row(operation, turned, values, 0, others, row);
+}
+
+/// The values from a place on become the operation's of them and a list's along a row, of which the
+/// second comes first where they are turned.
+pub(crate) fn combine_row(
+    operation: BinaryScalar,
+    turned: bool,
+    values: &mut Vec<i64>,
+    at: usize,
+    list: &[i64],
+    row: Row,
+)
+    requires whole { row.from + row.count ≤ row.axis.size }
+    requires room { at + row.count ≤ vec_len values.old }
+    requires inside { (k : ℕ) → k < row.count → place_in row k < length list.now }
+    ensures len { length values.new.items ≡ length values.old.items }
+    ensures each { (k : ℕ) → k < row.count → slice_index_or values.new.items (at + k) (pos 0)
+        ≡ either_way operation turned (slice_index_or values.old.items (at + k) (pos 0))
+        (slice_index_or list.now (place_in row k) (pos 0)) }
+    ensures before { (k : ℕ) → k < at
+        → slice_index_or values.new.items k (pos 0) ≡ slice_index_or values.old.items k (pos 0) }
+    ensures after { (k : ℕ) → at + row.count ≤ k
+        → slice_index_or values.new.items k (pos 0) ≡ slice_index_or values.old.items k (pos 0) }
+{
     match operation {
-        BinaryScalar::Add => combine_each(BinaryScalar::Add, turned, values, others),
-        BinaryScalar::Sub => combine_each(BinaryScalar::Sub, turned, values, others),
-        BinaryScalar::Mul => combine_each(BinaryScalar::Mul, turned, values, others),
-        BinaryScalar::CwiseMax => combine_each(BinaryScalar::CwiseMax, turned, values, others),
-        BinaryScalar::CwiseMin => combine_each(BinaryScalar::CwiseMin, turned, values, others),
-        BinaryScalar::Lt => combine_each(BinaryScalar::Lt, turned, values, others),
-        BinaryScalar::Le => combine_each(BinaryScalar::Le, turned, values, others),
-        BinaryScalar::Eq => combine_each(BinaryScalar::Eq, turned, values, others),
-        BinaryScalar::Ne => combine_each(BinaryScalar::Ne, turned, values, others),
-        BinaryScalar::Gt => combine_each(BinaryScalar::Gt, turned, values, others),
-        BinaryScalar::Ge => combine_each(BinaryScalar::Ge, turned, values, others),
-        BinaryScalar::And => combine_each(BinaryScalar::And, turned, values, others),
-        BinaryScalar::Or => combine_each(BinaryScalar::Or, turned, values, others),
+        BinaryScalar::Add => combine_by_steps(BinaryScalar::Add, turned, values, at, list, row),
+        BinaryScalar::Sub => combine_by_steps(BinaryScalar::Sub, turned, values, at, list, row),
+        BinaryScalar::Mul => combine_by_steps(BinaryScalar::Mul, turned, values, at, list, row),
+        BinaryScalar::CwiseMax => combine_by_steps(
+            BinaryScalar::CwiseMax,
+            turned,
+            values,
+            at,
+            list,
+            row,
+        ),
+        BinaryScalar::CwiseMin => combine_by_steps(
+            BinaryScalar::CwiseMin,
+            turned,
+            values,
+            at,
+            list,
+            row,
+        ),
+        BinaryScalar::Lt => combine_by_steps(BinaryScalar::Lt, turned, values, at, list, row),
+        BinaryScalar::Le => combine_by_steps(BinaryScalar::Le, turned, values, at, list, row),
+        BinaryScalar::Eq => combine_by_steps(BinaryScalar::Eq, turned, values, at, list, row),
+        BinaryScalar::Ne => combine_by_steps(BinaryScalar::Ne, turned, values, at, list, row),
+        BinaryScalar::Gt => combine_by_steps(BinaryScalar::Gt, turned, values, at, list, row),
+        BinaryScalar::Ge => combine_by_steps(BinaryScalar::Ge, turned, values, at, list, row),
+        BinaryScalar::And => combine_by_steps(BinaryScalar::And, turned, values, at, list, row),
+        BinaryScalar::Or => combine_by_steps(BinaryScalar::Or, turned, values, at, list, row),
     }
 }
 
@@ -86,16 +139,60 @@ fn apply_each(operation: UnaryScalar, values: &mut Vec<i64>)
     }
 }
 
+/// The step is a constant, too, where the places of the row lie side by side or are one.
 #[inline(always)]
-fn combine_each(operation: BinaryScalar, turned: bool, values: &mut Vec<i64>, others: &[i64])
-    requires { vec_len values.old ≡ length others.now }
-    ensures len { length values.new.items ≡ length others.now }
-    ensures each { (k : ℕ) → k < length others.now → slice_index_or values.new.items k (pos 0)
-        ≡ either_way operation turned (slice_index_or values.old.items k (pos 0))
-        (slice_index_or others.now k (pos 0)) }
+fn combine_by_steps(
+    operation: BinaryScalar,
+    turned: bool,
+    values: &mut Vec<i64>,
+    at: usize,
+    list: &[i64],
+    row: Row,
+)
+    requires whole { row.from + row.count ≤ row.axis.size }
+    requires room { at + row.count ≤ vec_len values.old }
+    requires inside { (k : ℕ) → k < row.count → place_in row k < length list.now }
+    ensures len { length values.new.items ≡ length values.old.items }
+    ensures each { (k : ℕ) → k < row.count → slice_index_or values.new.items (at + k) (pos 0)
+        ≡ either_way operation turned (slice_index_or values.old.items (at + k) (pos 0))
+        (slice_index_or list.now (place_in row k) (pos 0)) }
+    ensures before { (k : ℕ) → k < at
+        → slice_index_or values.new.items k (pos 0) ≡ slice_index_or values.old.items k (pos 0) }
+    ensures after { (k : ℕ) → at + row.count ≤ k
+        → slice_index_or values.new.items k (pos 0) ≡ slice_index_or values.old.items k (pos 0) }
 {
-    for place in 0..others.len() {
-        values[place] = either_way(operation, turned, values[place], others[place]);
+    match (row.axis.step, row.axis.falls) {
+        (1, false) => combine_each(operation, turned, values, at, list, row.known(1, false)),
+        (1, true) => combine_each(operation, turned, values, at, list, row.known(1, true)),
+        (0, false) => combine_each(operation, turned, values, at, list, row.known(0, false)),
+        _ => combine_each(operation, turned, values, at, list, row),
+    }
+}
+
+#[inline(always)]
+fn combine_each(
+    operation: BinaryScalar,
+    turned: bool,
+    values: &mut Vec<i64>,
+    at: usize,
+    list: &[i64],
+    row: Row,
+)
+    requires whole { row.from + row.count ≤ row.axis.size }
+    requires room { at + row.count ≤ vec_len values.old }
+    requires inside { (k : ℕ) → k < row.count → place_in row k < length list.now }
+    ensures len { length values.new.items ≡ length values.old.items }
+    ensures each { (k : ℕ) → k < row.count → slice_index_or values.new.items (at + k) (pos 0)
+        ≡ either_way operation turned (slice_index_or values.old.items (at + k) (pos 0))
+        (slice_index_or list.now (place_in row k) (pos 0)) }
+    ensures before { (k : ℕ) → k < at
+        → slice_index_or values.new.items k (pos 0) ≡ slice_index_or values.old.items k (pos 0) }
+    ensures after { (k : ℕ) → at + row.count ≤ k
+        → slice_index_or values.new.items k (pos 0) ≡ slice_index_or values.old.items k (pos 0) }
+{
+    for k in 0..row.count {
+        let other = list[row.start + steps_to(row.axis, row.from + k) * row.axis.step];
+        values[at + k] = either_way(operation, turned, values[at + k], other);
     }
 }
 

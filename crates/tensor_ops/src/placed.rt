@@ -1,20 +1,23 @@
 //! Placed expressions: what is left of an expression once index lists are settled, a tree whose
 //! values are asked for by place. The values are worked out by loops over places.
 
-ghost use Rattle.std.specs.Prelude.{◌≡◌, ◌≤◌, ◌-◌, ◌+◌, ◌++◌, length, map, IfOk, IfSome, OnOk};
+ghost use Rattle.std.specs.Prelude.{◌≡◌, ◌<◌, ◌≤◌, ◌-◌, ◌+◌, ◌++◌, ℕ, pos, length, map, vec_len};
+ghost use Rattle.std.specs.Prelude.{IfOk, IfSome, OnOk, slice_index, slice_index_or};
 ghost use Rattle.std.specs.Cow.{cow_slice_items};
 ghost use Rattle.std.specs.List.{range_with_len};
-ghost use Rattle.tensor_ops.specs.Meaning.{meaning, count_of, IsSound, IsListOf};
+ghost use Rattle.tensor_ops.specs.Loops.{either_way};
+ghost use Rattle.tensor_ops.specs.Meaning.{meaning, count_of, IsSound, IsListOf, IsReadingOf};
 ghost use Rattle.tensor_ops.specs.Places.{places_of, AreBelow};
 ghost use Rattle.tensor_ops.specs.Splicing.{spliced, HaveTurns};
 
+use crate::combining::{combine_along, has_long_rows};
 use crate::gather::{picked, picked_along};
 use crate::loops::{SelectOrder, apply, combine, select};
 use crate::operations::{BinaryScalar, UnaryScalar};
 use crate::places::Places;
 use crate::spliced::{parted, spliced_list, spliced_run};
 use crate::turns::Turns;
-use crate::walk::{Axis, sources};
+use crate::walk::{Axis, Reading, sources};
 use std::alloc::{AllocError, Allocator, Global};
 use std::borrow::CowSlice;
 
@@ -81,6 +84,22 @@ impl<'a> Placed<'a> {
             Placed::Walk(_, _, operand) => operand.list().is_some(),
             _ => false,
         }
+    }
+
+    /// What is read, where it is a list along a walk.
+    pub(crate) fn reading(&self) -> Option<Reading<'_>>
+        requires { IsSound self.now }
+        ensures { IfSome result (IsReadingOf self.now) }
+    {
+        let Placed::Walk(start, axes, operand) = self else {
+            return None;
+        };
+        let list = operand.list()?;
+        Some(Reading {
+            list,
+            start: *start,
+            axes: axes.as_slice(),
+        })
     }
 
     /// Its values, where they are a list.
@@ -184,8 +203,7 @@ fn values_at<'t, 'a>(
         }
         Placed::Binary(operation, turned, first, second) => {
             let mut values = owned(alloc, values_at(alloc, first, places)?)?;
-            let second = values_at(alloc, second, places)?;
-            combine(*operation, *turned, &mut values, second.as_slice());
+            combine_at(alloc, *operation, *turned, &mut values, second, places)?;
             Ok(CowSlice::Owned(values))
         }
         Placed::Select(order, first, second, third) => {
@@ -207,6 +225,38 @@ fn values_at<'t, 'a>(
             spliced_at(alloc, *turns, first, second, places)
         }
     }
+}
+
+/// Values at places become the operation's of them and an operand's there, of which the second comes
+/// first where they are turned. Of a list that is read along long rows no values are put aside.
+#[cycle(values_at)]
+fn combine_at(
+    alloc: Global,
+    operation: BinaryScalar,
+    turned: bool,
+    values: &mut Vec<i64>,
+    operand: &Placed<'_>,
+    places: &Places<'_>,
+) -> Result<(), AllocError>
+    requires sound { IsSound operand.now }
+    requires places { AreBelow places.now (count_of operand.now) }
+    requires same { vec_len values.old ≡ length (places_of places.now) }
+    ensures len { OnOk result (length values.new.items ≡ length (places_of places.now)) }
+    ensures each { OnOk result ((k : ℕ) → k < length (places_of places.now)
+        → slice_index_or values.new.items k (pos 0)
+        ≡ either_way operation turned (slice_index_or values.old.items k (pos 0))
+        (meaning operand.now (slice_index (places_of places.now) k))) }
+{
+    if let Places::Run(first, last) = places {
+        if let Some(reading) = operand.reading() {
+            if has_long_rows(reading.axes) {
+                return combine_along(alloc, operation, turned, values, reading, *first, *last);
+            }
+        }
+    }
+    let others = values_at(alloc, operand, places)?;
+    combine(operation, turned, values, others.as_slice());
+    Ok(())
 }
 
 /// The values of two operands in turns at places. Where the places are a run those of each operand

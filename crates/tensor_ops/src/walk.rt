@@ -18,6 +18,63 @@ pub(crate) struct Axis {
     pub(crate) falls: bool,
 }
 
+/// An axis of one place.
+const ALONE: Axis = Axis {
+    size: 1,
+    step: 0,
+    falls: false,
+};
+
+/// A list that is read along a walk.
+#[derive(Clone, Copy, Drop)]
+pub(crate) struct Reading<'a> {
+    pub(crate) list: &'a [i64],
+    pub(crate) start: usize,
+    pub(crate) axes: &'a [Axis],
+}
+
+/// A part of a row: so many places along an axis, from an index on.
+#[derive(Clone, Copy, Drop)]
+pub(crate) struct Row {
+    pub(crate) start: usize,
+    pub(crate) axis: Axis,
+    pub(crate) from: usize,
+    pub(crate) count: usize,
+}
+
+impl Axis {
+    /// The same axis, with its step and its way as the compiler knows them where they are constants.
+    #[inline(always)]
+    pub(crate) fn known(self, step: usize, falls: bool) -> Self
+        requires step { self.step ≡ step }
+        requires way { self.falls ≡ falls }
+        ensures { result ≡ self }
+    {
+        Axis {
+            size: self.size,
+            step,
+            falls,
+        }
+    }
+}
+
+impl Row {
+    /// The same part of a row, with the step and the way of its axis as the compiler knows them.
+    #[inline(always)]
+    pub(crate) fn known(self, step: usize, falls: bool) -> Self
+        requires step { self.axis.step ≡ step }
+        requires way { self.axis.falls ≡ falls }
+        ensures { result ≡ self }
+    {
+        Row {
+            start: self.start,
+            axis: self.axis.known(step, falls),
+            from: self.from,
+            count: self.count,
+        }
+    }
+}
+
 /// The operand's places for places of the result.
 pub(crate) fn sources(
     alloc: Global,
@@ -74,13 +131,12 @@ pub(crate) fn rows_of(
         → along r.1.items r.0 first p ≡ reached start axes.now p) }
 {
     let Some((axis, slower)) = axes.split_first() else {
-        let alone = Axis {
-            size: 1,
-            step: 0,
-            falls: false,
-        };
-        return Ok((alone, vec![in alloc; start as u32]?));
+        return Ok((ALONE, vec![in alloc; start as u32]?));
     };
+    if last - first == 1 {
+        let place = reached(start, axes, first);
+        return Ok((ALONE, vec![in alloc; place as u32]?));
+    }
     if axis.size == 1 {
         return rows_of(alloc, start, slower, first, last);
     }

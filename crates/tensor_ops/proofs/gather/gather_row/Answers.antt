@@ -1,25 +1,10 @@
-use Rattle.std.proofs.Common.{◌≡◌, ◌+◌, ◌-◌, ◌*◌, map, take, drop, false, rules, ap, ◌∙◌, arith}
+use Rattle.std.proofs.Common.{◌≡◌, ◌+◌, ◌-◌, ◌*◌, map, take, drop, false, ap, ◌∙◌, arith}
 use Rattle.std.specs.List.{range_with_len}
 use Rattle.std.proofs.lemmas.Bool.{not-true}
-use Rattle.std.proofs.lemmas.Int.{to_z-of_z}
-use Rattle.std.specs.Int.{w64}
-use mir.Val.{SFits}
 use Rattle.tensor_ops.specs.Places.{value_in}
 use Rattle.tensor_ops.specs.Walk.{steps_to}
-use Rattle.tensor_ops.proofs.Runs.{run-more, map-shifted, part-read, ok-appended}
+use Rattle.tensor_ops.proofs.Runs.{map-shifted, part-read, ok-appended}
 use Rattle.tensor_ops.proofs.gather.gather_row.Goals as goal
-
-pub loop-index-preserved : goal.loop-index-preserved
-loop-index-preserved c =
-    let fits : SFits w64 (value_in c.args.values.now (c.args.row + steps_to c.args.axis c.loop-index.index * c.args.axis.step)) = search rules in
-    let pushed = rw c.steps_to.ensures at c.push_reserved.ensures.items in
-    let more = simp to_z-of_z at pushed in
-    record {
-      items = run-more (λ i. value_in c.args.values.now (c.args.row + steps_to c.args.axis i * c.args.axis.step))
-          c.args.from c.loop-index.index _ _ _ (omega arith) c.loop-index.invariant.items more;
-      capacity = grind arith;
-      len = grind arith;
-    }
 
 -- a row without gaps is a part of the values
 pub returns-then-from-to-clause-items : goal.returns-then-from-to-clause-items

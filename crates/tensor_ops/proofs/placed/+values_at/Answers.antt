@@ -1,6 +1,8 @@
-use Rattle.std.proofs.Common.{◌≡◌, ℕ, ℤ, ◌-◌, length, map, IfOk, ap, sym, subst, ◌∙◌, rules, arith}
+use Rattle.std.proofs.Common.{◌≡◌, ◌<◌, ℕ, ℤ, pos, ◌+◌, ◌-◌, get_or, length, map, IfOk, ap, sym, subst, ◌∙◌, rules, arith}
 use Rattle.std.specs.List.{range_with_len}
-use Rattle.std.proofs.lemmas.List.FromFn.{length-map-range_with_len}
+use Rattle.std.proofs.lemmas.List.FromFn.{length-range_with_len, get_or-range_with_len, length-map-range_with_len}
+use Rattle.std.proofs.lemmas.List.{length-map}
+use Rattle.std.proofs.lemmas.Result.{on_ok_weaker}
 use Rattle.std.specs.Cow.{cow_slice_items}
 use Rattle.std.specs.Prelude.{replicate}
 use Rattle.tensor_ops.specs.Loops.{either_way, selected}
@@ -10,7 +12,7 @@ use Rattle.tensor_ops.specs.Scalars.{applied}
 use Rattle.tensor_ops.specs.Splicing.{firsts_before, seconds_before, spliced}
 use Rattle.tensor_ops.specs.Walk.{reached, walk_size}
 use Rattle.tensor_ops.proofs.InTurns.{firsts-run, seconds-run, first_places-below, second_places-below, map-first_alone, map-second_alone}
-use Rattle.tensor_ops.proofs.Runs.{places-applied, places-combined, places-selected, places-moved, map-constant}
+use Rattle.tensor_ops.proofs.Runs.{places-applied, places-paired, places-selected, places-moved, map-constant}
 use Rattle.tensor_ops.proofs.Soundness.{reached-within}
 use Rattle.tensor_ops.proofs.placed.+values_at.Goals as goal
 
@@ -38,15 +40,44 @@ values_at-values_at-requires-in-Binary t c =
       ),
     )
 
-pub values_at-values_at-requires-in-Binary-2 : goal.values_at-values_at-requires-in-Binary-2
-values_at-values_at-requires-in-Binary-2 t c =
+pub values_at-combine_at-requires : goal.values_at-combine_at-requires
+values_at-combine_at-requires t c =
     let sound = rw c.in-Binary.is at c.requires.sound in (
       omega (arith, c.decreases, ap depth_of c.in-Binary.is, ap depth_of c.deref-in-Binary-2.ensures),
       (
         rw (c.deref-in-Binary-2.ensures) sound.1.0,
-        rw (c.deref-in-Binary-2.ensures, sound.1.1) (rw c.in-Binary.is at c.requires.places),
+        (
+          rw (c.deref-in-Binary-2.ensures, sound.1.1) (rw c.in-Binary.is at c.requires.places),
+          omega (
+            arith,
+            ap length (c.in_ok-values-in-Binary.ensures ∙ c.in_ok-values_at-in-Binary.ensures),
+            length-map (places_of c.args.places.now) (meaning c.deref-in-Binary.result.now),
+          ),
+        ),
       ),
     )
+
+pub combine_at-values_at-requires : goal.combine_at-values_at-requires
+combine_at-values_at-requires t c = (omega (arith, c.decreases), (c.requires.sound, c.requires.places))
+
+pub combine_at-combine_along-requires-clause-same : goal.combine_at-combine_along-requires-clause-same
+combine_at-combine_along-requires-clause-same t c =
+    (rw c.in-Run.is at c.requires.same) ∙ length-range_with_len c.in-Run.first (c.in-Run.last - c.in-Run.first)
+
+pub combine_at-returns-then-has_long_rows-clause-each : goal.combine_at-returns-then-has_long_rows-clause-each
+combine_at-returns-then-has_long_rows-clause-each t c =
+    let first = c.in-Run.first in
+    let count = c.in-Run.last - c.in-Run.first in
+    let o = either_way c.args.operation c.args.turned in
+    on_ok_weaker c.combine_along.result
+    (λ each k below.
+    let long : length (places_of c.args.places.now) ≡ count = ap (λ ps. length (places_of ps)) c.in-Run.is ∙ length-range_with_len first count in
+    let inside : k < count = omega (arith, below, long) in
+    let place : get_or (places_of c.args.places.now) k 0 ≡ first + k =
+    ap (λ ps. get_or (places_of ps) k 0) c.in-Run.is ∙ get_or-range_with_len first count k 0 inside in
+    each k inside ∙ ap (λ y. o (get_or c.args.values.now.items k (pos 0)) y) (sym (c.in-Some.ensures.each (first + k)))
+    ∙ ap (λ p. o (get_or c.args.values.now.items k (pos 0)) (meaning c.args.operand.now p)) (sym place))
+    c.combine_along.ensures.each
 
 pub values_at-values_at-requires-in-Walk : goal.values_at-values_at-requires-in-Walk
 values_at-values_at-requires-in-Walk t c = (
@@ -73,17 +104,17 @@ values_at-returns-in_ok-values-in-Unary t c =
     ∙ ap (λ a. map (meaning a) (places_of c.args.places.now)) c.deref.ensures)
     c.apply.ensures.len c.apply.ensures.each)
 
-pub values_at-returns-in_ok-second-in-Binary : goal.values_at-returns-in_ok-second-in-Binary
-values_at-returns-in_ok-second-in-Binary t c =
+pub values_at-returns-in_ok-combine_at-in-Binary : goal.values_at-returns-in_ok-combine_at-in-Binary
+values_at-returns-in_ok-combine_at-in-Binary t c =
+    let places = places_of c.args.places.now in
+    let o = either_way c.in-Binary.operation c.in-Binary.turned in
     rw c.in-Binary.is
-    (places-combined (places_of c.args.places.now) (either_way c.in-Binary.operation c.in-Binary.turned)
-    (meaning c.in-Binary.first.value) (meaning c.in-Binary.second.value)
-    c.in_ok-values-in-Binary.values.items c.as_slice-in-Binary.result.now c.combine.new.values.items
-    (c.in_ok-values-in-Binary.ensures ∙ c.in_ok-values_at-in-Binary.ensures
-    ∙ ap (λ a. map (meaning a) (places_of c.args.places.now)) c.deref-in-Binary.ensures)
-    (c.as_slice-in-Binary.ensures.value ∙ c.in_ok-second-in-Binary.ensures
-    ∙ ap (λ a. map (meaning a) (places_of c.args.places.now)) c.deref-in-Binary-2.ensures)
-    c.combine.ensures.len c.combine.ensures.each)
+    (places-paired places o (meaning c.in-Binary.first.value) (meaning c.in-Binary.second.value)
+    c.in_ok-values-in-Binary.values.items c.combine_at.new.values.items
+    (c.in_ok-values-in-Binary.ensures ∙ c.in_ok-values_at-in-Binary.ensures ∙ ap (λ a. map (meaning a) places) c.deref-in-Binary.ensures)
+    c.in_ok-combine_at-in-Binary.ensures.len
+    (λ k below. c.in_ok-combine_at-in-Binary.ensures.each k below
+    ∙ ap (λ a. o (get_or c.in_ok-values-in-Binary.values.items k (pos 0)) (meaning a (get_or places k 0))) c.deref-in-Binary-2.ensures))
 
 pub values_at-returns-in_ok-sources-in-Walk : goal.values_at-returns-in_ok-sources-in-Walk
 values_at-returns-in_ok-sources-in-Walk t c =

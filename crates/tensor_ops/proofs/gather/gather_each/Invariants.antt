@@ -3,7 +3,7 @@ use Rattle.std.proofs.Common.{◌≡◌, ◌+◌, ◌-◌, ◌*◌, ◌++◌, ma
 use Rattle.std.specs.List.{range_with_len}
 use Rattle.tensor_ops.specs.Places.{value_in}
 use Rattle.tensor_ops.specs.Walk.{steps_to}
-use Rattle.tensor_ops.proofs.gather.gather_row.Given as goal
+use Rattle.tensor_ops.proofs.gather.gather_each.Given as goal
 
 abbrev pub invariant-loop-index : goal.invariant-loop-index
 invariant-loop-index l = record {
