@@ -15,7 +15,7 @@ use Rattle.event_count.specs.declared.rule.Sizes.{Sizes}
 use Rattle.event_count.specs.declared.view.Card.{Card}
 use Rattle.event_count.specs.Cards.{exchange_of, only, card_in}
 use Rattle.event_count.specs.Gains.{looking, prewaiting, consuming, cancelling, signalling}
-use Rattle.event_count.specs.Plays.{Sat, looks, prewaits, consumes, cancels, signals}
+use Rattle.event_count.specs.Plays.{Sat, exchanges, looks, prewaits, consumes, cancels, signals}
 use Rattle.event_count.specs.Shown.{ShowsWorld}
 use Rattle.event_count.specs.Written.{shown_fields}
 use Rattle.event_count.specs.Known.{next_epoch}
@@ -80,7 +80,7 @@ module _ (k : Sizes) (slots id : ℕ) (me : Sat) (is : me.0 ≡ only (card_in me
   pub consume_keeps : (old new : ℕ) → c.phase ≡ Pre → 0 < (fields_of old).signals
       → fields_of new ≡ consumed (fields_of old)
       → Allows (ShowsWorld k) slots id me STATE (λ n. either (n == old) new n)
-      (consumes (step slots STATE old new none) me)
+      (exchanges consumes (step slots STATE old new none) me)
   consume_keeps old new pre there offered = exchange_keeps k slots id me is consuming old new
       (λ s shows at hit.
       let history = shows.0 in let w = shows.1 in let r = shows.2 in
@@ -95,7 +95,7 @@ module _ (k : Sizes) (slots id : ℕ) (me : Sat) (is : me.0 ≡ only (card_in me
 
   pub cancel_keeps : (old new : ℕ) → c.phase ≡ Pre → fields_of new ≡ cancelled (fields_of old)
       → Allows (ShowsWorld k) slots id me STATE (λ n. either (n == old) new n)
-      (cancels (step slots STATE old new none) me)
+      (exchanges cancels (step slots STATE old new none) me)
   cancel_keeps old new pre offered = exchange_keeps k slots id me is cancelling old new
       (λ s shows at hit.
       let history = shows.0 in let w = shows.1 in let r = shows.2 in
@@ -110,7 +110,7 @@ module _ (k : Sizes) (slots id : ℕ) (me : Sat) (is : me.0 ≡ only (card_in me
   pub signal_keeps : (old new : ℕ) → c.phase ≡ Running → c.owing ≡ []
       → (fields_of old).signals < (fields_of old).pre → fields_of new ≡ signalled (fields_of old)
       → Allows (ShowsWorld k) slots id me STATE (λ n. either (n == old) new n)
-      (signals (step slots STATE old new none) me)
+      (exchanges signals (step slots STATE old new none) me)
   signal_keeps old new running none_owed room offered =
       exchange_keeps k slots id me is signalling old new
       (λ s shows at hit.

@@ -26,7 +26,7 @@ use Rattle.event_count.specs.declared.view.Card.{Card}
 use Rattle.event_count.specs.Places.{next_place}
 use Rattle.event_count.specs.Cards.{exchange_of, only, card_in}
 use Rattle.event_count.specs.Gains.{pushing, popping, reading, storing}
-use Rattle.event_count.specs.Plays.{Sat, pushes, pops, reads, stores}
+use Rattle.event_count.specs.Plays.{Sat, exchanges, pushes, pops, reads, stores}
 use Rattle.event_count.specs.Shown.{CountState, ShowsWorld}
 use Rattle.event_count.specs.Kept.{Knows, IsKept, Links}
 use Rattle.event_count.specs.Written.{Leads, shown_fields, next_fields, Written}
@@ -132,7 +132,7 @@ module _ (k : Sizes) (slots id : ℕ) (me : Sat) (is : me.0 ≡ only (card_in me
       → fields_of new ≡ pushed (fields_of old) c.number c.epoch
       → fields_of c.stored ≡ below (fields_of old)
       → Allows (ShowsWorld k) slots id me STATE (λ n. either (n == old) new n)
-      (pushes (step slots STATE old new none) me)
+      (exchanges pushes (step slots STATE old new none) me)
   push_keeps old new pre none_given offered stored = exchange_keeps k slots id me is pushing old new
       (λ s shows at hit.
       let history = shows.0 in let w = shows.1 in let r = shows.2 in
@@ -225,7 +225,7 @@ module _ (k : Sizes) (slots id : ℕ) (me : Sat) (is : me.0 ≡ only (card_in me
       → (fields_of old).signals ≡ (fields_of old).pre
       → fields_of new ≡ popped (fields_of old) (fields_of next)
       → Allows (ShowsWorld k) slots id me STATE (λ n. either (n == old) new n)
-      (pops (step slots STATE old new none) me)
+      (exchanges pops (step slots STATE old new none) me)
   pop_keeps old new next running none_owed looked read there full offered =
       exchange_keeps k slots id me is popping old new (λ s shows at hit.
       popped_from s shows at hit shows.1.stack refl)

@@ -21,7 +21,7 @@ use Rattle.event_count.specs.declared.view.Card.{Card}
 use Rattle.event_count.specs.declared.view.View.{View}
 use Rattle.event_count.specs.Cards.{exchange_of, only, card_in}
 use Rattle.event_count.specs.Gains.{exchanging}
-use Rattle.event_count.specs.Plays.{Sat, exchanges, reads}
+use Rattle.event_count.specs.Plays.{Sat, Gain, exchanges, becomes}
 use Rattle.event_count.specs.Shown.{CountState, ShowsWorld, Shows}
 use Rattle.event_count.specs.Kept.{Knows, Links}
 use Rattle.event_count.specs.Written.{shown_fields}
@@ -105,29 +105,30 @@ module _ (k : Sizes) (slots id : ℕ) (me : Sat) (is : me.0 ≡ only (card_in me
         refl refl refl (word_shows k s shows) (λ was. was)
 
   -- an exchange that finds the expected word is what the seat gains by it, and another is no event
-  pub exchange_keeps : (gains : Card → Exchange → Card) (old new : ℕ)
+  pub gain_keeps : (gain : Gain) (old new : ℕ)
       → ((s : CountState) → ShowsWorld k s → get_elem? s.views id ≡ some me.0
-      → slice_index s.words STATE ≡ old → After s STATE new (gains c (exchange_of old new old)))
+      → slice_index s.words STATE ≡ old
+      → (d : Card) × After s STATE new d × gain c (exchange_of old new old) (only d))
       → Allows (ShowsWorld k) slots id me STATE (λ n. either (n == old) new n)
-      (exchanges gains (step slots STATE old new none) me)
-  exchange_keeps gains old new wins s shows _ at _ =
+      (exchanges gain (step slots STATE old new none) me)
+  gain_keeps gain old new wins s shows _ at _ =
       let word = slice_index s.words STATE in
-      let won = only (gains c (exchange_of old new old)) in
+      let Won : View → Type 0 = gain c (exchange_of old new old) in
       let lost : View = only (exchanging c (exchange_of old new word)) in
       exchanged word old new
       (λ x. (u : View) × (a : Act (Unit {0})) × Valid s.homes me.1 a
       × ShowsWorld k (stepped s STATE x id me.1 u a)
-      × exchanges gains (step slots STATE old new none) me word (u, carried_after me.1 a))
-      (λ hit. (
-        won,
+      × exchanges gain (step slots STATE old new none) me word (u, carried_after me.1 a))
+      (λ hit. let won = wins s shows at hit in (
+        only won.0,
         keeps,
         tt,
-        wins s shows at hit,
+        won.1,
         (
           refl,
           refl,
-          subst (λ b. MatchBool b (won ≡ won) ((word ≢ old) × (won ≡ lost)))
-              (sym (eq-eqb word old hit)) refl,
+          subst (λ b. MatchBool b (Won (only won.0)) ((word ≢ old) × (only won.0 ≡ lost)))
+              (sym (eq-eqb word old hit)) won.2,
         ),
       ))
       (λ miss. (
@@ -138,7 +139,16 @@ module _ (k : Sizes) (slots id : ℕ) (me : Sat) (is : me.0 ≡ only (card_in me
         (
           refl,
           refl,
-          subst (λ b. MatchBool b (lost ≡ won) ((word ≢ old) × (lost ≡ lost)))
+          subst (λ b. MatchBool b (Won lost) ((word ≢ old) × (lost ≡ lost)))
               (sym (ne_eqb word old miss)) (miss, refl),
         ),
       ))
+
+  -- the same where the gain is one card
+  pub exchange_keeps : (gains : Card → Exchange → Card) (old new : ℕ)
+      → ((s : CountState) → ShowsWorld k s → get_elem? s.views id ≡ some me.0
+      → slice_index s.words STATE ≡ old → After s STATE new (gains c (exchange_of old new old)))
+      → Allows (ShowsWorld k) slots id me STATE (λ n. either (n == old) new n)
+      (exchanges (becomes gains) (step slots STATE old new none) me)
+  exchange_keeps gains old new wins = gain_keeps (becomes gains) old new (λ s shows at hit.
+      (gains c (exchange_of old new old), wins s shows at hit, refl))

@@ -1,11 +1,10 @@
 -- A notification of all keeps the rule: the stack is owed as it is linked.
-use Rattle.std.proofs.Common.{◌≢◌, ◌≡◌, ℕ, ◌<◌, ◌==◌, List, [], ◌∷◌, sym, ap, refl, ◌∙◌, subst}
-use Rattle.std.proofs.Common.{slice_index, arith, MatchBool, eq-eqb, ne_eqb, ◌++◌, slice_set}
+use Rattle.std.proofs.Common.{◌≡◌, ℕ, ◌<◌, ◌==◌, List, [], ◌∷◌, sym, ap, refl, ◌∙◌, subst}
+use Rattle.std.proofs.Common.{arith, ◌++◌, slice_set}
 use mathlib.Core.Option.{some, none}
 use lib.ListN.{get_elem?}
 use prog.Atomic.{either}
-use Rattle.atomic_table.specs.Table.{Act, Valid, carried_after, stepped, step, keeps, Allows}
-use Rattle.atomic_table.proofs.Lists.{exchanged}
+use Rattle.atomic_table.specs.Table.{step, Allows}
 use Rattle.event_word.specs.declared.phase.Phase.TheVariants.{Running}
 use Rattle.event_word.specs.declared.event.Event.{Event}
 use Rattle.event_word.specs.declared.event.Event.TheVariants.{NotifyAll}
@@ -16,10 +15,9 @@ use Rattle.event_word.specs.Shown.{shown}
 use Rattle.event_count.specs.declared.rule.TheConstants.{STATE}
 use Rattle.event_count.specs.declared.rule.Sizes.{Sizes}
 use Rattle.event_count.specs.declared.view.Card.{Card}
-use Rattle.event_count.specs.declared.view.View.{View}
 use Rattle.event_count.specs.Cards.{exchange_of, only, card_in}
-use Rattle.event_count.specs.Gains.{exchanging, taking, NamesFirst}
-use Rattle.event_count.specs.Plays.{Sat, takes_all}
+use Rattle.event_count.specs.Gains.{taking}
+use Rattle.event_count.specs.Plays.{Sat, exchanges, takes_all}
 use Rattle.event_count.specs.Shown.{CountState, ShowsWorld}
 use Rattle.event_count.specs.Written.{shown_fields}
 use Rattle.event_count.specs.Known.{next_epoch}
@@ -28,7 +26,7 @@ use Rattle.event_count.proofs.Words.{word_shows, knows_on, frame_same, next_stat
 use Rattle.event_count.proofs.Words.{links_on, chain_on, chain_of}
 use Rattle.event_count.proofs.Steps.{acts, truth}
 use Rattle.event_count.proofs.Events.{law, sizes, emptied, all_fits, all_shows}
-use Rattle.event_count.proofs.Stepping.{same_epochs, missed}
+use Rattle.event_count.proofs.Stepping.{same_epochs, gain_keeps}
 use Rattle.event_count.proofs.Looking.{sleeps_known}
 use Rattle.event_count.proofs.Unparking.{names_first}
 
@@ -49,20 +47,11 @@ module _ (k : Sizes) (slots id : ℕ) (me : Sat) (is : me.0 ≡ only (card_in me
   pub all_keeps : (old new : ℕ) → c.phase ≡ Running → c.owing ≡ []
       → fields_of new ≡ all_notified (fields_of old)
       → Allows (ShowsWorld k) slots id me STATE (λ n. either (n == old) new n)
-      (takes_all (step slots STATE old new none) me)
-  all_keeps old new running none_owed offered s shows _ at _ =
+      (exchanges takes_all (step slots STATE old new none) me)
+  all_keeps old new running none_owed offered =
+      gain_keeps k slots id me is takes_all old new (λ s shows at hit.
       let history = shows.0 in let w = shows.1 in let r = shows.2 in
-      let word = slice_index s.words STATE in
-      let x = exchange_of old new old in
-      let d = taking w.stack c x in let won = only d in
-      let lost : View = only (exchanging c (exchange_of old new word)) in
-      let Won : View → Type 0 = λ v. (seats : List ℕ) × NamesFirst c.waiters old seats
-      × (v ≡ only (taking seats c x)) in
-      exchanged word old new
-      (λ y. (u : View) × (a : Act (Unit {0})) × Valid s.homes me.1 a
-      × ShowsWorld k (stepped s STATE y id me.1 u a)
-      × takes_all (step slots STATE old new none) me word (u, carried_after me.1 a))
-      (λ hit.
+      let x = exchange_of old new old in let d = taking w.stack c x in
       let here = ap fields_of (sym hit) ∙ word_shows k s shows in
       let e = (shown_fields s.words).epoch in
       let events : List Event = NotifyAll c.number ∷ [] in
@@ -75,9 +64,7 @@ module _ (k : Sizes) (slots id : ℕ) (me : Sat) (is : me.0 ≡ only (card_in me
       offered ∙ all_shows k s history w r id me.0 c at is (fields_of old) e here in
       let frame = frame_same s.words words' w u es es' epochs
       (λ m there. absurd (omega arith)) in (
-        won,
-        keeps,
-        tt,
+        d,
         acts k s history w r id me.0 c at is events u d STATE new me.1 f record {
           written = written_state k s.words es w r.written u es' new refl 0 shows_new
               (ap (λ g. g.top) shows_new, ap (λ g. g.epoch) shows_new);
@@ -94,26 +81,9 @@ module _ (k : Sizes) (slots id : ℕ) (me : Sat) (is : me.0 ≡ only (card_in me
               links_on s.words words' y.linked y.owing (λ m _. next_state s.words new m) was;
         },
         (
+          w.stack,
+          names_first k slots id me is s shows at old w.stack (ap (λ g. g.top) here)
+              (stack_waiter s shows at),
           refl,
-          refl,
-          subst (λ b. MatchBool b (Won won) ((word ≢ old) × (won ≡ lost)))
-              (sym (eq-eqb word old hit)) (
-                w.stack,
-                names_first k slots id me is s shows at old w.stack (ap (λ g. g.top) here)
-                    (stack_waiter s shows at),
-                refl,
-              ),
-        ),
-      ))
-      (λ miss. (
-        lost,
-        keeps,
-        tt,
-        missed k slots id me is s shows at (exchange_of old new word),
-        (
-          refl,
-          refl,
-          subst (λ b. MatchBool b (Won lost) ((word ≢ old) × (lost ≡ lost)))
-              (sym (ne_eqb word old miss)) (miss, refl),
         ),
       ))

@@ -39,38 +39,43 @@ abbrev pub prewaits : Told
 prewaits step before found after =
     (step.word ≡ STATE) × (after ≡ (only (prewaiting (card_in before.0)), before.1))
 
+-- what an exchange that found the expected word makes of a seat's card: of the card before, the
+-- exchange, and the view after
+abbrev pub Gain : Type 1
+Gain = Card → Exchange → View → Type 0
+
 -- an exchange of the state word that found the expected one is what the seat gains by it; another
 -- changes nothing
-abbrev pub exchanges : (Card → Exchange → Card) → Told
-exchanges gains step before found after =
+abbrev pub exchanges : Gain → Told
+exchanges gain step before found after =
     (step.word ≡ STATE) × (after.1 ≡ before.1) × MatchBool (found == step.first)
-    (after.0 ≡ only (gains (card_in before.0) (exchange_of step.first step.second step.first)))
+    (gain (card_in before.0) (exchange_of step.first step.second step.first) after.0)
     ((found ≢ step.first)
     × (after.0 ≡ only (exchanging (card_in before.0) (exchange_of step.first step.second found))))
 
-abbrev pub consumes : Told
-consumes = exchanges consuming
+-- the card becomes this one
+abbrev pub becomes : (Card → Exchange → Card) → Gain
+becomes gains c x after = after ≡ only (gains c x)
 
-abbrev pub pushes : Told
-pushes = exchanges pushing
+abbrev pub consumes : Gain
+consumes = becomes consuming
 
-abbrev pub cancels : Told
-cancels = exchanges cancelling
+abbrev pub pushes : Gain
+pushes = becomes pushing
 
-abbrev pub signals : Told
-signals = exchanges signalling
+abbrev pub cancels : Gain
+cancels = becomes cancelling
 
-abbrev pub pops : Told
-pops = exchanges popping
+abbrev pub signals : Gain
+signals = becomes signalling
 
--- where the state word was the expected one its seats are owed, the top first
-abbrev pub takes_all : Told
-takes_all step before found after =
-    (step.word ≡ STATE) × (after.1 ≡ before.1) × MatchBool (found == step.first)
-    ((taken : List ℕ) × NamesFirst (card_in before.0).waiters step.first taken × (after.0
-    ≡ only (taking taken (card_in before.0) (exchange_of step.first step.second step.first))))
-    ((found ≢ step.first)
-    × (after.0 ≡ only (exchanging (card_in before.0) (exchange_of step.first step.second found))))
+abbrev pub pops : Gain
+pops = becomes popping
+
+-- the seats of the expected word's stack are owed, the top first
+abbrev pub takes_all : Gain
+takes_all c x after = (taken : List ℕ) × NamesFirst c.waiters x.expected taken
+    × (after ≡ only (taking taken c x))
 
 -- the seat's own next word is stored
 abbrev pub stores : Told

@@ -1,11 +1,15 @@
-//! The single steps of the tries. An exchange answers whether the state word was the looked one.
-ghost use Rattle.std.specs.Prelude.{◌≡◌, ◌≢◌, ◌<◌, [], Some, None};
+//! The single steps of the tries: a store, and exchanges of the state word against a looked one.
+ghost use Rattle.std.specs.Prelude.{◌≡◌, ◌≢◌, ◌<◌, ◌==◌, ℕ, [], Some, None, IsTrue, IsFalse};
+ghost use mathlib.Core.Option.{none};
+ghost use prog.Atomic.{either};
+ghost use Rattle.atomic_table.specs.Table.{step, Allows};
 ghost use Rattle.event_word.specs.declared.phase.Phase.TheVariants.{Running, Pre};
 
 use crate::count::EventCount;
-use crate::plays::{Cancels, Consumes, Pops, Pushes, Signals, Stores, TakesAll};
+use crate::plays::{Cancels, Consumes, Exchanges, Gains, Pops, Pushes, Signals, Stores, TakesAll};
 use crate::rule::{STATE, next_word_of};
 use crate::seat::Seat;
+use crate::view::View;
 use event_word::{NOBODY, PRE_WAITER, Phase};
 use std::alloc::Allocator;
 
@@ -14,10 +18,40 @@ impl<A: Allocator> EventCount<A> {
     ghost use Rattle.event_word.specs.Word.{nobody, below, cancelled, consumed, pushed};
     ghost use Rattle.event_word.specs.Word.{signalled, popped, all_notified};
     ghost use Rattle.event_count.specs.Limits.{epoch_limit};
-    ghost use Rattle.event_count.specs.Gains.{storing, consuming, pushing, cancelling};
+    ghost use Rattle.event_count.specs.Cards.{exchange_of, only, card_in};
+    ghost use Rattle.event_count.specs.Gains.{exchanging, storing, consuming, pushing, cancelling};
     ghost use Rattle.event_count.specs.Gains.{signalling, popping, Fits};
-    ghost use Rattle.event_count.specs.Seats.{card_of, looked_of, IsSeatOf};
+    ghost use Rattle.event_count.specs.Plays.{exchanges};
+    ghost use Rattle.event_count.specs.Shown.{ShowsWorld};
+    ghost use Rattle.event_count.specs.Seats.{card_of, looked_of, sizes_of, count_id, IsSeatOf};
     ghost use Rattle.event_count.specs.Tries.{Meets, MeetsAll};
+
+    // One exchange of the state word, which wants a looked word and offers another in its place.
+    // It answers whether it found the one that it wants.
+    fn exchange<G: Gains>(
+        &self,
+        seat: &mut atomic_table::Seat<(), View>,
+        wanted: u64,
+        offered: u64,
+    ) -> bool
+        requires of { seat.old.table_id ≡ count_id self.now }
+        requires allowed { Allows (ShowsWorld (sizes_of self.now)) (count_id self.now).slots
+            seat.old.id seat.old.me STATE (λ word. either (word == wanted) offered word)
+            (exchanges G.gain (step (count_id self.now).slots STATE wanted offered none)
+            seat.old.me) }
+        ensures of { seat.new.table_id ≡ seat.old.table_id }
+        ensures slots { seat.new.me.1 ≡ seat.old.me.1 }
+        ensures hit { IsTrue result →
+            G.gain (card_in seat.old.me.0) (exchange_of wanted offered wanted) seat.new.me.0 }
+        ensures miss { IsFalse result → (found : ℕ) × (found ≢ wanted) × (seat.new.me.0
+            ≡ only (exchanging (card_in seat.old.me.0) (exchange_of wanted offered found))) }
+    {
+        let found = self
+            .table
+            .shared
+            .compare_exchange::<Exchanges<G>>(seat, STATE, wanted, offered);
+        found == wanted
+    }
 
     // A pre-waiter takes a signal.
     pub(crate) fn consume(&self, seat: &mut Seat, word: u64, offered: u64) -> bool
@@ -30,11 +64,7 @@ impl<A: Allocator> EventCount<A> {
         ensures used { looked_of seat.new ≡ None }
         ensures card { Meets consuming (card_of seat.old) word offered result (card_of seat.new) }
     {
-        let found = self
-            .table
-            .shared
-            .compare_exchange::<Consumes>(&mut seat.seat, STATE, word, offered);
-        if found != word {
+        if !self.exchange::<Consumes>(&mut seat.seat, word, offered) {
             return false;
         }
         seat.phase = Phase::Running;
@@ -72,11 +102,7 @@ impl<A: Allocator> EventCount<A> {
         ensures used { looked_of seat.new ≡ None }
         ensures card { Meets pushing (card_of seat.old) word offered result (card_of seat.new) }
     {
-        let found = self
-            .table
-            .shared
-            .compare_exchange::<Pushes>(&mut seat.seat, STATE, word, offered);
-        if found != word {
+        if !self.exchange::<Pushes>(&mut seat.seat, word, offered) {
             return false;
         }
         seat.phase = Phase::Stacked;
@@ -94,11 +120,7 @@ impl<A: Allocator> EventCount<A> {
         ensures used { looked_of seat.new ≡ None }
         ensures card { Meets cancelling (card_of seat.old) word offered result (card_of seat.new) }
     {
-        let found = self
-            .table
-            .shared
-            .compare_exchange::<Cancels>(&mut seat.seat, STATE, word, offered);
-        if found != word {
+        if !self.exchange::<Cancels>(&mut seat.seat, word, offered) {
             return false;
         }
         seat.phase = Phase::Running;
@@ -117,11 +139,7 @@ impl<A: Allocator> EventCount<A> {
         ensures used { looked_of seat.new ≡ None }
         ensures card { Meets signalling (card_of seat.old) word offered result (card_of seat.new) }
     {
-        let found = self
-            .table
-            .shared
-            .compare_exchange::<Signals>(&mut seat.seat, STATE, word, offered);
-        found == word
+        self.exchange::<Signals>(&mut seat.seat, word, offered)
     }
 
     // The looked top is popped.
@@ -140,11 +158,7 @@ impl<A: Allocator> EventCount<A> {
         ensures used { looked_of seat.new ≡ None }
         ensures card { Meets popping (card_of seat.old) word offered result (card_of seat.new) }
     {
-        let found = self
-            .table
-            .shared
-            .compare_exchange::<Pops>(&mut seat.seat, STATE, word, offered);
-        if found != word {
+        if !self.exchange::<Pops>(&mut seat.seat, word, offered) {
             return false;
         }
         seat.owed = Some((word % PRE_WAITER) as u16);
@@ -164,11 +178,7 @@ impl<A: Allocator> EventCount<A> {
         ensures used { looked_of seat.new ≡ None }
         ensures card { MeetsAll (card_of seat.old) word offered result (card_of seat.new) }
     {
-        let found = self
-            .table
-            .shared
-            .compare_exchange::<TakesAll>(&mut seat.seat, STATE, word, offered);
-        if found != word {
+        if !self.exchange::<TakesAll>(&mut seat.seat, word, offered) {
             return false;
         }
         let top = word % PRE_WAITER;

@@ -1,6 +1,28 @@
 //! What the steps on a count's state word tell.
+ghost use Rattle.event_count.specs.declared.view.Exchange.{Exchange};
+ghost use Rattle.event_count.specs.declared.view.Card.{Card};
+ghost use Rattle.event_count.specs.declared.view.View.{View};
+
 use crate::view::View;
 use atomic_table::Play;
+use std::marker::PhantomData;
+
+/// What an exchange of the state word is to a seat, where the word is the looked one.
+pub trait Gains {
+    // Of its card before, the exchange, and its view after.
+    ghost gain: { Card → Exchange → View → Type 0 };
+}
+
+/// The state word is exchanged, where it is the looked one.
+pub struct Exchanges<G> {
+    marker: PhantomData<G>,
+}
+
+impl<G: Gains> Play<(), View> for Exchanges<G> {
+    ghost use Rattle.event_count.specs.Plays.{exchanges};
+
+    ghost then = { exchanges G.gain };
+}
 
 /// The word is loaded by a new seat.
 pub struct Arrives;
@@ -29,31 +51,31 @@ impl Play<(), View> for Prewaits {
     ghost then = { prewaits };
 }
 
-/// A pre-waiter takes a signal, where the word is the looked one.
+/// A pre-waiter takes a signal.
 pub struct Consumes;
 
-impl Play<(), View> for Consumes {
+impl Gains for Consumes {
     ghost use Rattle.event_count.specs.Plays.{consumes};
 
-    ghost then = { consumes };
+    ghost gain = { consumes };
 }
 
-/// A pre-waiter leaves, where the word is the looked one.
+/// A pre-waiter leaves.
 pub struct Cancels;
 
-impl Play<(), View> for Cancels {
+impl Gains for Cancels {
     ghost use Rattle.event_count.specs.Plays.{cancels};
 
-    ghost then = { cancels };
+    ghost gain = { cancels };
 }
 
-/// A pre-waiter gets a signal, where the word is the looked one.
+/// A pre-waiter gets a signal.
 pub struct Signals;
 
-impl Play<(), View> for Signals {
+impl Gains for Signals {
     ghost use Rattle.event_count.specs.Plays.{signals};
 
-    ghost then = { signals };
+    ghost gain = { signals };
 }
 
 /// The next word of the looked top is loaded.
@@ -74,22 +96,22 @@ impl Play<(), View> for Stores {
     ghost then = { stores };
 }
 
-/// A pre-waiter goes onto the stack, where the word is the looked one.
+/// A pre-waiter goes onto the stack.
 pub struct Pushes;
 
-impl Play<(), View> for Pushes {
+impl Gains for Pushes {
     ghost use Rattle.event_count.specs.Plays.{pushes};
 
-    ghost then = { pushes };
+    ghost gain = { pushes };
 }
 
-/// The top is popped, where the word is the looked one.
+/// The top is popped.
 pub struct Pops;
 
-impl Play<(), View> for Pops {
+impl Gains for Pops {
     ghost use Rattle.event_count.specs.Plays.{pops};
 
-    ghost then = { pops };
+    ghost gain = { pops };
 }
 
 /// The first seat owed gets its token.
@@ -119,11 +141,11 @@ impl Play<(), View> for Follows {
     ghost then = { follows };
 }
 
-/// The stack is taken, where the word is the looked one.
+/// The stack is taken.
 pub struct TakesAll;
 
-impl Play<(), View> for TakesAll {
+impl Gains for TakesAll {
     ghost use Rattle.event_count.specs.Plays.{takes_all};
 
-    ghost then = { takes_all };
+    ghost gain = { takes_all };
 }

@@ -1,10 +1,6 @@
-use Rattle.std.proofs.Common.{rules}
 use Rattle.event_count.proofs.Keeps.{cancel_keeps}
 use Rattle.event_count.proofs.count.EventCount.leave.Goals as goal
 
-pub compare_exchange-found-requires : goal.compare_exchange-found-requires
-compare_exchange-found-requires g c = (
-  search rules,
-  search rules,
-  cancel_keeps _ _ _ _ c.args.seat.now.alone _ _ c.requires.pre c.requires.offered,
-)
+pub exchange-requires-clause-allowed : goal.exchange-requires-clause-allowed
+exchange-requires-clause-allowed g c =
+    cancel_keeps _ _ _ _ c.args.seat.now.alone _ _ c.requires.pre c.requires.offered
