@@ -11,19 +11,21 @@ use crate::division::Division;
 use crate::fault::ForFault;
 use crate::halving::blocks;
 use crate::kernel::Kernel;
-use crate::piece::Piece;
 use crate::range_job::{RangeContext, RangeJob};
-use event_count::{EventCount, WaitPoint};
+use event_count::EventCount;
 use pool_barrier::{Barrier, MOST_NOTICES, Share, Waiter};
-use run_queue::{Rows, SlotRows};
+use run_queue::SlotRows;
 use std::alloc::{AllocError, Allocator};
 use std::marker::Brand;
 use std::sync::Wait;
 use std::thread::Threads;
-use worker_pool::{Lists, NoGate, PoolFault, Setup, VecLists, with_root};
+use worker_pool::{NoGate, PoolFault, Setup, VecLists, with_root};
 
 /// How many leaves a range has at most: each takes a notice of one barrier.
 const MOST_LEAVES: u64 = MOST_NOTICES;
+
+/// The rows from which the workers take the jobs of a range.
+type Slots<K, D, A> = SlotRows<RangeJob<K, D, A>, A>;
 
 /// The kernel's items at the places below `n`, in order.
 ///
@@ -92,47 +94,16 @@ where
     requires blocks { IsBlockLength n block }
     ensures items { IfOk result (λ items. AreItems (K.item_at kernel.now) 0 n items.items) }
 {
+    let range = CountedRange::of(alloc.clone()?, n, block)?;
     let leaves = blocks(n, block);
     if leaves >= u64::from(setup.workers) {
-        return count_leaves(rt, alloc, setup, kernel, n, block);
+        return fill_range::<Brand, RT, &K, A>(rt, alloc, setup, kernel, range);
     }
     let fewer = Setup {
         workers: leaves as u32,
         partitions: Vec::new(alloc.clone()?),
     };
-    count_leaves(rt, alloc, &fewer, kernel, n, block)
-}
-
-// The same, by the workers of this setup.
-fn count_leaves<RT, K, A>(
-    rt: &RT,
-    alloc: A,
-    setup: &Setup<A>,
-    kernel: &K,
-    n: u64,
-    block: u64,
-) -> Result<Vec<K::Item, A>, AllocError>
-where
-    RT: Threads + Wait + Sync,
-    K: Kernel + Sync,
-    K::Item: Send,
-    A: Allocator + Clone + Send + Sync,
-    requires inside { n ≤ K.size kernel.now }
-    requires several { block < n }
-    requires blocks { IsBlockLength n block }
-    ensures items { IfOk result (λ items. AreItems (K.item_at kernel.now) 0 n items.items) }
-{
-    let Ok((barrier, waiter, share)) = Barrier::new(alloc.clone()?, blocks(n, block)) else {
-        return Err(AllocError);
-    };
-    let range = CountedRange {
-        n,
-        block,
-        barrier,
-        waiter,
-        share,
-    };
-    fill_over_slots::<Brand, RT, &K, A>(rt, alloc, setup, kernel, range)
+    fill_range::<Brand, RT, &K, A>(rt, alloc, &fewer, kernel, range)
 }
 
 // The places below n, which are cut into blocks, and a barrier with a notice for each block.
@@ -150,33 +121,28 @@ struct CountedRange<A: Allocator> {
     ghost notices: { notices_of share ≡ blocks_of n block },
 }
 
-// The items of the range. Here stands by which wait point and rows the workers work.
-fn fill_over_slots<D, RT, K, A>(
-    rt: &RT,
-    alloc: A,
-    setup: &Setup<A>,
-    kernel: K,
-    range: CountedRange<A>,
-) -> Result<Vec<K::Item, A>, AllocError>
-where
-    D: Division + Send + Sync,
-    RT: Threads + Wait + Sync,
-    K: Kernel + Drop + Send + Sync,
-    K::Item: Send,
-    A: Allocator + Clone + Send + Sync,
-    requires size { K.size kernel ≡ D.size }
-    requires block { range.block ≡ D.block }
-    requires barrier { barrier_id range.barrier ≡ D.barrier }
-    requires inside { range.n ≤ D.size }
-    ensures items { IfOk result (λ items. AreItems (K.item_at kernel) 0 range.n items.items) }
-{
-    fill_range::<D, RT, K, A, EventCount<A>, SlotRows<RangeJob<K, D, A>, A>, VecLists>(
-        rt, alloc, setup, kernel, range,
-    )
+impl<A: Allocator> CountedRange<A> {
+    fn of(alloc: A, n: u64, block: u64) -> Result<CountedRange<A>, AllocError>
+        requires any { 0 < n }
+        requires blocks { IsBlockLength n block }
+        ensures places { IfOk result (λ range. range.n ≡ n) }
+        ensures cut { IfOk result (λ range. range.block ≡ block) }
+    {
+        let Ok((barrier, waiter, share)) = Barrier::new(alloc, blocks(n, block)) else {
+            return Err(AllocError);
+        };
+        Ok(CountedRange {
+            n,
+            block,
+            barrier,
+            waiter,
+            share,
+        })
+    }
 }
 
 // The items of the range, whose leaves are jobs of a pool. The caller sleeps until all have run.
-fn fill_range<D, RT, K, A, W, R, L>(
+fn fill_range<D, RT, K, A>(
     rt: &RT,
     alloc: A,
     setup: &Setup<A>,
@@ -189,16 +155,10 @@ where
     K: Kernel + Drop + Send + Sync,
     K::Item: Send,
     A: Allocator + Clone + Send + Sync,
-    W: WaitPoint<A> + Sync,
-    W::Seat: Send,
-    R: Rows<RangeJob<K, D, A>, A> + Sync,
-    R::Seat: Send,
-    L: Lists<Piece<K::Item, A>, A>,
     requires size { K.size kernel ≡ D.size }
     requires block { range.block ≡ D.block }
     requires barrier { barrier_id range.barrier ≡ D.barrier }
     requires inside { range.n ≤ D.size }
-    requires accounts { R.keeps_accounts }
     ensures items { IfOk result (λ items. AreItems (K.item_at kernel) 0 range.n items.items) }
 {
     let CountedRange {
@@ -210,7 +170,7 @@ where
     } = range;
     let ctx = RangeContext::<K, D, A>::new(kernel, barrier, block);
     let root = RangeJob::<K, D, A>::root(n, share);
-    let closed = with_root::<W, R, L, RT, RangeJob<K, D, A>, A, NoGate, _>(
+    let closed = with_root::<EventCount<A>, Slots<K, D, A>, VecLists, _, _, _, _, _>(
         rt,
         alloc.clone()?,
         setup,

@@ -32,7 +32,7 @@ collect-requires-clause-covered g c = λ h.
     kid.order step.0)
     (λ job piece step. weight-leaf h item_at piece.items.items (job.first, job.last)
     (piece.first, piece.last) block job.order step.0)
-    root _ closed.left.items closed.refused c.requires.accounts c.in-Ok.ensures.none_left none_refused
+    root _ closed.left.items closed.refused tt c.in-Ok.ensures.none_left none_refused
     c.in-Ok.ensures.account in
     let whole : leaves_of 0 n c.args.range.block ≡ leaves_of root.first root.last block =
     rw (c.root-root.ensures.first, c.root-root.ensures.last, c.requires.block) refl in
