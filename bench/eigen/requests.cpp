@@ -240,6 +240,23 @@ void contraction(const Device& device, const Tensor<2>& a) {
   print_sum(device, product);
 }
 
+// The sum of a convolution of the input "a", repeated, under the input "k".
+template <int RANK>
+void convolution(const Request& request) {
+  request.on_device(request.places("a"), [&](const auto& device) {
+    const Tensor<RANK> a = request.repeated<RANK>("a", device);
+    const View<RANK> kernel = request.view<RANK>("k");
+    Axes<RANK> axes, dims;
+    for (int axis = 0; axis < RANK; ++axis) {
+      axes[axis] = axis;
+      dims[axis] = a.dimension(axis) - kernel.dimension(axis) + 1;
+    }
+    Tensor<RANK> result(dims);
+    result.device(device) = a.convolve(kernel, axes);
+    print_sum(device, result);
+  });
+}
+
 std::string nest(int count, const std::string& front, const std::string& inner,
                  const std::string& back) {
   std::string text;
@@ -298,6 +315,8 @@ std::map<std::string, std::function<void(const Request&)>> forms() {
        })},
       {whole(R"(["contract",)" + square + "," + square + ",[[1,0]]]"),
        over<2>([](const auto& device, const auto& a) { contraction(device, a); })},
+      {whole(R"(["convolve",)" + square + R"(,"k",[0,1]])"), convolution<2>},
+      {R"(["sum",["convolve",)" + line + R"(,"k",[0]],[0]])", convolution<1>},
       {R"(["sum",["mul",["add",)" + line + "," + line + "]," + line + "],[0]]",
        over<1>([](const auto& device, const auto& a) { print_sum(device, (a + a) * a); })},
   };

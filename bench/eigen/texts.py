@@ -29,8 +29,9 @@ def text(inputs, expr, workers):
         f'"{name}":{{"dims":{listed(dims)},"data":{listed(values)}}}'
         for name, (dims, values) in inputs.items()
     )
+    version = 2 if '"convolve"' in expr else 1
     return (
-        f'{{"version":1,"workers":{workers},"block":{BLOCK},'
+        f'{{"version":{version},"workers":{workers},"block":{BLOCK},'
         f'"inputs":{{{members}}},"expr":{expr}}}'
     )
 
@@ -53,6 +54,14 @@ def cubes(dims, times, expr):
     return {"a": (dims, numbers(count, 5))}, expr.replace(
         "{a}", f'["broadcast","a",{listed(times)}]'
     )
+
+
+def convolved(dims, times, kernel):
+    """The sum of a convolution of numbers, repeated so often along each axis, under a kernel."""
+    places, weights = 64 ** len(dims), kernel ** len(dims)
+    axes = listed(range(len(dims)))
+    inputs = {"a": (dims, numbers(places, 7)), "k": ([kernel] * len(dims), numbers(weights, 8))}
+    return inputs, f'["sum",["convolve",["broadcast","a",{listed(times)}],"k",{axes}],{axes}]'
 
 
 def whole(expr):
@@ -123,6 +132,18 @@ REQUESTS = {
     "contraction-1024": (
         "a contraction of 1,024 by 1,024 by 1,024",
         lambda: squares(16, whole('["contract",{a},{a},[[1,0]]]')),
+    ),
+    "convolution-3": (
+        "a square of 1,024 under 3 by 3",
+        lambda: convolved([64, 64], [16, 16], 3),
+    ),
+    "convolution-16": (
+        "a square of 1,024 under 16 by 16",
+        lambda: convolved([64, 64], [16, 16], 16),
+    ),
+    "convolution-64": (
+        "a list of 1,048,576 under 64",
+        lambda: convolved([64], [16384], 64),
     ),
 }
 # The same for each size: all reading and printing, and all work.
