@@ -1,5 +1,5 @@
 -- Expressions placed: each kind of node keeps the values.
-use Rattle.std.proofs.Common.{◌≡◌, ℕ, ℤ, pos, ◌+◌, ◌<◌, ◌≤◌, ◌^◌, List, length, map, Bor, Result, Ok, Err, IfOk}
+use Rattle.std.proofs.Common.{◌≡◌, ℕ, ℤ, pos, ◌+◌, ◌<◌, ◌≤◌, ◌≢◌, ◌^◌, List, length, map, Bor, Result, Ok, Err, IfOk}
 use Rattle.std.proofs.Common.{refl, ap, sym, ◌∙◌, arith}
 use Rattle.std.specs.List.{range_with_len}
 use Rattle.std.proofs.lemmas.List.FromFn.{length-map-range_with_len, get_or-map-range_with_len}
@@ -30,6 +30,15 @@ gives-itself placed ds sound count = record {
   sound = sound;
   count = count;
   means = λ p below. ap (meaning placed) (sym (place-index_of ds p below));
+}
+
+-- what has no places gives anything
+pub gives-none : (placed : Placed) (ds : List ℕ) (f : List ℕ → ℤ) → IsSound placed → count_of placed ≡ 0 → size_of ds ≡ 0
+    → Gives placed ds f
+gives-none placed ds f sound count none = record {
+  sound = sound;
+  count = count ∙ sym none;
+  means = λ p below. absurd (omega (arith, none));
 }
 
 -- a value at an index list
@@ -146,3 +155,7 @@ pub gives-after : (placed other : Placed) (ds : List ℕ) (f : List ℕ → ℤ)
     → Gives placed ds f
 gives-after placed other ds f first second =
     gives-other placed ds (meaning_at other ds) f second (λ index is_index. gives-index other ds f index first is_index)
+
+-- a number that is another one is above 0 where that isn't 0
+pub some-of : {m n : ℕ} → n ≡ m → n ≢ 0 → 0 < m
+some-of same some = omega arith

@@ -1,16 +1,23 @@
 -- Settled expressions: how far walks reach, and values by index lists.
-use Rattle.std.proofs.Common.{◌≡◌, ℕ, ℤ, ◌+◌, ◌-◌, ◌*◌, ◌<◌, ◌≤◌, List, [], ◌∷◌, if◌then◌else◌}
-use Rattle.std.proofs.Common.{refl, ap, sym, subst, ◌∙◌, arith, inl, inr}
+use Rattle.std.proofs.Common.{◌≡◌, ℕ, ℤ, ◌+◌, ◌-◌, ◌*◌, ◌^◌, ◌<◌, ◌≤◌, List, [], ◌∷◌, if◌then◌else◌}
+use Rattle.std.proofs.Common.{refl, ap, sym, subst, ◌∙◌, arith, inl, inr, Bool, Result, IfOk}
 use Rattle.std.proofs.lemmas.Bool.{cases_Bool}
+use Rattle.std.proofs.lemmas.Result.{IfOk-weaker}
 use Rattle.std.proofs.Math.Nat.{mul-le-mul_left}
 use Rattle.tensor_shape.specs.Index.{size_of}
 use Rattle.tensor_shape.proofs.Places.{place-index_of}
-use Rattle.tensor_ops.specs.Joining.{span}
-use Rattle.tensor_ops.specs.Meaning.{meaning, count_of}
-use Rattle.tensor_ops.specs.Placing.{Gives, meaning_at}
+use Rattle.tensor_shape.specs.Legal.{most_elements}
+use Rattle.tensor_ops.specs.Joining.{span, IsJoint}
+use Rattle.tensor_ops.specs.Loops.{either_way, selected}
+use Rattle.tensor_ops.specs.Meaning.{meaning, count_of, IsSound}
+use Rattle.tensor_ops.specs.Placing.{Gives, IsJoined, meaning_at}
+use Rattle.tensor_ops.specs.Scalars.{applied}
 use Rattle.tensor_ops.specs.Settling.{Follows, meaning_along}
 use Rattle.tensor_ops.specs.Splicing.{spliced, HaveTurns}
 use Rattle.tensor_ops.specs.Walk.{walk_size, reached, steps_to}
+use Rattle.tensor_ops.specs.declared.loops.SelectOrder.{SelectOrder}
+use Rattle.tensor_ops.specs.declared.operations.UnaryScalar.{UnaryScalar}
+use Rattle.tensor_ops.specs.declared.operations.BinaryScalar.{BinaryScalar}
 use Rattle.tensor_ops.specs.declared.placed.Placed.{Placed}
 use Rattle.tensor_ops.specs.declared.walk.Axis.{Axis}
 use Rattle.tensor_ops.proofs.InTurns.{spliced-other}
@@ -99,3 +106,152 @@ follows-along r placed places at start axes walk follows inside = record {
   count = walk.count;
   means = λ p below. walk.means p below ∙ follows.means (reached start axes p) (inside p below);
 }
+
+-- what is asked of an expression that is settled, and of one that is led along axes
+abbrev pub CanSettle : Placed → Type 0
+CanSettle a = IsSound a × ((0 < count_of a) × (count_of a ≤ most_elements))
+
+abbrev pub CanLead : Placed → ℕ → List Axis → Type 0
+CanLead a start axes =
+    IsSound a × ((count_of a ≤ most_elements) × ((0 < walk_size axes) × ((walk_size axes ≤ most_elements)
+    × ((p : ℕ) → p < walk_size axes → reached start axes p < count_of a))))
+
+-- which a second operand with as many places can be where the first one can
+pub settle-beside : (a b : Placed) → count_of b ≡ count_of a → IsSound b → CanSettle a → CanSettle b
+settle-beside a b same sound can = (sound, (rw same can.1.0, rw same can.1.1))
+
+pub lead-beside : (a b : Placed) (start : ℕ) (axes : List Axis) → count_of b ≡ count_of a → IsSound b → CanLead a start axes
+    → CanLead b start axes
+lead-beside a b start axes same sound can = (
+  sound,
+  (rw same can.1.0, (can.1.1.0, (can.1.1.1.0, λ p below. rw same (can.1.1.1.1 p below)))),
+)
+
+-- the same along a copy of the axes
+pub lead-copied : (a inner : Placed) (start from : ℕ) (axes along : List Axis) → inner ≡ a → from ≡ start → along ≡ axes
+    → CanLead a start axes → CanLead inner from along
+lead-copied a inner start from axes along same same_start same_axes can =
+    subst (λ z. CanLead z from along) (sym same)
+    (subst (λ l. CanLead a from l) (sym same_axes) (subst (λ s. CanLead a s axes) (sym same_start) can))
+
+-- what a walk in a walk reads can be settled, and led along both as one
+pub settle-walked : (a : Placed) (start from : ℕ) (axes along : List Axis) → IsSound a → count_of a ≤ most_elements
+    → ((p : ℕ) → p < walk_size axes → reached start axes p < count_of a) → 0 < walk_size along
+    → ((p : ℕ) → p < walk_size along → reached from along p < walk_size axes) → CanSettle a
+settle-walked a start from axes along sound few reaches some inside =
+    let read = reaches (reached from along 0) (inside 0 some) in
+    (sound, (omega (arith, read), few))
+
+pub lead-joined : (a : Placed) (start from joint : ℕ) (axes along both : List Axis) → IsSound a → count_of a ≤ most_elements
+    → ((p : ℕ) → p < walk_size axes → reached start axes p < count_of a)
+    → 0 < walk_size along → walk_size along ≤ most_elements
+    → ((p : ℕ) → p < walk_size along → reached from along p < walk_size axes)
+    → IsJoint joint both from along start axes → CanLead a joint both
+lead-joined a start from joint axes along both sound few reaches some short inside is = (
+  sound,
+  (
+    few,
+    (
+      rw is.size some,
+      (
+        rw is.size short,
+        λ p below.
+            let within : p < walk_size along = subst (λ n. p < n) is.size below in
+            subst (λ n. n < count_of a) (sym (is.reaches p within)) (reaches (reached from along p) (inside p within)),
+      ),
+    ),
+  ),
+)
+
+-- what follows an expression that is the same, or along the same axes
+pub follows-same : (r inner a : Placed) → inner ≡ a → Follows r (count_of inner) (meaning inner) → Follows r (count_of a) (meaning a)
+follows-same r inner a same follows = subst (λ z. Follows r (count_of z) (meaning z)) same follows
+
+pub follows-copied : (r inner a : Placed) (start from : ℕ) (axes along : List Axis) → inner ≡ a → from ≡ start → along ≡ axes
+    → Follows r (walk_size along) (meaning_along inner from along) → Follows r (walk_size axes) (meaning_along a start axes)
+follows-copied r inner a start from axes along same same_start same_axes follows =
+    subst (λ z. Follows r (walk_size axes) (meaning_along z start axes)) same
+    (subst (λ l. Follows r (walk_size l) (meaning_along inner start l)) same_axes
+    (subst (λ s. Follows r (walk_size along) (meaning_along inner s along)) same_start follows))
+
+-- or of as many places
+pub follows-beside : (r : Placed) (places others : ℕ) (at : ℕ → ℤ) → places ≡ others → Follows r places at → Follows r others at
+follows-beside r places others at same follows = subst (λ n. Follows r n at) same follows
+
+-- or along two walks as one
+pub follows-joined : (r a : Placed) (start from joint : ℕ) (axes along both : List Axis) → IsJoint joint both from along start axes
+    → Follows r (walk_size both) (meaning_along a joint both)
+    → Follows r (walk_size along) (λ p. meaning a (reached start axes (reached from along p)))
+follows-joined r a start from joint axes along both is follows = record {
+  sound = follows.sound;
+  count = follows.count ∙ is.size;
+  means = λ p below. follows.means p (subst (λ n. p < n) (sym is.size) below) ∙ ap (meaning a) (is.reaches p below);
+}
+
+-- an operation over operands that follow functions
+pub each-follows : {E : Type 0} (result : Result Placed E) (o : UnaryScalar) (x : Placed) (places : ℕ) (f : ℕ → ℤ) → Follows x places f
+    → IfOk result (λ r. IsJoined r x (λ p. applied o (meaning x p))) → IfOk result (λ r. Follows r places (λ p. applied o (f p)))
+each-follows result o x places f first =
+    IfOk-weaker result (λ r. IsJoined r x (λ p. applied o (meaning x p))) (λ r. Follows r places (λ p. applied o (f p)))
+    (λ r joined. record {
+      sound = joined.sound;
+      count = joined.count ∙ first.count;
+      means = λ p below. joined.means p ∙ ap (applied o) (first.means p below);
+    })
+
+pub both-follow : {E : Type 0} (result : Result Placed E) (o : BinaryScalar) (turned : Bool) (x y : Placed) (places : ℕ) (f g : ℕ → ℤ)
+    → Follows x places f → Follows y places g
+    → IfOk result (λ r. IsJoined r x (λ p. either_way o turned (meaning x p) (meaning y p)))
+    → IfOk result (λ r. Follows r places (λ p. either_way o turned (f p) (g p)))
+both-follow result o turned x y places f g first second =
+    IfOk-weaker result (λ r. IsJoined r x (λ p. either_way o turned (meaning x p) (meaning y p)))
+    (λ r. Follows r places (λ p. either_way o turned (f p) (g p)))
+    (λ r joined. record {
+      sound = joined.sound;
+      count = joined.count ∙ first.count;
+      means = λ p below. joined.means p ∙ ap (λ v. either_way o turned v (meaning y p)) (first.means p below)
+          ∙ ap (either_way o turned (f p)) (second.means p below);
+    })
+
+pub all-follow : {E : Type 0} (result : Result Placed E) (o : SelectOrder) (x y z : Placed) (places : ℕ) (f g h : ℕ → ℤ)
+    → Follows x places f → Follows y places g → Follows z places h
+    → IfOk result (λ r. IsJoined r x (λ p. selected o (meaning x p) (meaning y p) (meaning z p)))
+    → IfOk result (λ r. Follows r places (λ p. selected o (f p) (g p) (h p)))
+all-follow result o x y z places f g h first second third =
+    IfOk-weaker result (λ r. IsJoined r x (λ p. selected o (meaning x p) (meaning y p) (meaning z p)))
+    (λ r. Follows r places (λ p. selected o (f p) (g p) (h p)))
+    (λ r joined. record {
+      sound = joined.sound;
+      count = joined.count ∙ first.count;
+      means = λ p below. joined.means p ∙ ap (λ v. selected o v (meaning y p) (meaning z p)) (first.means p below)
+          ∙ ap (λ v. selected o (f p) v (meaning z p)) (second.means p below)
+          ∙ ap (selected o (f p) (g p)) (third.means p below);
+    })
+
+-- each of two parts is no more than both
+pub first-few : (m n limit : ℕ) → m + n ≤ limit → m ≤ limit
+first-few m n limit few = omega arith
+
+pub second-few : (m n limit : ℕ) → m + n ≤ limit → n ≤ limit
+second-few m n limit few = omega arith
+
+pub some-below : {m n : ℕ} → m < n → 0 < n
+some-below below = omega arith
+
+-- two walks are within bounds where each stays in what it is over
+pub joined-takes : (a : Placed) (start from : ℕ) (axes along given : List Axis) → given ≡ axes → count_of a ≤ most_elements
+    → walk_size axes ≤ most_elements → ((p : ℕ) → p < walk_size axes → reached start axes p < count_of a) → 0 < walk_size along
+    → ((p : ℕ) → p < walk_size along → reached from along p < walk_size axes)
+    → (0 < walk_size given) × ((walk_size given < 2 ^ 32) × ((from + span along < 2 ^ 32) × (start + span given < 2 ^ 32)))
+joined-takes a start from axes along given same few fewer reaches some inside =
+    let within = some-below (inside 0 some) in
+    subst (λ l. (0 < walk_size l) × ((walk_size l < 2 ^ 32) × ((from + span along < 2 ^ 32) × (start + span l < 2 ^ 32)))) (sym same) (
+      within,
+      (
+        omega (arith, fewer),
+        (
+          omega (arith, fewer, span-below along from (walk_size axes) some inside),
+          omega (arith, few, span-below axes start (count_of a) within reaches),
+        ),
+      ),
+    )
