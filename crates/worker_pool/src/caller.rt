@@ -57,7 +57,7 @@ where
         let Err(job) = self.seats.pass(rt, self.queue, job) else {
             return;
         };
-        let refused = begin::<RT, J, A, L, OpenerSeats<J, A, W, R>>(
+        let refused = begin::<_, _, _, L, _>(
             rt,
             self.alloc,
             self.ctx,

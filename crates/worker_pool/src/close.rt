@@ -75,7 +75,7 @@ where
     let Pool { queue, alloc, .. } = pool;
     let left = queue.rows.drain_all(rows);
     queue.point.shut(wakers);
-    let (unrun, refused) = settle::<RT, J, A, R, L>(
+    let (unrun, refused) = settle::<_, _, _, R, L>(
         rt, alloc, ctx, cancelled, left, &mut outs, refused,
     );
     lists.push_reserved(L::into_vec(outs));
@@ -136,7 +136,7 @@ where
     if cancelled {
         return (left, before);
     }
-    let refused = run_left::<RT, J, A, R, L>(rt, &alloc, ctx, left, outs, before);
+    let refused = run_left::<_, _, _, R, L>(rt, &alloc, ctx, left, outs, before);
     (Vec::new(alloc), refused)
 }
 
@@ -163,15 +163,7 @@ where
     let mut closer: Closer<J, A, R> = Closer(PhantomData);
     let mut refused = before;
     for job in left {
-        let more = begin::<RT, J, A, L, Closer<J, A, R>>(
-            rt,
-            alloc,
-            ctx,
-            &(),
-            &mut closer,
-            outs,
-            job,
-        );
+        let more = begin::<_, _, _, L, _>(rt, alloc, ctx, &(), &mut closer, outs, job);
         refused = refused.saturating_add(more);
     }
     refused

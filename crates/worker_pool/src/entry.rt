@@ -71,7 +71,7 @@ where
         × Account R.keeps_accounts (IsStep J.weight_of J.allows ctx.now) (roots_of after) []
         (flat_map (λ list. list.items) closed.outs.items) closed.left.items closed.refused) }
 {
-    with_pool_limited::<W, R, L, RT, J, A, G, F>(rt, alloc, setup, ctx, gate, setup.workers, body)
+    with_pool_limited::<W, R, L, _, _, _, _, _>(rt, alloc, setup, ctx, gate, setup.workers, body)
 }
 
 /// Does what `with_pool` does, and starts only the workers with numbers below `starts`, as if the
@@ -173,7 +173,7 @@ where
         (flat_map (λ list. list.items) closed.outs.items) closed.left.items closed.refused) }
     ensures none_left { IfOk result (λ closed. closed.left.items ≡ []) }
 {
-    with_pool::<W, R, L, RT, J, A, G, _>(
+    with_pool::<W, R, L, _, _, _, _, _>(
         rt,
         alloc,
         setup,

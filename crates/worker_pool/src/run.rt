@@ -38,7 +38,7 @@ where
         job.abandon(ctx);
         return 1;
     }
-    run::<RT, J, A, L, P>(rt, alloc, ctx, place, passer, outs, 0, job)
+    run::<_, _, _, L, _>(rt, alloc, ctx, place, passer, outs, 0, job)
 }
 
 // Takes steps until the job is done. A kid that isn't passed on is run at once. There is memory for
@@ -83,16 +83,16 @@ where
         }
         Ok(Progress::Fork { kid, rest }) => {
             let Err(kid) = passer.pass(rt, place, kid) else {
-                return run::<RT, J, A, L, P>(rt, alloc, ctx, place, passer, outs, owed, rest);
+                return run::<_, _, _, L, _>(rt, alloc, ctx, place, passer, outs, owed, rest);
             };
             if L::reserve(outs, owed + 2).is_err() {
                 kid.abandon(ctx);
-                return run::<RT, J, A, L, P>(
+                return run::<_, _, _, L, _>(
                     rt, alloc, ctx, place, passer, outs, owed, rest,
                 ).saturating_add(1);
             }
-            let refused = run::<RT, J, A, L, P>(rt, alloc, ctx, place, passer, outs, owed + 1, kid);
-            run::<RT, J, A, L, P>(rt, alloc, ctx, place, passer, outs, owed, rest).saturating_add(
+            let refused = run::<_, _, _, L, _>(rt, alloc, ctx, place, passer, outs, owed + 1, kid);
+            run::<_, _, _, L, _>(rt, alloc, ctx, place, passer, outs, owed, rest).saturating_add(
                 refused,
             )
         }

@@ -78,42 +78,14 @@ where
     ensures at_work { All (S.is_at_work workplace.now) result.0.items }
     ensures left { B.has_left opening workplace.now result.1 }
 {
-    if states.len() <= starts as usize {
-        return run_all(rt, workplace, states, ended, opening);
+    if states.len() > starts as usize {
+        let Some(last) = states.pop() else {
+            unreachable!()
+        };
+        let (mut ended, state) = run_first(rt, workplace, starts, states, ended, opening);
+        ended.push_reserved(last);
+        return (ended, state);
     }
-    let Some(last) = states.pop() else {
-        unreachable!()
-    };
-    let (mut ended, state) = run_first(rt, workplace, starts, states, ended, opening);
-    ended.push_reserved(last);
-    (ended, state)
-}
-
-// Does so for all of the states. A worker that couldn't be started does nothing.
-fn run_all<RT, X, A, S, B>(
-    rt: &RT,
-    workplace: &S,
-    states: Vec<X, A>,
-    ended: Vec<X, A>,
-    opening: B,
-) -> (Vec<X, A>, B::State)
-where
-    RT: Threads + Wait + Sync,
-    X: Send + Drop,
-    A: Allocator,
-    S: Workplace<X> + Sync,
-    B: Opening<S> + Drop,
-    requires at_work { All (S.is_at_work workplace.now) states.items }
-    requires few { vec_len states ≤ most_rows }
-    requires none_ended { vec_len ended ≡ 0 }
-    requires room { vec_len states ≤ vec_capacity ended }
-    requires begins { (started : ℕ) → started ≤ vec_len states
-        → B.may_begin opening workplace.now started }
-    ensures all { vec_len result.0 ≡ vec_len states }
-    ensures capacity { vec_capacity result.0 ≡ vec_capacity ended }
-    ensures at_work { All (S.is_at_work workplace.now) result.0.items }
-    ensures left { B.has_left opening workplace.now result.1 }
-{
     let left_out = AtomicU64::new(NOBODY);
     thread::scope(
         thread::scope_env(),

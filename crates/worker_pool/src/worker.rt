@@ -91,7 +91,7 @@ where
         turn = turn.saturating_add(1);
         match take_turn(rt, pool, &home, &mut seats, &mut stop, &mut words) {
             Turn::Found(job) => {
-                let more = begin::<RT, J, A, VecLists, WorkerSeats<J, A, W, R>>(
+                let more = begin::<_, _, _, VecLists, _>(
                     rt,
                     &pool.alloc,
                     ctx,
