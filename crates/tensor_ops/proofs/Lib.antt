@@ -23,6 +23,7 @@ pub mod PackedRows
 pub mod Pads
 pub mod PanelPlaces
 pub mod Parting
+pub mod PartValues
 pub mod Parts
 pub mod Permutations
 pub mod Placings

@@ -12,6 +12,7 @@ pub mod Cursor
 pub mod Dots
 pub mod Evaluator
 pub mod Folds
+pub mod InRuns
 pub mod Joining
 pub mod Loops
 pub mod Meaning
@@ -20,6 +21,8 @@ pub mod Offsets
 pub mod Padding
 pub mod Pairing
 pub mod Panels
+pub mod PartEvaluator
+pub mod Parts
 pub mod Places
 pub mod Placing
 pub mod Products
@@ -43,5 +46,6 @@ pub mod Term
 pub mod Tiling
 pub mod Tree
 pub mod Value
+pub mod ValueRuns
 pub mod Walk
 pub mod Woven

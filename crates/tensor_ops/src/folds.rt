@@ -120,6 +120,32 @@ fn combine_row(reducer: Reducer, row: &mut [i64], others: &[i64])
     }
 }
 
+/// A value, and all others combined with it, one after the other.
+pub(crate) fn combined_with(reducer: Reducer, value: i64, others: &[i64]) -> i64
+    ensures { result ≡ folded reducer value (value_in others.now) (length others.now) }
+{
+    match reducer {
+        Reducer::Sum => all_with(Reducer::Sum, value, others),
+        Reducer::Prod => all_with(Reducer::Prod, value, others),
+        Reducer::Max => all_with(Reducer::Max, value, others),
+        Reducer::Min => all_with(Reducer::Min, value, others),
+        Reducer::All => all_with(Reducer::All, value, others),
+        Reducer::Any => all_with(Reducer::Any, value, others),
+    }
+}
+
+/// The same by one reducer, which is known where this is compiled.
+#[inline(always)]
+fn all_with(reducer: Reducer, value: i64, others: &[i64]) -> i64
+    ensures { result ≡ folded reducer value (value_in others.now) (length others.now) }
+{
+    let mut all = value;
+    for t in 0..others.len() {
+        all = reducer.combine(all, others[t]);
+    }
+    all
+}
+
 /// A value, and so many that lie a step apart combined with it.
 #[inline(always)]
 fn folded(

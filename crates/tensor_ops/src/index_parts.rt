@@ -68,7 +68,7 @@ pub(crate) fn woven_place(axes: &[u64], dims: &Dims, inner: u64, outer: u64) -> 
 }
 
 /// All axes of so many, these first.
-fn axes_first(axes: &[u64], rank: usize) -> PerAxis
+pub(crate) fn axes_first(axes: &[u64], rank: usize) -> PerAxis
     requires few { rank ≤ highest_rank }
     requires axes { are_axes rank axes.now ≡ true }
     ensures { result.items ≡ axes.now ++ others axes.now rank }

@@ -22,7 +22,7 @@ use std::alloc::{AllocError, Allocator, Global};
 use std::borrow::CowSlice;
 
 /// How many places are worked out at a time, so that their values stay in the nearest cache.
-const PIECE: usize = 1024;
+pub(crate) const PIECE: usize = 1024;
 
 /// How many places a turn of two operands has at least where their values are added part by part.
 const LONG_TURN: usize = 64;
@@ -179,7 +179,7 @@ fn add_turns<A: Allocator>(
 
 /// The values at places, in their order. Those of a run of a list are lent.
 #[cycle(values_at)]
-fn values_at<'t, 'a>(
+pub(crate) fn values_at<'t, 'a>(
     alloc: Global,
     placed: &'t Placed<'a>,
     places: &Places<'_>,

@@ -245,7 +245,7 @@ fn three<'a>(
 }
 
 /// A movement, placed. Where it has no values nothing is read of the operand.
-fn place_movement<'a>(
+pub(crate) fn place_movement<'a>(
     alloc: Global,
     movement: Movement<'_>,
     operand: Part<'a>,

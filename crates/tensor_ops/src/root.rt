@@ -26,7 +26,7 @@ use tensor_shape::Dims;
 
 /// How many places of operands are worked out, all together, when an expression is placed: 256 KiB
 /// of values.
-const KEPT: usize = 32_768;
+pub(crate) const KEPT: usize = 32_768;
 
 /// What the values of an expression are asked of: a reduction or a contraction where that is its
 /// last operation.

@@ -1,7 +1,7 @@
 //! Contractions of operands whose rows lie side by side: each value is a sum over two slices, and
 //! no offsets are listed.
 
-ghost use Rattle.std.specs.Prelude.{◌≡◌, ℕ, ◌*◌, ◌+◌, ◌*ℤ◌, ◌<◌, ◌≤◌, length};
+ghost use Rattle.std.specs.Prelude.{◌≡◌, ℕ, ◌*◌, ◌+◌, ◌+ℤ◌, ◌*ℤ◌, ◌<◌, ◌≤◌, length};
 ghost use Rattle.tensor_shape.specs.Wrap.{wrap};
 ghost use Rattle.tensor_ops.specs.Places.{value_in};
 ghost use Rattle.tensor_ops.specs.Products.{rows_dot, sum_to};
@@ -65,4 +65,13 @@ fn dot(a: &[i64], b: &[i64]) -> i64
         sum = mul_add(sum, a[q], b[q]);
     }
     sum
+}
+
+/// A sum, and the products of two rows more, modulo 2^64.
+pub(crate) fn sum_with_products(first: i64, a: &[i64], b: &[i64]) -> i64
+    requires { length a.now ≡ length b.now }
+    ensures { result ≡ wrap (first
+        +ℤ sum_to (λ q. value_in a.now q *ℤ value_in b.now q) (length a.now)) }
+{
+    first.wrapping_add(dot(a, b))
 }

@@ -15,7 +15,7 @@ use Rattle.std.specs.Int.{w64}
 use Rattle.std.proofs.lemmas.Simd.{map-map}
 use Rattle.tensor_ops.specs.Contraction.{firsts, seconds, contracted}
 use Rattle.tensor_ops.specs.Index.{size_of, index_of}
-use Rattle.tensor_reduce.specs.Parts.{reduced_part, contracted_part}
+use Rattle.tensor_ops.specs.Parts.{reduced_part, contracted_part}
 use Rattle.tensor_ops.specs.Reduction.{combine, unit, combination, reduced}
 use Rattle.tensor_ops.specs.Woven.{among, dims_at, other_dims, woven}
 use Rattle.tensor_ops.specs.Wrap.{wrap}

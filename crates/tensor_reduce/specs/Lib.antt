@@ -3,6 +3,7 @@ pub use Rattle.parallel_for.specs.Setup
 pub use Rattle.tensor_ops.specs.Contents
 pub use Rattle.tensor_ops.specs.Contraction
 pub use Rattle.tensor_ops.specs.Index
+pub use Rattle.tensor_ops.specs.Parts
 pub use Rattle.tensor_ops.specs.Reduction
 pub use Rattle.tensor_ops.specs.Result
 pub use Rattle.tensor_ops.specs.Scalars
@@ -12,7 +13,6 @@ pub use Rattle.tensor_ops.specs.Value
 pub use Rattle.tensor_ops.specs.Woven
 pub use Rattle.tensor_ops.specs.Wrap
 pub mod Kernels
-pub mod Parts
 pub mod Plan
 pub mod Reducers
 pub mod Shards

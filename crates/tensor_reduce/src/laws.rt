@@ -6,7 +6,7 @@ ghost use Rattle.std.specs.Int.RustNames.{FitsSigned};
 ghost use Rattle.std.specs.List.{range_with_len};
 ghost use Rattle.tensor_ops.specs.Index.{size_of};
 ghost use Rattle.tensor_ops.specs.Contraction.{firsts, contracted};
-ghost use Rattle.tensor_reduce.specs.Parts.{reduced_part, contracted_part};
+ghost use Rattle.tensor_ops.specs.Parts.{reduced_part, contracted_part};
 ghost use Rattle.tensor_ops.specs.Reduction.{unit, combine, combination, reduced};
 ghost use Rattle.tensor_ops.specs.Woven.{among, dims_at};
 ghost use Rattle.tensor_ops.specs.declared.reducer.Reducer.{Reducer};

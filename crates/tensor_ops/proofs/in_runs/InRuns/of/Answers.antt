@@ -1,0 +1,87 @@
+use Rattle.std.proofs.Common.{◌≡◌, ◌≤◌, ℕ, List, length, IsOk, ap, sym, subst, ◌∙◌, arith}
+use Rattle.std.proofs.lemmas.List.{length-map}
+use Rattle.tensor_shape.specs.Legal.{highest_rank}
+use Rattle.tensor_ops.specs.Contents.{Contents}
+use Rattle.tensor_ops.specs.Contraction.{firsts, seconds}
+use Rattle.tensor_ops.specs.Result.{dims_of, shape_of}
+use Rattle.tensor_ops.specs.Tensors.{tensors_in}
+use Rattle.tensor_ops.specs.Term.{unary, binary, reduce, contract}
+use Rattle.tensor_ops.specs.Tree.{term_of, unary_at, binary_at}
+use Rattle.tensor_ops.specs.Woven.{among}
+use Rattle.tensor_ops.proofs.Dropped.{length-axes}
+use Rattle.tensor_ops.proofs.Others.{are_axes-among}
+use Rattle.tensor_ops.proofs.PartValues.{gives-reduced, gives-contracted}
+use Rattle.tensor_ops.proofs.Terms.{contracted-known}
+use Rattle.tensor_ops.proofs.in_runs.InRuns.of.Goals as goal
+
+pub returns-in_ok-runs-in-Unary-Reduce-default : goal.returns-in_ok-runs-in-Unary-Reduce-default
+returns-in_ok-runs-in-Unary-Reduce-default c =
+    let arm = c.in-Unary-Reduce-default in
+    let inner = c.in_ok-operand-in-Unary-Reduce-default in
+    let ts : List Contents = tensors_in c.args.tensors in
+    let node : unary (reduce arm.reducer arm.axes.now) (term_of arm.operand.now)
+    ≡ term_of c.args.expr.now =
+    ap (λ o. unary (unary_at o) (term_of arm.operand.now)) (sym arm.field-0-is) ∙ arm.ensures in
+    let has_dims = subst (λ t. IsOk (dims_of highest_rank t ts)) (sym node) c.requires.dims in
+    rw (← node)
+    (gives-reduced ts (term_of arm.operand.now) arm.reducer arm.axes.now inner.operand.dims
+    c.as_slice.result.now inner.operand.placed c.in_ok-runs-in-Unary-Reduce-default.runs has_dims
+    inner.ensures.placed inner.ensures.dims
+    (c.as_slice.ensures.value ∙ c.all_among-dropped.ensures
+    ∙ ap (λ n. among arm.axes.now n) c.rank.ensures.value)
+    c.in_ok-runs-in-Unary-Reduce-default.ensures)
+
+pub along-requires-clause-axes : goal.along-requires-clause-axes
+along-requires-clause-axes c =
+    rw (c.as_slice.ensures.value, c.all_among-dropped.ensures, c.rank.ensures.value)
+    (are_axes-among c.in-Unary-Reduce-default.axes.now
+    (length c.in_ok-operand-in-Unary-Reduce-default.operand.dims))
+
+pub unreachable-requires : goal.unreachable-requires
+unreachable-requires c =
+    let arm = c.in-Binary-Contract-default-default in
+    let ts : List Contents = tensors_in c.args.tensors in
+    let node : binary (contract arm.pairs.now) (term_of arm.first.now) (term_of arm.second.now)
+    ≡ term_of c.args.expr.now =
+    ap (λ o. binary (binary_at o) (term_of arm.first.now) (term_of arm.second.now))
+    (sym arm.field-0-is) ∙ arm.ensures in
+    let has_dims = subst (λ t. IsOk (dims_of highest_rank t ts)) (sym node) c.requires.dims in
+    let known = contracted-known ts arm.pairs.now (term_of arm.first.now) (term_of arm.second.now)
+    has_dims in
+    let ds : List ℕ = shape_of (term_of arm.first.now) ts in
+    let few : length arm.pairs.now
+    ≤ length c.in_ok-first-in-Binary-Contract-default-default.first.dims =
+    omega (
+      arith,
+      length-axes (length ds) (firsts arm.pairs.now) known.known.first,
+      length-map arm.pairs.now (λ pair. pair.0),
+      ap length c.in_ok-first-in-Binary-Contract-default-default.ensures.dims,
+    ) in
+    let bad = c.in_default-paired_axes.ensures.some.1 few in
+    (cc)
+
+pub returns-in_ok-right-in-Binary-Contract-default-default :
+    goal.returns-in_ok-right-in-Binary-Contract-default-default
+returns-in_ok-right-in-Binary-Contract-default-default c =
+    let arm = c.in-Binary-Contract-default-default in
+    let left = c.in_ok-first-in-Binary-Contract-default-default in
+    let right = c.in_ok-second-in-Binary-Contract-default-default in
+    let ts : List Contents = tensors_in c.args.tensors in
+    let node : binary (contract arm.pairs.now) (term_of arm.first.now) (term_of arm.second.now)
+    ≡ term_of c.args.expr.now =
+    ap (λ o. binary (binary_at o) (term_of arm.first.now) (term_of arm.second.now))
+    (sym arm.field-0-is) ∙ arm.ensures in
+    let has_dims = subst (λ t. IsOk (dims_of highest_rank t ts)) (sym node) c.requires.dims in
+    rw (← node)
+    (gives-contracted ts (term_of arm.first.now) (term_of arm.second.now) arm.pairs.now
+    left.first.dims right.second.dims
+    c.as_slice-in-Binary-Contract-default-default.result.now
+    c.as_slice-in-Binary-Contract-default-default-2.result.now
+    left.first.placed right.second.placed
+    c.in_ok-left-in-Binary-Contract-default-default.left
+    c.in_ok-right-in-Binary-Contract-default-default.right
+    has_dims left.ensures.placed left.ensures.dims right.ensures.placed right.ensures.dims
+    (c.as_slice-in-Binary-Contract-default-default.ensures.value ∙ c.in-Some.ensures.first)
+    c.in_ok-left-in-Binary-Contract-default-default.ensures
+    (c.as_slice-in-Binary-Contract-default-default-2.ensures.value ∙ c.in-Some.ensures.second)
+    c.in_ok-right-in-Binary-Contract-default-default.ensures)

@@ -1,0 +1,53 @@
+-- Reductions and contractions whose operands lie in runs.
+use Rattle.std.specs.Prelude.{◌≡◌, ℕ, ℤ, ◌+◌, ◌*◌, ◌*ℤ◌, ◌/◌, ◌%◌, ◌<◌, ◌≤◌, List}
+use Rattle.std.specs.Coded.{Unit-prop}
+use native.Mathlib.Nat.{ℕ_set}
+use Rattle.tensor_shape.specs.Index.{size_of}
+use Rattle.tensor_shape.specs.Wrap.{wrap}
+use Rattle.tensor_ops.specs.Contents.{Contents}
+use Rattle.tensor_ops.specs.Folds.{folded}
+use Rattle.tensor_ops.specs.Parts.{inner_size, part_value}
+use Rattle.tensor_ops.specs.Products.{sum_to}
+use Rattle.tensor_ops.specs.Reduction.{unit}
+use Rattle.tensor_ops.specs.Result.{shape_of}
+use Rattle.tensor_ops.specs.Term.{Term}
+use Rattle.tensor_ops.specs.ValueRuns.{run_value}
+use Rattle.tensor_ops.specs.declared.in_runs.InRuns.{InRuns}
+use Rattle.tensor_ops.specs.declared.in_runs.InRuns.TheVariants.{Combined, Multiplied}
+
+-- how many values a run has
+abbrev pub run_length : InRuns → ℕ
+run_length (Combined r runs) = runs.length
+run_length (Multiplied first second) = first.length
+
+-- how many places the result has
+abbrev pub run_places : InRuns → ℕ
+run_places (Combined r runs) = runs.count
+run_places (Multiplied first second) = second.count * first.count
+
+-- what so many values of the runs of a place give, from one of them on
+abbrev pub run_part : InRuns → ℕ → ℕ → ℕ → ℤ
+run_part (Combined r runs) p first count =
+    folded r (unit r) (λ q. run_value runs p (first + q)) count
+run_part (Multiplied a b) p first count =
+    wrap (sum_to (λ q. run_value a (p % a.count) (first + q)
+    *ℤ run_value b (p / a.count) (first + q)) count)
+
+-- the runs that are multiplied have equally many values
+abbrev pub HaveOneLength : InRuns → Type 0
+HaveOneLength (Combined r runs) = Unit {0}
+HaveOneLength (Multiplied first second) = second.length ≡ first.length
+
+-- which is known in one way only
+pub HaveOneLength-prop : (r : InRuns) → IsProp (HaveOneLength r)
+HaveOneLength-prop (Combined r runs) = Unit-prop
+HaveOneLength-prop (Multiplied first second) = ℕ_set second.length first.length
+
+-- their parts are those of a term's values
+pub record GivesParts (r : InRuns) (t : Term) (inputs : List Contents) : Type 0 where
+  pub lengths : HaveOneLength r
+  pub inner : run_length r ≡ inner_size t inputs
+  pub places : run_places r ≡ size_of (shape_of t inputs)
+  pub parts : (p first count : ℕ) → p < size_of (shape_of t inputs)
+      → first + count ≤ inner_size t inputs
+      → run_part r p first count ≡ part_value t inputs p first count

@@ -1,0 +1,15 @@
+-- What an evaluator of parts evaluates.
+use Rattle.std.specs.Prelude.{List}
+use Rattle.tensor_ops.specs.Contents.{Contents}
+use Rattle.tensor_ops.specs.Tensors.{tensors_in}
+use Rattle.tensor_ops.specs.Term.{Term}
+use Rattle.tensor_ops.specs.Tree.{term_of}
+use Rattle.tensor_ops.specs.declared.part_evaluator.PartEvaluator.{PartEvaluator}
+
+-- the term of whose values it gives parts
+abbrev pub term_in_parts : PartEvaluator → Term
+term_in_parts e = term_of e.expr.now
+
+-- the inputs of that term
+abbrev pub inputs_in_parts : PartEvaluator → List Contents
+inputs_in_parts e = tensors_in e.tensors
