@@ -1,12 +1,14 @@
 -- Lists of values, item by item.
 use Rattle.std.proofs.Common.{◌≡◌, ℕ, ◌<◌, List, [], ◌∷◌, ◌++◌, length, Option, Some, None}
 use Rattle.std.proofs.Common.{option_map, option_and_then, refl, ap, sym, ◌∙◌, arith, ℤ, suc, ◌==◌}
-use Rattle.std.proofs.Common.{if◌then◌else◌}
+use Rattle.std.proofs.Common.{if◌then◌else◌, ◌+◌, get_or, drop, add-one, drop-cons, append_assoc}
 use Rattle.std.proofs.lemmas.Bool.{eq-eqb, ne_eqb, lt-leb}
 use Rattle.tensor_ops.specs.Legal.{are_legal}
 use Rattle.serde_json.specs.Data.{Data, Items, no_items, item}
 use Rattle.serde_json.specs.Events.{items_len}
 use Rattle.serde_json.specs.Find.{as_array}
+use Rattle.serde_json.specs.View.{view, items_view}
+use Rattle.serde_json.specs.declared.value.Value.{Value}
 use Rattle.expr_reader.specs.Arguments.{size_in, pair_of, pair_in}
 use Rattle.expr_reader.specs.Fields.{whole_of, signed_of, each_of, cons_of, list_in}
 use Rattle.expr_reader.specs.Tensors.{dims_in, values_in}
@@ -14,6 +16,22 @@ use Rattle.expr_reader.specs.Tensors.{dims_in, values_in}
 -- what was taken, before the rest
 abbrev pub after : {A : Type 0} → List A → Option (List A) → Option (List A)
 after done rest = option_map (λ more. done ++ more) rest
+
+-- one item more was taken, behind those that were
+pub after-cons_of : {A : Type 0} (done : List A) (x : A) (rest : Option (List A)) → after done (cons_of (Some x) rest) ≡ after (done ++ x ∷ []) rest
+after-cons_of done x None = refl
+after-cons_of done x (Some xs) = ap Some (simp append_assoc)
+
+-- which is one of the values of a list, where those before it were taken
+pub after-next : {A : Type 0} (f : Data → Option A) (done more : List A) (vs : List Value) (i : ℕ) (d : Value) (x : A) (whole : Option (List A))
+    → i < length vs → f (view (get_or vs i d)) ≡ Some x → more ≡ done ++ x ∷ []
+    → after done (each_of f (items_view (drop i vs))) ≡ whole → after more (each_of f (items_view (drop (i + 1) vs))) ≡ whole
+after-next f done more vs i d x whole within is taken before =
+    let rest = each_of f (items_view (drop (i + 1) vs)) in
+    let cons : drop i vs ≡ get_or vs i d ∷ drop (i + 1) vs = rw (add-one, drop-cons vs i d within) refl in
+    ap (λ l. after l rest) taken
+    ∙ sym (ap (λ l. after done (each_of f (items_view l))) cons ∙ ap (λ head. after done (cons_of head rest)) is ∙ after-cons_of done x rest)
+    ∙ before
 
 -- a head and a rest have one item more than the rest
 length-cons_of : {A : Type 0} (head : Option A) (rest : Option (List A)) (xs : List A) → cons_of head rest ≡ Some xs

@@ -1,26 +1,20 @@
 -- Members taken one after another.
 use Rattle.std.proofs.Common.{◌≡◌, ℕ, zero, suc, ◌+◌, ◌<◌, ◌≤◌, List, [], ◌∷◌, ◌++◌, length, Option, Some, None}
 use Rattle.std.proofs.Common.{String, Global, string_bytes, refl, ap, sym, if◌then◌else◌, arith}
-use Rattle.std.proofs.Common.{length-append, append_assoc}
+use Rattle.std.proofs.Common.{length-append}
 use Rattle.std.specs.List.{position_from}
 use Rattle.std.specs.Option.{option_or}
 use Rattle.std.specs.Str.{bytes_eq}
 use Rattle.serde_json.specs.View.{view, members_view}
 use Rattle.serde_json.specs.declared.value.Value.{Value}
 use Rattle.tensor_ops.specs.Contents.{Contents, HaveRank}
-use Rattle.expr_reader.specs.Fields.{cons_of}
 use Rattle.expr_reader.specs.Tensors.{tensor_in, tensors_in, names_in}
-use Rattle.expr_reader.proofs.Lists.{after}
+use Rattle.expr_reader.proofs.Lists.{after, after-cons_of}
 use Rattle.expr_reader.proofs.Numbers.{position_from-cons, option_or-option_or}
 
 -- the number of a name among those that are left, the first of which has number n
 abbrev pub number_from : ℕ → List (String Global × Value) → List ℕ → Option ℕ
 number_from n rest q = position_from (λ other. bytes_eq q other) n (names_in (members_view rest))
-
--- a tensor taken behind those that were taken
-pub after-cons_of : {A : Type 0} (done : List A) (x : A) (rest : Option (List A)) → after done (cons_of (Some x) rest) ≡ after (done ++ x ∷ []) rest
-after-cons_of done x None = refl
-after-cons_of done x (Some xs) = ap Some (simp append_assoc)
 
 module _ (rank : ℕ) (rest more : List (String Global × Value)) (name : String Global) (value : Value)
     (first : rest ≡ (name, value) ∷ more) where
