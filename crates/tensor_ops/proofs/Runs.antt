@@ -97,16 +97,7 @@ module _ (ps : List ℕ) where
       places-read (λ p. o (f p)) ps vs (omega arith)
       (λ k below. each k (omega arith) ∙ ap (λ l. o (get_or l k (pos 0))) operand ∙ ap o (get_or-map f ps k 0 (pos 0) below))
 
-  pub places-combined : (o : ℤ → ℤ → ℤ) (f g : ℕ → ℤ) (xs ys vs : List ℤ) → xs ≡ map f ps → ys ≡ map g ps → length vs ≡ length ys
-      → ((k : ℕ) → k < length ys → get_or vs k (pos 0) ≡ o (get_or xs k (pos 0)) (get_or ys k (pos 0))) → vs ≡ map (λ p. o (f p) (g p)) ps
-  places-combined o f g xs ys vs left right long each =
-      let same : length ys ≡ length ps = ap length right ∙ length-map ps g in
-      places-read (λ p. o (f p) (g p)) ps vs (omega arith)
-      (λ k below. each k (omega arith)
-      ∙ ap (λ l. o (get_or l k (pos 0)) (get_or ys k (pos 0))) left ∙ ap (λ x. o x (get_or ys k (pos 0))) (get_or-map f ps k 0 (pos 0) below)
-      ∙ ap (λ l. o (f (get_or ps k 0)) (get_or l k (pos 0))) right ∙ ap (o (f (get_or ps k 0))) (get_or-map g ps k 0 (pos 0) below))
-
-  -- the same where the second values are a function's at each place
+  -- the same of two
   pub places-paired : (o : ℤ → ℤ → ℤ) (f g : ℕ → ℤ) (xs vs : List ℤ) → xs ≡ map f ps → length vs ≡ length ps
       → ((k : ℕ) → k < length ps → get_or vs k (pos 0) ≡ o (get_or xs k (pos 0)) (g (get_or ps k 0))) → vs ≡ map (λ p. o (f p) (g p)) ps
   places-paired o f g xs vs left long each =

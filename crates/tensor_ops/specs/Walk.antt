@@ -1,5 +1,5 @@
 -- Walks: the operand's places in the order of the result's, by a size and a step an axis.
-use Rattle.std.specs.Prelude.{ℕ, ◌+◌, ◌-◌, ◌*◌, ◌/◌, ◌%◌, List, [], ◌∷◌, slice_index, if◌then◌else◌}
+use Rattle.std.specs.Prelude.{ℕ, ◌<◌, ◌≤◌, ◌+◌, ◌-◌, ◌*◌, ◌/◌, ◌%◌, List, [], ◌∷◌, slice_index, if◌then◌else◌}
 use Rattle.tensor_ops.specs.declared.walk.Axis.{Axis}
 use Rattle.tensor_ops.specs.declared.walk.Row.{Row}
 
@@ -25,3 +25,8 @@ along rows a first p =
 -- the place of a part of a row at one of its numbers
 abbrev pub place_in : Row → ℕ → ℕ
 place_in row k = row.start + steps_to row.axis (row.from + k) * row.axis.step
+
+-- it has as many places, and they are below a number
+pub record IsRowIn (row : Row) (count : ℕ) : Type 0 where
+  pub whole : row.from + row.count ≤ row.axis.size
+  pub inside : (k : ℕ) → k < row.count → place_in row k < count

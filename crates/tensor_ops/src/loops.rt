@@ -3,12 +3,12 @@
 
 ghost use Rattle.std.specs.Prelude.{◌≡◌, ◌<◌, ◌≤◌, ◌+◌, ℕ, pos, length, slice_index_or, vec_len};
 ghost use Rattle.std.specs.Prelude.{if◌then◌else◌};
-ghost use Rattle.tensor_ops.specs.Loops.{either_way, selected};
+ghost use Rattle.tensor_ops.specs.Loops.{either_way, selected, CombinesRow};
 ghost use Rattle.tensor_ops.specs.Scalars.{applied, is_true};
-ghost use Rattle.tensor_ops.specs.Walk.{place_in};
+ghost use Rattle.tensor_ops.specs.Walk.{IsRowIn};
 
 use crate::operations::{BinaryScalar, UnaryScalar, applied, combined, is_true};
-use crate::walk::{Axis, Row, steps_to};
+use crate::walk::{Row, steps_to};
 
 /// The order in which the operands of a select are worked out: this one, and then the others as
 /// they stand, condition, yes, no.
@@ -42,19 +42,14 @@ pub(crate) fn combine(operation: BinaryScalar, turned: bool, values: &mut Vec<i6
         ≡ either_way operation turned (slice_index_or values.old.items k (pos 0))
         (slice_index_or others.now k (pos 0)) }
 {
-    let count = others.len();
-    let axis = Axis {
-        size: count,
-        step: 1,
-        falls: false,
-    };
-    let row = Row {
-        start: 0,
-        axis,
-        from: 0,
-        count,
-    };
-    combine_row(operation, turned, values, 0, others, row);
+    combine_row(
+        operation,
+        turned,
+        values,
+        0,
+        others,
+        Row::whole(others.len()),
+    );
 }
 
 /// The values from a place on become the operation's of them and a list's along a row, of which the
@@ -67,17 +62,10 @@ pub(crate) fn combine_row(
     list: &[i64],
     row: Row,
 )
-    requires whole { row.from + row.count ≤ row.axis.size }
+    requires row { IsRowIn row (length list.now) }
     requires room { at + row.count ≤ vec_len values.old }
-    requires inside { (k : ℕ) → k < row.count → place_in row k < length list.now }
-    ensures len { length values.new.items ≡ length values.old.items }
-    ensures each { (k : ℕ) → k < row.count → slice_index_or values.new.items (at + k) (pos 0)
-        ≡ either_way operation turned (slice_index_or values.old.items (at + k) (pos 0))
-        (slice_index_or list.now (place_in row k) (pos 0)) }
-    ensures before { (k : ℕ) → k < at
-        → slice_index_or values.new.items k (pos 0) ≡ slice_index_or values.old.items k (pos 0) }
-    ensures after { (k : ℕ) → at + row.count ≤ k
-        → slice_index_or values.new.items k (pos 0) ≡ slice_index_or values.old.items k (pos 0) }
+    ensures { CombinesRow operation turned values.old.items list.now row at row.count
+        values.new.items }
 {
     match operation {
         BinaryScalar::Add => combine_by_steps(BinaryScalar::Add, turned, values, at, list, row),
@@ -149,17 +137,10 @@ fn combine_by_steps(
     list: &[i64],
     row: Row,
 )
-    requires whole { row.from + row.count ≤ row.axis.size }
+    requires row { IsRowIn row (length list.now) }
     requires room { at + row.count ≤ vec_len values.old }
-    requires inside { (k : ℕ) → k < row.count → place_in row k < length list.now }
-    ensures len { length values.new.items ≡ length values.old.items }
-    ensures each { (k : ℕ) → k < row.count → slice_index_or values.new.items (at + k) (pos 0)
-        ≡ either_way operation turned (slice_index_or values.old.items (at + k) (pos 0))
-        (slice_index_or list.now (place_in row k) (pos 0)) }
-    ensures before { (k : ℕ) → k < at
-        → slice_index_or values.new.items k (pos 0) ≡ slice_index_or values.old.items k (pos 0) }
-    ensures after { (k : ℕ) → at + row.count ≤ k
-        → slice_index_or values.new.items k (pos 0) ≡ slice_index_or values.old.items k (pos 0) }
+    ensures { CombinesRow operation turned values.old.items list.now row at row.count
+        values.new.items }
 {
     match (row.axis.step, row.axis.falls) {
         (1, false) => combine_each(operation, turned, values, at, list, row.known(1, false)),
@@ -178,17 +159,10 @@ fn combine_each(
     list: &[i64],
     row: Row,
 )
-    requires whole { row.from + row.count ≤ row.axis.size }
+    requires row { IsRowIn row (length list.now) }
     requires room { at + row.count ≤ vec_len values.old }
-    requires inside { (k : ℕ) → k < row.count → place_in row k < length list.now }
-    ensures len { length values.new.items ≡ length values.old.items }
-    ensures each { (k : ℕ) → k < row.count → slice_index_or values.new.items (at + k) (pos 0)
-        ≡ either_way operation turned (slice_index_or values.old.items (at + k) (pos 0))
-        (slice_index_or list.now (place_in row k) (pos 0)) }
-    ensures before { (k : ℕ) → k < at
-        → slice_index_or values.new.items k (pos 0) ≡ slice_index_or values.old.items k (pos 0) }
-    ensures after { (k : ℕ) → at + row.count ≤ k
-        → slice_index_or values.new.items k (pos 0) ≡ slice_index_or values.old.items k (pos 0) }
+    ensures { CombinesRow operation turned values.old.items list.now row at row.count
+        values.new.items }
 {
     for k in 0..row.count {
         let other = list[row.start + steps_to(row.axis, row.from + k) * row.axis.step];

@@ -12,12 +12,12 @@ ghost use Rattle.tensor_ops.specs.Splicing.{spliced, HaveTurns};
 
 use crate::combining::{combine_along, has_long_rows};
 use crate::gather::{picked, picked_along};
-use crate::loops::{SelectOrder, apply, combine, select};
+use crate::loops::{SelectOrder, apply, combine, combine_row, select};
 use crate::operations::{BinaryScalar, UnaryScalar};
 use crate::places::Places;
 use crate::spliced::{parted, spliced_list, spliced_run};
 use crate::turns::Turns;
-use crate::walk::{Axis, Reading, sources};
+use crate::walk::{Axis, Reading, Row, sources};
 use std::alloc::{AllocError, Allocator, Global};
 use std::borrow::CowSlice;
 
@@ -228,7 +228,8 @@ pub(crate) fn values_at<'t, 'a>(
 }
 
 /// Values at places become the operation's of them and an operand's there, of which the second comes
-/// first where they are turned. Of a list that is read along long rows no values are put aside.
+/// first where they are turned. Of one value, and of a list that is read along long rows, no values
+/// are put aside.
 #[cycle(values_at)]
 fn combine_at(
     alloc: Global,
@@ -247,6 +248,17 @@ fn combine_at(
         ≡ either_way operation turned (slice_index_or values.old.items k (pos 0))
         (meaning operand.now (slice_index (places_of places.now) k))) }
 {
+    if let Placed::Same(value, _) = operand {
+        combine_row(
+            operation,
+            turned,
+            values,
+            0,
+            &[*value],
+            Row::repeated(places.len()),
+        );
+        return Ok(());
+    }
     if let Places::Run(first, last) = places {
         if let Some(reading) = operand.reading() {
             if has_long_rows(reading.axes) {

@@ -4,7 +4,7 @@ ghost use Rattle.std.specs.Prelude.{◌≡◌, ◌<◌, ◌≤◌, ◌-◌, ◌+
 ghost use Rattle.std.specs.Prelude.{IfOk, slice_index, vec_len, vec_capacity};
 ghost use Rattle.std.specs.List.{range_with_len};
 ghost use Rattle.tensor_ops.specs.Places.{places_of, AreBelow};
-ghost use Rattle.tensor_ops.specs.Walk.{walk_size, reached, along, steps_to};
+ghost use Rattle.tensor_ops.specs.Walk.{walk_size, reached, along, steps_to, place_in, IsRowIn};
 
 use crate::places::Places;
 use std::alloc::{AllocError, Global};
@@ -59,6 +59,42 @@ impl Axis {
 }
 
 impl Row {
+    /// One place, so many times.
+    pub(crate) fn repeated(count: usize) -> Self
+        ensures row { IsRowIn result 1 }
+        ensures count { result.count ≡ count }
+        ensures first { (k : ℕ) → place_in result k ≡ 0 }
+    {
+        Row {
+            start: 0,
+            axis: Axis {
+                size: count,
+                step: 0,
+                falls: false,
+            },
+            from: 0,
+            count,
+        }
+    }
+
+    /// Places that lie side by side, from the first on.
+    pub(crate) fn whole(count: usize) -> Self
+        ensures row { IsRowIn result count }
+        ensures count { result.count ≡ count }
+        ensures each { (k : ℕ) → place_in result k ≡ k }
+    {
+        Row {
+            start: 0,
+            axis: Axis {
+                size: count,
+                step: 1,
+                falls: false,
+            },
+            from: 0,
+            count,
+        }
+    }
+
     /// The same part of a row, with the step and the way of its axis as the compiler knows them.
     #[inline(always)]
     pub(crate) fn known(self, step: usize, falls: bool) -> Self

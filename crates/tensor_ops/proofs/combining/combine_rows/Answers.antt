@@ -6,13 +6,17 @@ use Rattle.tensor_ops.proofs.CombinedRows.{rows-more}
 use Rattle.tensor_ops.proofs.Walks.{along-row, mul-next, run-ended}
 use Rattle.tensor_ops.proofs.combining.combine_rows.Goals as goal
 
-pub combine_row-requires-clause-inside : goal.combine_row-requires-clause-inside
-combine_row-requires-clause-inside c = λ k below.
+pub combine_row-requires-clause-row : goal.combine_row-requires-clause-row
+combine_row-requires-clause-row c =
     let inv = c.loop-start.invariant in
-    let row =
-    along-row c.args.rows.now c.args.axis c.args.first c.loop-start.start-index (c.loop-start.from + k) (c.loop-start.place + k)
-    (omega (arith, below)) (omega (arith, below, inv.here (omega (arith, below)))) in
-    rw (← row) (c.requires.inside (c.loop-start.place + k) (omega arith) (omega (arith, below)))
+    record {
+      whole = omega arith;
+      inside = λ k below.
+          let row =
+          along-row c.args.rows.now c.args.axis c.args.first c.loop-start.start-index (c.loop-start.from + k) (c.loop-start.place + k)
+          (omega (arith, below)) (omega (arith, below, inv.here (omega (arith, below)))) in
+          rw (← row) (c.requires.inside (c.loop-start.place + k) (omega arith) (omega (arith, below)));
+    }
 
 pub loop-start-preserved : goal.loop-start-preserved
 loop-start-preserved c =

@@ -36,3 +36,22 @@ loop-k-preserved c =
       before = λ j below. get_or-set_other vs (at + k) j value (pos 0) (omega arith) ∙ inv.before j below;
       after = λ j above. get_or-set_other vs (at + k) j value (pos 0) (omega arith) ∙ inv.after j (omega arith);
     }
+
+pub loop-k-init : goal.loop-k-init
+loop-k-init c = record {
+  len = refl;
+  each = λ j below. absurd (omega arith);
+  before = λ j below. refl;
+  after = λ j above. refl;
+}
+
+pub returns : goal.returns
+returns c =
+    let inv = c.loop-k.invariant in
+    let done : c.loop-k.k ≡ c.args.row.count = omega arith in
+    record {
+      len = inv.len;
+      each = λ k below. inv.each k (omega arith);
+      before = inv.before;
+      after = λ k above. inv.after k (omega arith);
+    }

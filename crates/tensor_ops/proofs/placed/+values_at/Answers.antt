@@ -1,8 +1,11 @@
-use Rattle.std.proofs.Common.{◌≡◌, ◌<◌, ℕ, ℤ, pos, ◌+◌, ◌-◌, get_or, length, map, IfOk, ap, sym, subst, ◌∙◌, rules, arith}
+use Rattle.std.proofs.Common.{◌≡◌, ◌<◌, ℕ, ℤ, pos, ◌+◌, ◌-◌, [], ◌∷◌, get_or, length, map, IfOk, refl, ap, sym, subst, ◌∙◌, rules, arith}
 use Rattle.std.specs.List.{range_with_len}
 use Rattle.std.proofs.lemmas.List.FromFn.{length-range_with_len, get_or-range_with_len, length-map-range_with_len}
 use Rattle.std.proofs.lemmas.List.{length-map}
 use Rattle.std.proofs.lemmas.Result.{on_ok_weaker}
+use Rattle.std.proofs.lemmas.Int.{to_z-of_z}
+use Rattle.std.specs.Int.{w64}
+use mir.Val.{SFits, to_z, of_z}
 use Rattle.std.specs.Cow.{cow_slice_items}
 use Rattle.std.specs.Prelude.{replicate}
 use Rattle.tensor_ops.specs.Loops.{either_way, selected}
@@ -10,7 +13,7 @@ use Rattle.tensor_ops.specs.Meaning.{meaning, count_of, depth_of}
 use Rattle.tensor_ops.specs.Places.{places_of}
 use Rattle.tensor_ops.specs.Scalars.{applied}
 use Rattle.tensor_ops.specs.Splicing.{firsts_before, seconds_before, spliced}
-use Rattle.tensor_ops.specs.Walk.{reached, walk_size}
+use Rattle.tensor_ops.specs.Walk.{reached, walk_size, place_in}
 use Rattle.tensor_ops.proofs.InTurns.{firsts-run, seconds-run, first_places-below, second_places-below, map-first_alone, map-second_alone}
 use Rattle.tensor_ops.proofs.Runs.{places-applied, places-paired, places-selected, places-moved, map-constant}
 use Rattle.tensor_ops.proofs.Soundness.{reached-within}
@@ -78,6 +81,21 @@ combine_at-returns-then-has_long_rows-clause-each t c =
     each k inside ∙ ap (λ y. o (get_or c.args.values.now.items k (pos 0)) y) (sym (c.in-Some.ensures.each (first + k)))
     ∙ ap (λ p. o (get_or c.args.values.now.items k (pos 0)) (meaning c.args.operand.now p)) (sym place))
     c.combine_along.ensures.each
+
+pub combine_at-returns-in-Same-clause-each : goal.combine_at-returns-in-Same-clause-each
+combine_at-returns-in-Same-clause-each t c = λ k below.
+    let o = either_way c.args.operation c.args.turned in
+    let old = c.args.values.now.items in
+    let fits : SFits w64 c.in-Same.value = search rules in
+    let value : ℤ = to_z w64 (of_z w64 c.in-Same.value) in
+    let same : to_z w64 (of_z w64 c.in-Same.value) ≡ c.in-Same.value = simp to_z-of_z refl in
+    let start : 0 + k ≡ k = omega arith in
+    ap (λ j. get_or c.combine_row.new.values.items j (pos 0)) (sym start)
+    ∙ c.combine_row.ensures.each k (omega (arith, below, c.repeated.ensures.count, c.len.ensures))
+    ∙ ap (λ j. o (get_or old j (pos 0)) (get_or (value ∷ []) (place_in c.repeated.result k) (pos 0))) start
+    ∙ ap (λ p. o (get_or old k (pos 0)) (get_or (value ∷ []) p (pos 0))) (c.repeated.ensures.first k)
+    ∙ ap (λ x. o (get_or old k (pos 0)) x) same
+    ∙ ap (λ a. o (get_or old k (pos 0)) (meaning a (get_or (places_of c.args.places.now) k 0))) (sym c.in-Same.is)
 
 pub values_at-values_at-requires-in-Walk : goal.values_at-values_at-requires-in-Walk
 values_at-values_at-requires-in-Walk t c = (
