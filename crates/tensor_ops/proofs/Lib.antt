@@ -10,6 +10,9 @@ pub mod Dropping
 pub mod Evaluated
 pub mod FirstAxes
 pub mod Folding
+pub mod HalfLanes
+pub mod HalfWords
+pub mod HalfProducts
 pub mod InTurns
 pub mod Joints
 pub mod Known
@@ -21,7 +24,10 @@ pub mod Operands
 pub mod Others
 pub mod PackedRows
 pub mod Pads
+pub mod PairProducts
+pub mod PairLanes
 pub mod PanelPlaces
+pub mod PanelSums
 pub mod Parting
 pub mod PartValues
 pub mod Parts

@@ -30,3 +30,17 @@ set-rest xs t v s later = let ne : s ≢ t = omega arith in rw get_or-set_other 
 pub value_in-from : (xs : List ℤ) (i k : ℕ)
     → value_in (take (length xs - i) (drop i xs)) k ≡ value_in xs (i + k)
 value_in-from xs i k = rw take_rest (get_or-drop i xs k (pos 0))
+
+-- one place more of those from place k on
+pub stored-next : (f : ℕ → ℤ) (xs : List ℤ) (k t : ℕ) (v : ℤ) → k + t < length xs
+    → ((s : ℕ) → s < t → value_in xs (k + s) ≡ f s) → v ≡ f t
+    → (s : ℕ) → s < t + 1 → value_in (slice_set xs (k + t) v) (k + s) ≡ f s
+stored-next f xs k t v room before here =
+    below_more _ _
+    (λ s h. let ne : k + s ≢ k + t = omega arith in rw get_or-set_other (before s h))
+    (rw get_or-set_same here)
+
+-- the places before the one that is set
+pub kept-next : (xs : List ℤ) (k : ℕ) (v : ℤ) (s : ℕ) → s < k
+    → value_in (slice_set xs k v) s ≡ value_in xs s
+kept-next xs k v s before = let ne : s ≢ k = omega arith in rw get_or-set_other refl

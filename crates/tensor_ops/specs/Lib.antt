@@ -12,6 +12,7 @@ pub mod Cursor
 pub mod Dots
 pub mod Evaluator
 pub mod Folds
+pub mod Halves
 pub mod InRuns
 pub mod Joining
 pub mod Loops
@@ -19,6 +20,7 @@ pub mod Meaning
 pub mod Movement
 pub mod Offsets
 pub mod Padding
+pub mod Pairs
 pub mod Pairing
 pub mod Panels
 pub mod PartEvaluator

@@ -5,8 +5,10 @@ ghost use Rattle.std.specs.Prelude.{IfOk, IsTrue};
 ghost use Rattle.tensor_shape.specs.Wrap.{wrap};
 ghost use Rattle.tensor_ops.specs.Panels.{AreSmall, rows_product};
 ghost use Rattle.tensor_ops.specs.Places.{value_in};
+ghost use Rattle.tensor_ops.specs.Rows.{row_count, row_length};
 
 use crate::packing::packed;
+use crate::pair_sums::Paired;
 use crate::rows::Rows;
 use crate::small::small_tile;
 use crate::tile::wide_tile;
@@ -15,20 +17,23 @@ use std::alloc::{AllocError, Global};
 /// Both operands in panels of four rows, in cells of 32 bits where all their values fit them.
 #[derive(Drop)]
 pub(crate) enum Panels {
-    Wide(Vec<i64>, Vec<i64>),
+    Wide(Paired, Paired),
     Small(Vec<i32>, Vec<i32>),
 }
 
 impl Panels {
-    ghost use Rattle.tensor_ops.specs.Cells.{first_cells, second_cells, AreNarrow, HoldsRows};
+    ghost use Rattle.tensor_ops.specs.Cells.{first_cells, second_cells, AreReady, HoldsRows};
 
-    /// The rows of both operands, packed. Takes a cell for each value, up to whole panels.
+    /// The rows of both operands, packed. Takes a cell for each value, up to whole panels, and four
+    /// sums a panel where cells are of 64 bits.
     pub(crate) fn of(
         alloc: Global,
         first: &Rows<'_>,
         second: &Rows<'_>,
     ) -> Result<Panels, AllocError>
-        ensures narrow { IfOk result AreNarrow }
+        requires lengths { row_length first.now ≡ row_length second.now }
+        ensures ready { IfOk result (AreReady ((row_count first.now + 3) / 4)
+            ((row_count second.now + 3) / 4) (row_length first.now)) }
         ensures first { IfOk result (λ panels. HoldsRows (first_cells panels) first.now) }
         ensures second { IfOk result (λ panels. HoldsRows (second_cells panels) second.now) }
     {
@@ -38,8 +43,8 @@ impl Panels {
             let second = packed::<i32>(alloc, b, &second.starts, &second.offsets)?;
             Ok(Panels::Small(first, second))
         } else {
-            let first = packed::<i64>(alloc, a, &first.starts, &first.offsets)?;
-            let second = packed::<i64>(alloc, b, &second.starts, &second.offsets)?;
+            let first = Paired::of(alloc, first)?;
+            let second = Paired::of(alloc, second)?;
             Ok(Panels::Wide(first, second))
         }
     }
@@ -47,7 +52,7 @@ impl Panels {
     /// The sums of the n products of each row of panel s of the first operand and each row of panel
     /// p of the second, modulo 2^64, in columns of four.
     pub(crate) fn tile(&self, s: usize, p: usize, n: usize) -> [i64; 16]
-        requires narrow { AreNarrow self.now }
+        requires ready { AreReady (s + 1) (p + 1) n self.now }
         requires first { (s + 1) * (n * 4) ≤ length (first_cells self.now) }
         requires second { (p + 1) * (n * 4) ≤ length (second_cells self.now) }
         ensures len { length result ≡ 16 }
@@ -55,7 +60,10 @@ impl Panels {
             (first_cells self.now) (second_cells self.now) n (s * 4 + t % 4) (p * 4 + t / 4)) }
     {
         match self {
-            Panels::Wide(a, b) => wide_tile(&a[s * (n * 4)..], &b[p * (n * 4)..], n),
+            Panels::Wide(a, b) => {
+                let (rows, columns) = (&a.cells[s * (n * 4)..], &b.cells[p * (n * 4)..]);
+                wide_tile(rows, &a.sums[s], columns, &b.sums[p], n)
+            }
             Panels::Small(a, b) => small_tile(&a[s * (n * 4)..], &b[p * (n * 4)..], n),
         }
     }

@@ -2,8 +2,11 @@
 
 ghost use Rattle.std.specs.Prelude.{◌≡◌, ℕ, ◌*◌, ◌+◌, ◌/◌, ◌%◌, ◌≤◌, ◌<◌, length, ◌+ℤ◌, ◌*ℤ◌};
 ghost use Rattle.tensor_shape.specs.Wrap.{wrap};
+ghost use Rattle.tensor_ops.specs.Pairs.{HasPairSums};
 ghost use Rattle.tensor_ops.specs.Panels.{panel_product};
 ghost use Rattle.tensor_ops.specs.Places.{value_in};
+
+use crate::pairs::tile_by_pairs;
 
 /// A sum and one product more, modulo 2^64.
 #[inline(always)]
@@ -14,49 +17,42 @@ pub(crate) fn mul_add(sum: i64, x: i64, y: i64) -> i64
     sum.wrapping_add(product)
 }
 
-/// One product more for each of eight sums: those of two values and four.
-#[inline(always)]
-fn add_products(sums: &mut [i64; 8], a: &[i64], i: usize, b: &[i64], j: usize)
-    requires a { i + 2 ≤ length a.now }
-    requires b { j + 4 ≤ length b.now }
-    ensures { (t : ℕ) → t < 8 → value_in sums.new t
-        ≡ wrap (value_in sums.old t +ℤ (value_in a.now (i + t % 2) *ℤ value_in b.now (j + t / 2))) }
-{
-    for t in 0..8 {
-        sums[t] = mul_add(sums[t], a[i + t % 2], b[j + t / 2]);
-    }
-}
-
-/// The sums of two rows of one panel, from row h on, and all four of another, in columns of two.
-/// A call of its own: what is around it would push its sums out of the registers.
-#[inline(never)]
-fn half_tile(a: &[i64], b: &[i64], n: usize, h: usize) -> [i64; 8]
+/// The sums of the n products of each row of one panel and each of another, in columns of four,
+/// where the sums of the products of their pairs are known.
+pub(crate) fn wide_tile(
+    a: &[i64],
+    rows: &[i64; 4],
+    b: &[i64],
+    columns: &[i64; 4],
+    n: usize,
+) -> [i64; 16]
     requires a { n * 4 ≤ length a.now }
     requires b { n * 4 ≤ length b.now }
-    requires h { h ≤ 2 }
-    ensures { (t : ℕ) → t < 8
-        → value_in result t ≡ wrap (panel_product a.now b.now (h + t % 2) (t / 2) n) }
-{
-    let mut sums = [0i64; 8];
-    for q in 0..n {
-        add_products(&mut sums, a, 4 * q + h, b, 4 * q);
-    }
-    sums
-}
-
-/// The sums of the n products of each row of one panel and each of another, in columns of four.
-pub(crate) fn wide_tile(a: &[i64], b: &[i64], n: usize) -> [i64; 16]
-    requires a { n * 4 ≤ length a.now }
-    requires b { n * 4 ≤ length b.now }
+    requires rows { HasPairSums rows.now a.now n }
+    requires columns { HasPairSums columns.now b.now n }
     ensures { (t : ℕ) → t < 16
         → value_in result t ≡ wrap (panel_product a.now b.now (t % 4) (t / 4) n) }
 {
-    let low = half_tile(a, b, n, 0);
-    let high = half_tile(a, b, n, 2);
-    let mut sums = [0i64; 16];
-    for t in 0..16 {
-        let s = t / 4 * 2 + t % 2;
-        sums[t] = if t % 4 < 2 { low[s] } else { high[s] };
+    let sums = tile_by_pairs(a, rows, b, columns, n / 2);
+    if n % 2 == 0 {
+        sums
+    } else {
+        with_last(sums, a, b, n - 1)
     }
-    sums
+}
+
+/// The sums of n products, and product n more in each.
+fn with_last(sums: [i64; 16], a: &[i64], b: &[i64], n: usize) -> [i64; 16]
+    requires a { n * 4 + 4 ≤ length a.now }
+    requires b { n * 4 + 4 ≤ length b.now }
+    requires sums { (t : ℕ) → t < 16
+        → value_in sums t ≡ wrap (panel_product a.now b.now (t % 4) (t / 4) n) }
+    ensures { (t : ℕ) → t < 16
+        → value_in result t ≡ wrap (panel_product a.now b.now (t % 4) (t / 4) (n + 1)) }
+{
+    let mut more = sums;
+    for t in 0..16 {
+        more[t] = mul_add(sums[t], a[4 * n + t % 4], b[4 * n + t / 4]);
+    }
+    more
 }

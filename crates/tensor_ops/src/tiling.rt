@@ -4,7 +4,7 @@
 ghost use Rattle.std.specs.Prelude.{◌≡◌, ℕ, ◌*◌, ◌+◌, ◌-◌, ◌/◌, ◌%◌, ◌<◌, ◌≤◌, ◌^◌, length};
 ghost use Rattle.std.specs.Prelude.{IfOk, IfSome, None};
 ghost use Rattle.tensor_shape.specs.Legal.{most_elements};
-ghost use Rattle.tensor_ops.specs.Cells.{first_cells, second_cells, AreNarrow, AreNarrow-prop};
+ghost use Rattle.tensor_ops.specs.Cells.{first_cells, second_cells, AreReady, AreReady-prop};
 ghost use Rattle.tensor_ops.specs.Places.{value_in};
 ghost use Rattle.tensor_ops.specs.Rows.{row_count, row_length, dot_at};
 
@@ -20,7 +20,7 @@ pub(crate) struct Tiled {
     rows: usize,
     columns: usize,
     products: usize,
-    ghost narrow: { AreNarrow panels } by { AreNarrow-prop panels },
+    ghost ready: { AreReady ((rows + 3) / 4) ((columns + 3) / 4) products panels } by { AreReady-prop ((rows + 3) / 4) ((columns + 3) / 4) products panels },
     ghost first: { length (first_cells panels) ≡ (rows + 3) / 4 * (products * 4) },
     ghost second: { length (second_cells panels) ≡ (columns + 3) / 4 * (products * 4) },
     ghost few_rows: { rows ≤ most_elements },

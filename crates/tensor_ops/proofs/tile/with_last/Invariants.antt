@@ -1,12 +1,12 @@
--- The first t sums, column by column.
-use Rattle.std.proofs.Common.{◌≡◌, ℕ, length, ◌/◌, ◌%◌, ◌<◌}
+-- The first t sums with the last product.
+use Rattle.std.proofs.Common.{◌≡◌, ℕ, length, ◌+◌, ◌/◌, ◌%◌, ◌<◌}
 use Rattle.tensor_ops.specs.Places.{value_in}
 use Rattle.tensor_shape.specs.Wrap.{wrap}
 use Rattle.tensor_ops.specs.Panels.{panel_product}
-use Rattle.tensor_ops.proofs.tile.wide_tile.Given as goal
+use Rattle.tensor_ops.proofs.tile.with_last.Given as goal
 
 abbrev pub invariant-loop-t : goal.invariant-loop-t
 invariant-loop-t l =
-    (length l.sums ≡ 16)
-    × ((s : ℕ) → s < l.t → value_in l.sums s
-    ≡ wrap (panel_product l.fn.a l.fn.b (s % 4) (s / 4) l.fn.n))
+    (length l.more ≡ 16)
+    × ((s : ℕ) → s < l.t → value_in l.more s
+    ≡ wrap (panel_product l.a l.b (s % 4) (s / 4) (l.fn.n + 1)))

@@ -1,4 +1,4 @@
-use Rattle.std.proofs.Common.{◌≡◌, ◌≤◌, ◌+◌, ◌*◌, ◌-◌, ◌/◌, ◌%◌, ◌<◌, length, ap, sym, ◌∙◌, arith}
+use Rattle.std.proofs.Common.{◌≡◌, ℕ, ◌≤◌, ◌+◌, ◌*◌, ◌-◌, ◌/◌, ◌%◌, ◌<◌, length, ap, sym, ◌∙◌, arith}
 use Rattle.std.proofs.Common.{inl, inr}
 use Rattle.std.proofs.Math.Nat.{mul-le-mul_right}
 use Rattle.std.proofs.lemmas.Bool.{cases_lt}
@@ -6,6 +6,7 @@ use Rattle.std.proofs.lemmas.Nat.{div_below}
 use Rattle.tensor_shape.specs.Wrap.{wrap}
 use Rattle.tensor_ops.specs.Cells.{first_cells, second_cells}
 use Rattle.tensor_ops.specs.Panels.{rows_product}
+use Rattle.tensor_ops.proofs.PanelSums.{ready-fewer}
 use Rattle.tensor_ops.proofs.TilePlaces.{panel-row, panel-column}
 use Rattle.tensor_ops.proofs.tiling.Tiled.fill_columns.Goals as goal
 
@@ -15,19 +16,32 @@ tile-sums-requires-clause-first c =
     let tiles : c.loop-s.s + 1 ≤ (t.rows + 3) / 4 = omega arith in
     omega (arith, mul-le-mul_right (t.products * 4) tiles, t.first)
 
+-- a panel some of whose places are asked for is one of the panels of columns
+panel-inside : (panel rows columns from count : ℕ) → 0 < count
+    → panel * (4 * rows) + (from + count) ≤ columns * rows → panel + 1 ≤ (columns + 3) / 4
+panel-inside panel rows columns from count some within =
+    let four : panel * 4 * rows < columns * rows = omega (arith, within, some) in
+    let inside : panel * 4 < columns =
+    elim (cases_lt (panel * 4) columns) [
+      | inl fewer ↦ fewer
+      | inr more ↦ absurd (omega (arith, mul-le-mul_right rows more))
+    ] in
+    omega arith
+
 pub tile-sums-requires-clause-second : goal.tile-sums-requires-clause-second
 tile-sums-requires-clause-second c =
     let t = c.args.self.now in
-    let some : 0 < t.rows = omega arith in
-    let four : c.args.panel * 4 * t.rows < t.columns * t.rows =
-    omega (arith, c.requires.within, c.requires.some) in
-    let inside : c.args.panel * 4 < t.columns =
-    elim (cases_lt (c.args.panel * 4) t.columns) [
-      | inl fewer ↦ fewer
-      | inr more ↦ absurd (omega (arith, mul-le-mul_right t.rows more))
-    ] in
-    let panels : c.args.panel + 1 ≤ (t.columns + 3) / 4 = omega arith in
+    let panels = panel-inside c.args.panel t.rows t.columns c.args.from (length c.args.out.now)
+    c.requires.some c.requires.within in
     omega (arith, mul-le-mul_right (t.products * 4) panels, t.second)
+
+pub tile-sums-requires-clause-ready : goal.tile-sums-requires-clause-ready
+tile-sums-requires-clause-ready c =
+    let t = c.args.self.now in
+    let tiles : c.loop-s.s + 1 ≤ (t.rows + 3) / 4 = omega arith in
+    let panels = panel-inside c.args.panel t.rows t.columns c.args.from (length c.args.out.now)
+    c.requires.some c.requires.within in
+    ready-fewer _ _ _ _ t.products t.panels tiles panels t.ready
 
 pub loop-s-preserved : goal.loop-s-preserved
 loop-s-preserved c = record {
