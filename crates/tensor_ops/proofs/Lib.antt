@@ -16,6 +16,7 @@ pub mod HalfProducts
 pub mod InTurns
 pub mod Joints
 pub mod Known
+pub mod LaneSums
 pub mod Legality
 pub mod ListWrites
 pub mod Moved

@@ -51,6 +51,7 @@ mod route;
 mod row_sums;
 mod rows;
 mod settling;
+mod sixteens;
 mod slid_dots;
 mod slid_runs;
 mod sliding;

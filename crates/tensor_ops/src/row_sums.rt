@@ -7,6 +7,7 @@ ghost use Rattle.tensor_ops.specs.Panels.{AreInside, AreSmall};
 ghost use Rattle.tensor_ops.specs.Places.{value_in};
 ghost use Rattle.tensor_ops.specs.Products.{list_product};
 
+use crate::sixteens::{small_sixteen, wide_sixteen};
 use crate::small_eight::small_eight;
 use crate::tile::mul_add;
 use crate::wide_eight::wide_eight;
@@ -68,8 +69,8 @@ fn side_by_side(starts: &[usize], k: usize) -> usize
     most
 }
 
-/// The same sums of rows that begin side by side, the first of them at x: eight at a time, and
-/// then one by one. Who knows that all values fit 32 bits may say so, for a faster way.
+/// The same sums of rows that begin side by side, the first of them at x: sixteen at a time or
+/// eight, and then one by one. Who knows that all values fit 32 bits may say so, for a faster way.
 pub(crate) fn sums_of_run(
     a: &[i64],
     x: usize,
@@ -90,14 +91,14 @@ pub(crate) fn sums_of_run(
     ensures each { (k : ℕ) → k < length out.old → value_in out.new k ≡ wrap (list_product
         a.now (x + k) offsets.now b.now y others.now (length offsets.now)) }
 {
-    let eights = fill_eights(a, x, offsets, b, y, others, small, out);
-    for k in eights..out.len() {
+    let together = fill_together(a, x, offsets, b, y, others, small, out);
+    for k in together..out.len() {
         out[k] = sum_of_products(a, x + k, offsets, b, y, others);
     }
 }
 
-/// Writes as many sums as there are eights of them, and tells how many those are.
-fn fill_eights(
+/// Writes as many sums as can be made together, and tells how many those are.
+fn fill_together(
     a: &[i64],
     x: usize,
     offsets: &[usize],
@@ -120,25 +121,80 @@ fn fill_eights(
 {
     let mut k = 0;
     while 8 <= out.len() - k {
-        let sums = if small {
-            small_eight(a, x + k, offsets, b, y, others)
+        if 16 <= out.len() - k {
+            store(out, k, &sixteen(a, x + k, offsets, b, y, others, small));
+            k += 16;
         } else {
-            wide_eight(a, x + k, offsets, b, y, others)
-        };
-        store(out, k, &sums);
-        k += 8;
+            store(out, k, &eight(a, x + k, offsets, b, y, others, small));
+            k += 8;
+        }
     }
     k
 }
 
-/// Stores eight sums from place k on. What is before them stays.
-fn store(out: &mut [i64], k: usize, sums: &[i64; 8])
-    requires { k + 8 ≤ length out.old }
+/// The sums of sixteen rows from x on.
+#[inline(always)]
+fn sixteen(
+    a: &[i64],
+    x: usize,
+    offsets: &[usize],
+    b: &[i64],
+    y: usize,
+    others: &[usize],
+    small: bool,
+) -> [i64; 16]
+    requires small { IsTrue small → AreSmall a.now × AreSmall b.now }
+    requires lengths { length offsets.now ≡ length others.now }
+    requires a { (q : ℕ) → q < length offsets.now
+        → x + slice_index offsets.now q + 16 ≤ length a.now }
+    requires b { (q : ℕ) → q < length others.now → y + slice_index others.now q < length b.now }
+    ensures len { length result ≡ 16 }
+    ensures each { (t : ℕ) → t < 16 → value_in result t
+        ≡ wrap (list_product a.now (x + t) offsets.now b.now y others.now (length offsets.now)) }
+{
+    if small {
+        small_sixteen(a, x, offsets, b, y, others)
+    } else {
+        wide_sixteen(a, x, offsets, b, y, others)
+    }
+}
+
+/// The sums of eight rows from x on.
+#[inline(always)]
+fn eight(
+    a: &[i64],
+    x: usize,
+    offsets: &[usize],
+    b: &[i64],
+    y: usize,
+    others: &[usize],
+    small: bool,
+) -> [i64; 8]
+    requires small { IsTrue small → AreSmall a.now × AreSmall b.now }
+    requires lengths { length offsets.now ≡ length others.now }
+    requires a { (q : ℕ) → q < length offsets.now
+        → x + slice_index offsets.now q + 8 ≤ length a.now }
+    requires b { (q : ℕ) → q < length others.now → y + slice_index others.now q < length b.now }
+    ensures len { length result ≡ 8 }
+    ensures each { (t : ℕ) → t < 8 → value_in result t
+        ≡ wrap (list_product a.now (x + t) offsets.now b.now y others.now (length offsets.now)) }
+{
+    if small {
+        small_eight(a, x, offsets, b, y, others)
+    } else {
+        wide_eight(a, x, offsets, b, y, others)
+    }
+}
+
+/// Stores sums from place k on. What is before them stays.
+#[inline(always)]
+fn store(out: &mut [i64], k: usize, sums: &[i64])
+    requires { k + length sums.now ≤ length out.old }
     ensures len { length out.new ≡ length out.old }
-    ensures stored { (t : ℕ) → t < 8 → value_in out.new (k + t) ≡ value_in sums.now t }
+    ensures stored { (t : ℕ) → t < length sums.now → value_in out.new (k + t) ≡ value_in sums.now t }
     ensures kept { (j : ℕ) → j < k → value_in out.new j ≡ value_in out.old j }
 {
-    for t in 0..8 {
+    for t in 0..sums.len() {
         out[k + t] = sums[t];
     }
 }

@@ -86,7 +86,7 @@ pub(crate) fn small_tile(a: &[i32], b: &[i32], n: usize) -> [i64; 16]
 
 /// Stores a column of a tile. The columns before it stay.
 #[inline(always)]
-fn store(sums: &mut [i64; 16], j: usize, lanes: i64x4)
+pub(crate) fn store(sums: &mut [i64; 16], j: usize, lanes: i64x4)
     requires column { j < 4 }
     requires lanes { AreLanes lanes }
     ensures stored { (r : ℕ) → r < 4 → value_in sums.new (4 * j + r) ≡ value_in lanes r }

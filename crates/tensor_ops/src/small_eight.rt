@@ -12,7 +12,7 @@ use std::simd::prelude::*;
 
 /// The four values from place i on. By way of 32 bits, so that their products are of such numbers.
 #[inline(always)]
-fn four_from(a: &[i64], i: usize) -> i64x4
+pub(crate) fn four_from(a: &[i64], i: usize) -> i64x4
     requires small { AreSmall a.now }
     requires inside { i + 4 ≤ length a.now }
     ensures lanes { AreLanes result }
@@ -24,7 +24,7 @@ fn four_from(a: &[i64], i: usize) -> i64x4
 
 /// The value at place i, in all lanes.
 #[inline(always)]
-fn spread_from(b: &[i64], i: usize) -> i64x4
+pub(crate) fn spread_from(b: &[i64], i: usize) -> i64x4
     requires small { AreSmall b.now }
     requires inside { i < length b.now }
     ensures lanes { AreLanes result }

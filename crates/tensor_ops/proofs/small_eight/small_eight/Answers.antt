@@ -5,23 +5,9 @@ use Rattle.tensor_shape.specs.Wrap.{wrap}
 use Rattle.tensor_ops.specs.Panels.{AreLanes}
 use Rattle.tensor_ops.specs.Places.{value_in}
 use Rattle.tensor_ops.specs.Products.{product_of, sum_to}
-use Rattle.tensor_ops.proofs.ProductSums.{wrap-next}
-use Rattle.tensor_ops.proofs.SimdLanes.{value_in-lanes, lanes-bits}
+use Rattle.tensor_ops.proofs.LaneSums.{next_lane}
+use Rattle.tensor_ops.proofs.SimdLanes.{lanes-bits}
 use Rattle.tensor_ops.proofs.small_eight.small_eight.Goals as goal
-
--- one product more in a lane
-next_lane : (f : ℕ → ℤ) (sums x y out : List ℤ) (r q : ℕ) → r < 4 → AreLanes x → AreLanes y
-    → AreLanes out → value_in sums r ≡ wrap (sum_to f q)
-    → value_in x r *ℤ value_in y r ≡ f q
-    → value_in out r ≡ wrap (value_in sums r +ℤ (value_in (map (to_z w64) (map (of_z w64) x)) r
-    *ℤ value_in (map (to_z w64) (map (of_z w64) y)) r))
-    → value_in (map (to_z w64) (map (of_z w64) out)) r ≡ wrap (sum_to f (q + 1))
-next_lane f sums x y out r q h lanes_x lanes_y lanes so_far product is =
-    let left = value_in-lanes x lanes_x r h in
-    let right = value_in-lanes y lanes_y r h in
-    value_in-lanes out lanes r h
-    ∙ wrap-next f q (value_in sums r) (value_in out r) so_far
-    (rw (left, right, product) at is)
 
 pub add_column-low-requires-clause-x : goal.add_column-low-requires-clause-x
 add_column-low-requires-clause-x c = lanes-bits _ c.four_from.ensures.lanes

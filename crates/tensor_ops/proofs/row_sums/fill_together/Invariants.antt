@@ -3,7 +3,7 @@ use Rattle.std.proofs.Common.{◌≡◌, ℕ, ◌+◌, ◌-◌, ◌<◌, ◌≤�
 use Rattle.tensor_shape.specs.Wrap.{wrap}
 use Rattle.tensor_ops.specs.Places.{value_in}
 use Rattle.tensor_ops.specs.Products.{list_product}
-use Rattle.tensor_ops.proofs.row_sums.fill_eights.Given as goal
+use Rattle.tensor_ops.proofs.row_sums.fill_together.Given as goal
 
 abbrev pub invariant-loop-out : goal.invariant-loop-out
 invariant-loop-out l = record {
