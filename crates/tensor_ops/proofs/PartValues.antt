@@ -1,11 +1,11 @@
 -- Parts of values, by parts of runs.
 use Rattle.std.proofs.Common.{◌≡◌, ℕ, zero, suc, ◌+◌, ◌-◌, ◌*◌, ◌/◌, ◌%◌, ◌<◌, ◌≤◌, ℤ, pos, ◌+ℤ◌, ◌*ℤ◌}
 use Rattle.std.proofs.Common.{List, ◌++◌, length, map, take, drop, get_or, true, Ok, IsOk}
-use Rattle.std.proofs.Common.{refl, ap, sym, subst, ◌∙◌, arith, add-one}
+use Rattle.std.proofs.Common.{ap, sym, subst, ◌∙◌, arith}
 use Rattle.std.specs.List.{fold, range_with_len}
 use Rattle.std.specs.Int.{w64}
 use Rattle.std.specs.Result.{result_unwrap_or}
-use Rattle.std.proofs.lemmas.Int.{int_wrap-add_left, int_wrap-add_right, ints}
+use Rattle.std.proofs.lemmas.Int.{int_wrap-add_left, ints}
 use Rattle.std.proofs.lemmas.List.{ext_get_or, map-append, take_all}
 use Rattle.std.proofs.lemmas.List.FromFn.{length-map-range_with_len, get_or-map-range_with_len}
 use Rattle.std.proofs.lemmas.List.FromFn.{length-range_with_len, get_or-range_with_len}
@@ -18,10 +18,9 @@ use Rattle.tensor_shape.proofs.Places.{length-IsIndexOf}
 use Rattle.tensor_ops.specs.Contents.{Contents}
 use Rattle.tensor_ops.specs.Contraction.{firsts, seconds, outer_dims}
 use Rattle.tensor_ops.specs.Folds.{folded}
-use Rattle.tensor_ops.specs.InRuns.{GivesParts, run_part}
-use Rattle.tensor_ops.specs.Meaning.{meaning, count_of, IsSound}
+use Rattle.tensor_ops.specs.InRuns.{GivesParts}
+use Rattle.tensor_ops.specs.Meaning.{meaning}
 use Rattle.tensor_ops.specs.Movement.{moved, moved_dims, shuffled_dims, scattered}
-use Rattle.tensor_ops.specs.Parts.{reduced_part, contracted_part, part_value, inner_size}
 use Rattle.tensor_ops.specs.Places.{value_in}
 use Rattle.tensor_ops.specs.Placing.{Gives, meaning_at}
 use Rattle.tensor_ops.specs.Products.{sum_to}
@@ -31,7 +30,6 @@ use Rattle.tensor_ops.specs.Term.{Term, unary, binary, reduce, contract, shuffle
 use Rattle.tensor_ops.specs.Value.{value}
 use Rattle.tensor_ops.specs.ValueRuns.{run_value, LieInRuns}
 use Rattle.tensor_ops.specs.Woven.{among, others, dims_at, other_dims, woven}
-use Rattle.tensor_ops.specs.declared.in_runs.InRuns.{InRuns}
 use Rattle.tensor_ops.specs.declared.in_runs.InRuns.TheVariants.{Combined, Multiplied}
 use Rattle.tensor_ops.specs.declared.placed.Placed.{Placed}
 use Rattle.tensor_ops.specs.declared.reducer.Reducer.{Reducer}

@@ -1,4 +1,4 @@
-use Rattle.std.proofs.Common.{◌≡◌, ◌+◌, ◌%◌, ℕ, ℤ, ◌+ℤ◌, ◌*ℤ◌, length, rules, ap, ◌∙◌}
+use Rattle.std.proofs.Common.{◌≡◌, ◌+◌, ◌%◌, ◌+ℤ◌, ◌*ℤ◌, length, rules, ap, ◌∙◌}
 use Rattle.std.specs.Int.{w64}
 use Rattle.std.proofs.lemmas.Int.{wraps, wrapping_add-bits, int_wrap-add_right}
 use mir.Val.{to_z, of_z}

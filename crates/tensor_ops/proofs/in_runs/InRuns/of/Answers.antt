@@ -2,7 +2,7 @@ use Rattle.std.proofs.Common.{◌≡◌, ◌≤◌, ℕ, List, length, IsOk, ap,
 use Rattle.std.proofs.lemmas.List.{length-map}
 use Rattle.tensor_shape.specs.Legal.{highest_rank}
 use Rattle.tensor_ops.specs.Contents.{Contents}
-use Rattle.tensor_ops.specs.Contraction.{firsts, seconds}
+use Rattle.tensor_ops.specs.Contraction.{firsts}
 use Rattle.tensor_ops.specs.Result.{dims_of, shape_of}
 use Rattle.tensor_ops.specs.Tensors.{tensors_in}
 use Rattle.tensor_ops.specs.Term.{unary, binary, reduce, contract}
