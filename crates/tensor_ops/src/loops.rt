@@ -67,6 +67,8 @@ pub(crate) fn combine_row(
     ensures { CombinesRow operation turned values.old.items list.now row at row.count
         values.new.items }
 {
+    // As a slice: of a list the compiler would look up at each value where its values lie.
+    let values = values.as_mut_slice();
     match operation {
         BinaryScalar::Add => combine_by_steps(BinaryScalar::Add, turned, values, at, list, row),
         BinaryScalar::Sub => combine_by_steps(BinaryScalar::Sub, turned, values, at, list, row),
@@ -132,15 +134,15 @@ fn apply_each(operation: UnaryScalar, values: &mut Vec<i64>)
 fn combine_by_steps(
     operation: BinaryScalar,
     turned: bool,
-    values: &mut Vec<i64>,
+    values: &mut [i64],
     at: usize,
     list: &[i64],
     row: Row,
 )
     requires row { IsRowIn row (length list.now) }
-    requires room { at + row.count ≤ vec_len values.old }
-    ensures { CombinesRow operation turned values.old.items list.now row at row.count
-        values.new.items }
+    requires room { at + row.count ≤ length values.old }
+    ensures { CombinesRow operation turned values.old list.now row at row.count
+        values.new }
 {
     match (row.axis.step, row.axis.falls) {
         (1, false) => combine_each(operation, turned, values, at, list, row.known(1, false)),
@@ -154,15 +156,15 @@ fn combine_by_steps(
 fn combine_each(
     operation: BinaryScalar,
     turned: bool,
-    values: &mut Vec<i64>,
+    values: &mut [i64],
     at: usize,
     list: &[i64],
     row: Row,
 )
     requires row { IsRowIn row (length list.now) }
-    requires room { at + row.count ≤ vec_len values.old }
-    ensures { CombinesRow operation turned values.old.items list.now row at row.count
-        values.new.items }
+    requires room { at + row.count ≤ length values.old }
+    ensures { CombinesRow operation turned values.old list.now row at row.count
+        values.new }
 {
     for k in 0..row.count {
         let other = list[row.start + steps_to(row.axis, row.from + k) * row.axis.step];
