@@ -18,6 +18,8 @@ mod evaluation;
 #[cfg(test)]
 mod faults;
 #[cfg(test)]
+mod parts;
+#[cfg(test)]
 mod plans;
 #[cfg(test)]
 mod ranges;
