@@ -14,7 +14,7 @@ use crate::cases::Cases;
 use std::{fs, io};
 
 /// The files of cases.
-const FILES: [&str; 16] = [
+const FILES: [&str; 17] = [
     "arguments.cases",
     "check_order.cases",
     "contractions.cases",
@@ -26,6 +26,7 @@ const FILES: [&str; 16] = [
     "ranges.cases",
     "ranks.cases",
     "reductions.cases",
+    "shards.cases",
     "tensors.cases",
     "tiles.cases",
     "trees.cases",

@@ -1,6 +1,8 @@
 pub mod Combining
 pub mod Cuts
 pub mod Fits
+pub mod Held
 pub mod Named
 pub mod Planned
 pub mod Sharding
+pub mod ShardedTensors

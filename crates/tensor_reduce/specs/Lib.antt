@@ -18,4 +18,6 @@ pub mod Reducers
 pub mod Shards
 pub mod Steps
 -- for private clauses alone
+pub mod Combined
 pub mod Cutting
+pub mod Reading

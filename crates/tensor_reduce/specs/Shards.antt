@@ -36,6 +36,10 @@ shards_of inner block = shards_by inner (width_of inner block)
 abbrev pub shards_in : Shards → List Shard
 shards_in s = shards_by s.inner s.width
 
+-- how many index lists they are cut from
+abbrev pub lists_cut : Shards → ℕ
+lists_cut s = s.inner
+
 -- the numbers of the index lists in a shard, and in several, one after the other
 abbrev pub lists_in : Shard → List ℕ
 lists_in shard = range_with_len shard.0 (shard.1 - shard.0)

@@ -13,7 +13,7 @@ use std::alloc::{AllocError, Global};
 use tensor_ops::{Binary, Dims, Expr, Inputs, MAX_RANK, Node, Unary};
 
 /// How many numbers a tensor among the inputs of an expression may have.
-const NUMBERS: u64 = 1 << 32;
+pub(crate) const NUMBERS: u64 = 1 << 32;
 
 /// The steps of an expression, of which the root is the last.
 pub(crate) fn steps_of(alloc: Global, inputs: &Inputs, expr: &Expr) -> Result<Vec<Step>, AllocError>

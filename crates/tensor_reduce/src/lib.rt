@@ -20,13 +20,18 @@
 //! value, are laws.
 #![tactic(auto)]
 
+mod combined;
 mod cutting;
 mod laws;
+mod parts;
 mod plan;
+mod reading;
 mod running;
+mod shard_kernel;
 mod shards;
 mod step;
 mod step_kernel;
+mod workers;
 
 pub use laws::{
     reducers_combine_in_any_grouping, shards_give_the_contraction, shards_give_the_reduction,

@@ -17,13 +17,14 @@ pub struct Shards {
 }
 
 impl Shards {
-    ghost use Rattle.tensor_reduce.specs.Shards.{shards_in, shards_of, most_shards};
+    ghost use Rattle.tensor_reduce.specs.Shards.{shards_in, shards_of, lists_cut, most_shards};
 
     /// The shards of so many index lists: as wide as a block, or wider where there would be more
     /// than 1,024 of them. Takes no memory.
     pub fn of(inner: u64, block: u64) -> Shards
         requires { 0 < block }
-        ensures { shards_in result ≡ shards_of inner block }
+        ensures shards { shards_in result ≡ shards_of inner block }
+        ensures lists { lists_cut result ≡ inner }
     {
         Shards {
             inner,
@@ -42,7 +43,9 @@ impl Shards {
     /// The first index list of a shard, and the one after its last.
     pub fn range(&self, shard: u64) -> (u64, u64)
         requires { shard < length (shards_in self.now) }
-        ensures { result ≡ slice_index_or (shards_in self.now) shard (0, 0) }
+        ensures range { result ≡ slice_index_or (shards_in self.now) shard (0, 0) }
+        ensures order { result.0 ≤ result.1 }
+        ensures within { result.1 ≤ lists_cut self.now }
     {
         let first = shard * self.width;
         let last = first + self.width.min(self.inner - first);

@@ -1,13 +1,16 @@
--- The tensors so far are those of the steps passed, and over them the rest can be worked out.
-use Rattle.std.proofs.Common.{◌≡◌, ◌++◌, length, drop, vec_capacity}
-use Rattle.tensor_reduce.specs.Plan.{steps_in, terms_in, worked_out, AreReady}
+-- What is held of the steps done is all that the others read.
+use Rattle.std.proofs.Common.{◌+◌, ◌-◌, ◌<◌, ◌≤◌, ◌++◌, length, drop, vec_capacity}
+use Rattle.tensor_reduce.specs.Plan.{terms_in, worked_out}
+use Rattle.tensor_reduce.specs.Reading.{AreHeld}
 use Rattle.tensor_reduce.proofs.running.work_out.Given as goal
 
-abbrev pub invariant-loop-step : goal.invariant-loop-step
-invariant-loop-step g l = record {
-  ready : AreReady (drop l.step-index l.steps) (l.inputs.tensors ++ l.tensors.items);
-  rest : worked_out (terms_in (drop l.step-index l.steps)) (l.inputs.tensors ++ l.tensors.items)
-      ≡ worked_out (terms_in (steps_in l.plan)) l.inputs.tensors;
-  count : length l.tensors.items ≡ l.step-index;
-  room : vec_capacity l.tensors ≡ length l.steps;
+abbrev pub invariant-loop-done : goal.invariant-loop-done
+invariant-loop-done g l = record {
+  held : AreHeld (drop l.done l.steps) (worked_out (terms_in l.steps) l.inputs.tensors)
+      (l.inputs.tensors ++ l.tensors.items);
+  some : 0 < l.done → 0 < length l.tensors.items;
+  room : length l.tensors.items + length l.steps ≤ vec_capacity l.tensors + l.done;
 }
+
+abbrev pub decreases-loop-done : goal.decreases-loop-done
+decreases-loop-done g l = length l.steps - l.done

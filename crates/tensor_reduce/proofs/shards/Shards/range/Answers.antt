@@ -27,4 +27,8 @@ returns c =
     let next : (i + 1) * s.width ≡ i * s.width + s.width = grind arith in
     let last : i * s.width + c.min.result ≡ min ((i + 1) * s.width) s.inner =
     omega (arith, starts, next, c.min.ensures) in
-    ap (λ l. (i * s.width, l)) last ∙ sym (get_or-shards_by s.inner s.width i c.requires)
+    record {
+      range = ap (λ l. (i * s.width, l)) last ∙ sym (get_or-shards_by s.inner s.width i c.requires);
+      order = omega arith;
+      within = omega (arith, last);
+    }

@@ -1,0 +1,58 @@
+-- Which tensors are read, and operations that read another term in the place of a tensor.
+use Rattle.std.specs.Prelude.{◌≡◌, ℕ, ◌+◌, nat_eq, List, [], ◌∷◌, ◌++◌, length}
+use Rattle.std.specs.Prelude.{Bool, true, false, ◌||◌, if◌then◌else◌}
+use Rattle.tensor_ops.specs.Contents.{Contents, input_of}
+use Rattle.tensor_ops.specs.Term.{Term, input, unary, binary, ternary}
+use Rattle.tensor_ops.specs.Value.{tensor_of}
+use Rattle.tensor_reduce.specs.Plan.{term_of_step, terms_in, worked_out, last_tensor, AreReady}
+use Rattle.tensor_reduce.specs.declared.step.Step.{Step}
+
+-- whether a term reads the tensor of a number
+abbrev pub reads : ℕ → Term → Bool
+reads n (input m) = nat_eq m n
+reads n (unary o a) = reads n a
+reads n (binary o a b) = reads n a || reads n b
+reads n (ternary o a b c) = reads n a || (reads n b || reads n c)
+
+-- whether one of these steps does
+abbrev pub are_reading : ℕ → List Step → Bool
+are_reading n [] = false
+are_reading n (s ∷ steps) = reads n (term_of_step s) || are_reading n steps
+
+-- a term, or another one in its place where it is the tensor of a number
+abbrev pub instead : ℕ → Term → Term → Term
+instead n u (input m) = if nat_eq m n then u else input m
+instead n u (unary o a) = unary o a
+instead n u (binary o a b) = binary o a b
+instead n u (ternary o a b c) = ternary o a b c
+
+-- an operation on one or two operands, which reads a term in the place of the tensor of a number
+abbrev pub through : ℕ → Term → Term → Term
+through n u (input m) = input m
+through n u (unary o a) = unary o (instead n u a)
+through n u (binary o a b) = binary o (instead n u a) (instead n u b)
+through n u (ternary o a b c) = ternary o a b c
+
+-- tensors held in place of those that were worked out: each that the steps left to do read is there
+pub record AreHeldFor (left : List Step) (held all : List Contents) : Type 0 where
+  pub ready : AreReady left all
+  pub as_many : length held ≡ length all
+  pub read : (n : ℕ) → are_reading n left ≡ true → input_of held n ≡ input_of all n
+  pub last : last_tensor held ≡ last_tensor all
+
+-- so are they for tensors from which the steps left to do give the whole
+abbrev pub AreHeld : List Step → List Contents → List Contents → Type 0
+AreHeld left whole held =
+    (all : List Contents) × (AreHeldFor left held all × (worked_out (terms_in left) all ≡ whole))
+
+-- the tensor of the second of these steps, where no later one reads the first's
+pub record IsSecond (first second : Step) (later : List Step) (all : List Contents)
+    (tensor : Contents) : Type 0 where
+  pub is : tensor ≡ tensor_of (term_of_step second)
+      (all ++ tensor_of (term_of_step first) all ∷ [])
+  pub unread : are_reading (length all) later ≡ false
+
+abbrev pub IsSecondOf : List Step → List Contents → Contents → Type 0
+IsSecondOf [] all tensor = ⊥
+IsSecondOf (first ∷ []) all tensor = ⊥
+IsSecondOf (first ∷ second ∷ later) all tensor = IsSecond first second later all tensor
