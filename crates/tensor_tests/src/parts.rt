@@ -7,63 +7,61 @@ ghost use Rattle.tensor_ops.specs.Tree.{term_of};
 
 use crate::plans::four_inputs;
 use std::alloc::Global;
+use std::process::Abort;
 use std::test::Fail;
-use tensor_ops::{Expr, PartEvaluator};
+use tensor_ops::{Binary, Expr, PartEvaluator, Reducer, Unary};
 
-/// What the index lists from one to before another give of the value at a place.
-fn part_of(alloc: Global, expr: &Expr, place: u64, first: u64, last: u64) -> Result<i64, Fail>
+/// A value's place, its first index list and the one after the last, and what these give.
+#[derive(Drop)]
+struct Part(u64, u64, u64, i64);
+
+/// Asserts what these parts of an expression's values are.
+fn gives(rt: &impl Abort, alloc: Global, expr: &Expr, parts: &[Part]) -> Result<(), Fail>
     requires inputs { IsTrue (has_inputs (term_of expr.now) 4) }
     requires parts { IsTrue (has_parts (term_of expr.now)) }
 {
     let inputs = four_inputs(alloc)?;
     let dims = expr.dims(&inputs)?;
-    let parts = PartEvaluator::over(alloc, expr, &inputs, &[])?;
-    if place >= dims.size() || first > last || last > parts.inner() {
-        return Err("there is no such part".into());
+    let evaluator = PartEvaluator::over(alloc, expr, &inputs, &[])?;
+    for Part(place, first, last, value) in parts {
+        if *place >= dims.size() || *first > *last || *last > evaluator.inner() {
+            return Err("there is no such part".into());
+        }
+        let found = evaluator.part(*place, *first, *last)?;
+        assert_eq!(rt; found, *value);
     }
-    Ok(parts.part(place, first, last)?)
+    Ok(())
 }
 
 #[test]
 fn parts_of_sums(rt: HostRuntime) -> Result<(), Fail> {
-    let alloc = rt.alloc();
-    let sums = Expr::Sum(Box::new(alloc, Expr::Input(0))?, vec![in alloc; 1]?);
-    let found = [
-        part_of(alloc, &sums, 0, 0, 3)?,
-        part_of(alloc, &sums, 0, 0, 2)?,
-        part_of(alloc, &sums, 1, 2, 3)?,
-        part_of(alloc, &sums, 1, 1, 1)?,
+    let sums = Unary::Reduce(Reducer::Sum, &[1]).over(rt.alloc(), Expr::Input(0))?;
+    let parts = [
+        Part(0, 0, 3, 6),
+        Part(0, 0, 2, 3),
+        Part(1, 2, 3, 6),
+        Part(1, 1, 1, 0),
     ];
-    assert_eq!(rt; found, [6, 3, 6, 0]);
-    Ok(())
+    gives(&rt, rt.alloc(), &sums, &parts)
 }
 
 #[test]
 fn parts_of_products(rt: HostRuntime) -> Result<(), Fail> {
-    let alloc = rt.alloc();
-    let products = Expr::Prod(Box::new(alloc, Expr::Input(0))?, vec![in alloc; 0]?);
-    let found = [
-        part_of(alloc, &products, 2, 0, 2)?,
-        part_of(alloc, &products, 2, 1, 2)?,
-        part_of(alloc, &products, 2, 2, 2)?,
-    ];
-    assert_eq!(rt; found, [18, 6, 1]);
-    Ok(())
+    let products = Unary::Reduce(Reducer::Prod, &[0]).over(rt.alloc(), Expr::Input(0))?;
+    let parts = [Part(2, 0, 2, 18), Part(2, 1, 2, 6), Part(2, 2, 2, 1)];
+    gives(&rt, rt.alloc(), &products, &parts)
 }
 
 #[test]
 fn parts_of_a_contraction(rt: HostRuntime) -> Result<(), Fail> {
-    let alloc = rt.alloc();
     let (first, second) = (Expr::Input(0), Expr::Input(1));
-    let (first, second) = (Box::new(alloc, first)?, Box::new(alloc, second)?);
-    let contraction = Expr::Contract(first, second, vec![in alloc; (1, 0)]?);
-    let found = [
-        part_of(alloc, &contraction, 0, 0, 3)?,
-        part_of(alloc, &contraction, 0, 0, 2)?,
-        part_of(alloc, &contraction, 0, 2, 3)?,
-        part_of(alloc, &contraction, 3, 0, 3)?,
-        part_of(alloc, &contraction, 3, 3, 3)?,
+    let contraction = Binary::Contract(&[(1, 0)]).over(rt.alloc(), first, second)?;
+    let parts = [
+        Part(0, 0, 3, 22),
+        Part(0, 0, 2, 7),
+        Part(0, 2, 3, 15),
+        Part(3, 0, 3, 64),
+        Part(3, 3, 3, 0),
     ];
-    assert_eq!(rt; found, [22, 7, 15, 64, 0]);
-    Ok(())
+    gives(&rt, rt.alloc(), &contraction, &parts)
 }

@@ -8,7 +8,9 @@ ghost use Rattle.tensor_reduce.specs.Tree.{term_of};
 use std::alloc::{AllocError, Global};
 use std::process::Abort;
 use std::test::Fail;
-use tensor_ops::{Dims, Expr, Inputs, Tensor, eval_plain};
+use tensor_ops::{
+    Binary, BinaryScalar, Dims, Expr, Inputs, Reducer, Tensor, Unary, UnaryScalar, eval_plain,
+};
 use tensor_reduce::{Plan, Step};
 
 /// The tensor of these sizes and values.
@@ -83,9 +85,7 @@ pub(crate) fn contraction(alloc: Global, first: Expr) -> Result<Expr, AllocError
     ensures { IfOk result (λ e.
         IsTrue (has_inputs (term_of first) 4) → IsTrue (has_inputs (term_of e) 4)) }
 {
-    let first = Box::new(alloc, first)?;
-    let second = Box::new(alloc, Expr::Input(1))?;
-    Ok(Expr::Contract(first, second, vec![in alloc; (1, 0)]?))
+    Binary::Contract(&[(1, 0)]).over(alloc, first, Expr::Input(1))
 }
 
 #[test]
@@ -99,8 +99,8 @@ fn steps_of_the_root_alone(rt: HostRuntime) -> Result<(), Fail> {
 #[test]
 fn steps_of_a_sum_and_more(rt: HostRuntime) -> Result<(), Fail> {
     let alloc = rt.alloc();
-    let sum = Expr::Sum(Box::new(alloc, Expr::Input(2))?, vec![in alloc; 0]?);
-    let both = Expr::Add(Box::new(alloc, sum)?, Box::new(alloc, Expr::Input(3))?);
+    let sum = Unary::Reduce(Reducer::Sum, &[0]).over(alloc, Expr::Input(2))?;
+    let both = Binary::Pairwise(BinaryScalar::Add).over(alloc, sum, Expr::Input(3))?;
     has_steps(&rt, alloc, &both, 2)
 }
 
@@ -108,10 +108,11 @@ fn steps_of_a_sum_and_more(rt: HostRuntime) -> Result<(), Fail> {
 #[test]
 fn steps_of_nested_operations(rt: HostRuntime) -> Result<(), Fail> {
     let alloc = rt.alloc();
-    let negation = Expr::Neg(Box::new(alloc, Expr::Input(0))?);
-    let squares = Expr::Square(Box::new(alloc, contraction(alloc, negation)?)?);
-    let greatest = Expr::Maximum(Box::new(alloc, squares)?, vec![in alloc; 1]?);
-    let product = Expr::Mul(Box::new(alloc, greatest)?, Box::new(alloc, Expr::Input(2))?);
+    let negation = Unary::Each(UnaryScalar::Neg).over(alloc, Expr::Input(0))?;
+    let contracted = contraction(alloc, negation)?;
+    let squares = Unary::Each(UnaryScalar::Square).over(alloc, contracted)?;
+    let greatest = Unary::Reduce(Reducer::Max, &[1]).over(alloc, squares)?;
+    let product = Binary::Pairwise(BinaryScalar::Mul).over(alloc, greatest, Expr::Input(2))?;
     has_steps(&rt, alloc, &product, 5)
 }
 
@@ -119,9 +120,8 @@ fn steps_of_nested_operations(rt: HostRuntime) -> Result<(), Fail> {
 #[test]
 fn steps_of_a_convolution(rt: HostRuntime) -> Result<(), Fail> {
     let alloc = rt.alloc();
-    let negation = Box::new(alloc, Expr::Neg(Box::new(alloc, Expr::Input(0))?))?;
-    let kernel = Box::new(alloc, Expr::Input(2))?;
-    let slid = Expr::Convolve(negation, kernel, vec![in alloc; 0]?);
-    let framed = Expr::Pad(Box::new(alloc, slid)?, vec![in alloc; (1, 0), (0, 1)]?);
+    let negation = Unary::Each(UnaryScalar::Neg).over(alloc, Expr::Input(0))?;
+    let slid = Binary::Convolve(&[0]).over(alloc, negation, Expr::Input(2))?;
+    let framed = Unary::Pad(&[(1, 0), (0, 1)]).over(alloc, slid)?;
     has_steps(&rt, alloc, &framed, 3)
 }

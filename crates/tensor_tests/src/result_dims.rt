@@ -1,13 +1,11 @@
 //! Result dims, and the faults in their place.
 ghost use Rattle.std.specs.Prelude.{◌≡◌, ◌⊎◌, IfOk, length};
-ghost use Rattle.tensor_ops.specs.Term.{input};
-ghost use Rattle.tensor_ops.specs.Tree.{term_of};
 
 use crate::texts::request;
 use expr_reader::read_request;
-use std::alloc::{AllocError, Global};
+use std::alloc::Global;
 use std::test::Fail;
-use tensor_ops::{Dims, Expr, ExprFault, Inputs, Tensor};
+use tensor_ops::{Dims, Expr, ExprFault, Inputs, Movement, Tensor, Unary};
 
 // An input of 2 by 3.
 fn two_by_three(alloc: Global) -> Result<Inputs, Fail>
@@ -19,23 +17,25 @@ fn two_by_three(alloc: Global) -> Result<Inputs, Fail>
     Ok(inputs)
 }
 
-// The input.
-fn input(alloc: Global) -> Result<Box<Expr>, AllocError>
-    ensures { IfOk result (λ b. term_of b.value ≡ input 0) }
+/// The fault of a movement of the input.
+fn fault_of(
+    alloc: Global,
+    inputs: &Inputs,
+    movement: Movement<'_>,
+) -> Result<Option<ExprFault>, Fail>
+    requires { length inputs.now.tensors ≡ 1 }
 {
-    Ok(Box::new(alloc, Expr::Input(0))?)
+    let moved = Unary::Move(movement).over(alloc, Expr::Input(0))?;
+    Ok(moved.dims(inputs).err())
 }
 
 #[test]
 fn dims_that_there_are_none_of(rt: HostRuntime) -> Result<(), Fail> {
     let inputs = two_by_three(rt.alloc())?;
-    let lengths_differ = Expr::Shuffle(input(rt.alloc())?, vec![in rt.alloc(); 0, 1, 2]?);
-    let past_the_end = Expr::Chip(input(rt.alloc())?, 2, 0);
-    let too_many = Expr::Reshape(input(rt.alloc())?, vec![in rt.alloc(); 1048577]?);
     let found = [
-        lengths_differ.dims(&inputs).err(),
-        past_the_end.dims(&inputs).err(),
-        too_many.dims(&inputs).err(),
+        fault_of(rt.alloc(), &inputs, Movement::Shuffle(&[0, 1, 2]))?,
+        fault_of(rt.alloc(), &inputs, Movement::Chip(2, 0))?,
+        fault_of(rt.alloc(), &inputs, Movement::Reshape(&[1048577]))?,
     ];
     let faults = [
         ExprFault::ShapeMismatch,
@@ -71,8 +71,8 @@ fn dims_over_those_of_the_operands(rt: HostRuntime) -> Result<(), Fail> {
 fn fault_at_rank(alloc: Global, inputs: &Inputs, rank: usize) -> Result<Option<ExprFault>, Fail>
     requires { length inputs.now.tensors ≡ 1 }
 {
-    let ones = Expr::Reshape(input(alloc)?, vec![in alloc; 1; rank]?);
-    Ok(ones.dims(inputs).err())
+    let ones = vec![in alloc; 1; rank]?;
+    fault_of(alloc, inputs, Movement::Reshape(&ones))
 }
 
 /// One number, in results of this rank at most.

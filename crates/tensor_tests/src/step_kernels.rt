@@ -11,7 +11,7 @@ use std::process::Abort;
 use std::sync::Wait;
 use std::test::Fail;
 use std::thread::Threads;
-use tensor_ops::{Expr, Inputs, Tensor, TensorEvaluator, eval_plain};
+use tensor_ops::{Expr, Inputs, Tensor, TensorEvaluator, Unary, UnaryScalar, eval_plain};
 use tensor_reduce::{ForFault, Kernel, Plan, PoolFault, Setup, Step, StepKernel, run_plan};
 
 /// The values of the squares of the first input's columns contracted with the second's rows.
@@ -22,7 +22,7 @@ fn squares(alloc: Global) -> Result<Expr, AllocError>
     ensures { IfOk result (λ e. IsTrue (has_inputs (term_of e) 4)) }
 {
     let product = contraction(alloc, Expr::Input(0))?;
-    Ok(Expr::Square(Box::new(alloc, product)?))
+    Unary::Each(UnaryScalar::Square).over(alloc, product)
 }
 
 /// A step of which these are the tensors of the steps before it, by its kernel and by an
