@@ -6,3 +6,4 @@ pub mod Named
 pub mod Planned
 pub mod Sharding
 pub mod ShardedTensors
+pub mod Through
