@@ -1,5 +1,6 @@
 -- Operations on values that are worked out in another order than they stand in.
-use Rattle.std.specs.Prelude.{◌≡◌, ℕ, ℤ, pos, ◌+◌, ◌<◌, ◌≤◌, Bool, List, length, slice_index_or, if◌then◌else◌}
+use Rattle.std.specs.Prelude.{◌≡◌, ℕ, ℤ, pos, ◌+◌, ◌<◌, ◌≤◌, Bool, List, length}
+use Rattle.std.specs.Prelude.{slice_index_or, if◌then◌else◌}
 use Rattle.tensor_ops.specs.Scalars.{combined, is_true}
 use Rattle.tensor_ops.specs.declared.operations.BinaryScalar.{BinaryScalar}
 use Rattle.tensor_ops.specs.declared.loops.SelectOrder.{SelectOrder}
@@ -23,6 +24,7 @@ pub record CombinesRow (o : BinaryScalar) (turned : Bool) (old list : List ℤ) 
     (new : List ℤ) : Type 0 where
   pub len : length new ≡ length old
   pub each : (k : ℕ) → k < count → slice_index_or new (at + k) (pos 0)
-      ≡ either_way o turned (slice_index_or old (at + k) (pos 0)) (slice_index_or list (place_in row k) (pos 0))
+      ≡ either_way o turned (slice_index_or old (at + k) (pos 0))
+      (slice_index_or list (place_in row k) (pos 0))
   pub before : (k : ℕ) → k < at → slice_index_or new k (pos 0) ≡ slice_index_or old k (pos 0)
   pub after : (k : ℕ) → at + count ≤ k → slice_index_or new k (pos 0) ≡ slice_index_or old k (pos 0)

@@ -87,7 +87,8 @@ pub record IsListOf (placed : Placed) (values : List ℤ) : Type 0 where
 -- its values are those of a list along a walk, which stays in the list
 pub record IsReadingOf (placed : Placed) (reading : Reading) : Type 0 where
   pub count : count_of placed ≡ walk_size reading.axes.now
-  pub each : (p : ℕ) → meaning placed p ≡ value_in reading.list.now (reached reading.start reading.axes.now p)
+  pub each : (p : ℕ) → meaning placed p
+      ≡ value_in reading.list.now (reached reading.start reading.axes.now p)
   pub inside : (p : ℕ) → p < walk_size reading.axes.now
       → reached reading.start reading.axes.now p < length reading.list.now
   pub few : length reading.list.now ≤ most_elements
