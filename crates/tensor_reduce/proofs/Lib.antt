@@ -2,6 +2,7 @@ pub mod Combining
 pub mod Cuts
 pub mod Fits
 pub mod Held
+pub mod LeftSteps
 pub mod Named
 pub mod Planned
 pub mod Sharding

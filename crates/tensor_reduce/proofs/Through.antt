@@ -1,10 +1,9 @@
 -- An operation that reads a term in the place of a tensor, over tensors that are there.
 use Rattle.std.proofs.Common.{◌≡◌, ℕ, ◌+◌, ◌-◌, ◌<◌, ◌≤◌, List}
-use Rattle.std.proofs.Common.{Bool, true, false, ◌||◌, if◌then◌else◌, IsOk}
-use Rattle.std.proofs.Common.{refl, ap, sym, subst, ◌∙◌, arith, inl, inr}
-use Rattle.std.proofs.Math.Bool.{or-true}
+use Rattle.std.proofs.Common.{Bool, true, false, ◌||◌, ◌&&◌, if◌then◌else◌, IsOk}
+use Rattle.std.proofs.Common.{refl, ap, sym, subst, ◌∙◌, arith, ◌⊎◌, inl, inr}
 use Rattle.std.proofs.lemmas.Bool.{cases_Bool, cases_lt, and_parts, and_from, eq-eqb, eqb-true}
-use Rattle.std.proofs.lemmas.Bool.{eqb-false, lt-ltb, ltb-true}
+use Rattle.std.proofs.lemmas.Bool.{eqb-false, lt-ltb, ltb-true, or_left, or_right, or_parts, or_cases}
 use Rattle.std.specs.Prelude.{nat_eq}
 use Rattle.tensor_ops.specs.Contents.{Contents, input_of}
 use Rattle.tensor_ops.specs.Legal.{highest_rank}
@@ -18,12 +17,6 @@ use Rattle.tensor_ops.proofs.SameTensors.{same-binary, same-ternary}
 use Rattle.tensor_ops.proofs.Shapes.{with_one-known, with_two-known, with_three-known}
 use Rattle.tensor_reduce.specs.Reading.{reads, instead, through}
 use Rattle.tensor_reduce.specs.Steps.{is_input, is_single}
-
-pub or-left : (a b : Bool) → a ≡ true → a || b ≡ true
-or-left a b so = ap (λ x. x || b) so
-
-pub or-right : (a b : Bool) → b ≡ true → a || b ≡ true
-or-right a b so = ap (λ x. a || x) so ∙ or-true a
 
 pub nat_eq-itself : (n : ℕ) → nat_eq n n ≡ true
 nat_eq-itself n = eq-eqb n n refl
@@ -44,6 +37,28 @@ other-below m n below other =
       | inr past ↦ let same : m ≡ n = omega arith in absurd (eqb-false m n other same)
     ]
 
+-- who reads one tensor and not another one reads another one
+other-read : (n m : ℕ) (t : Term) → reads m t ≡ true → reads n t ≡ false → nat_eq m n ≡ false
+other-read n m t reading unread =
+    elim (cases_Bool (nat_eq m n)) [
+      | inl here ↦
+          let same : m ≡ n = eqb-true m n here in
+          let read : reads n t ≡ true = ap (λ k. reads k t) (sym same) ∙ reading in
+          (cc)
+      | inr other ↦ other
+    ]
+
+-- an operand that is the tensor of a number, if it reads it at all
+abbrev pub ReadsDirectly : ℕ → Term → Type 0
+ReadsDirectly n a = (is_input a ≡ true) ⊎ (reads n a ≡ false)
+
+-- so is each operand of an operation on one or two
+abbrev pub ReadDirectly : ℕ → Term → Type 0
+ReadDirectly n (input m) = Unit {0}
+ReadDirectly n (unary o a) = ReadsDirectly n a
+ReadDirectly n (binary o a b) = ReadsDirectly n a × ReadsDirectly n b
+ReadDirectly n (ternary o a b c) = Unit {0}
+
 module _ (held all : List Contents) where
   -- a term that reads what is there is the tensor that it is over all
   pub same-read : (t : Term) → IsOk (dims_of highest_rank t all)
@@ -57,23 +72,30 @@ module _ (held all : List Contents) where
       let known = with_two-known (binary_dims highest_rank o) (dims_of highest_rank a all)
       (dims_of highest_rank b all) has in
       same-binary held all o a a b b has
-      (same-read a known.0 (λ n r. there n (or-left (reads n a) (reads n b) r)))
-      (same-read b known.1 (λ n r. there n (or-right (reads n a) (reads n b) r)))
+      (same-read a known.0 (λ n r. there n (or_left (reads n a) (reads n b) r)))
+      (same-read b known.1 (λ n r. there n (or_right (reads n a) (reads n b) r)))
   same-read (ternary o a b c) has there =
       let known = with_three-known (ternary_dims o) (dims_of highest_rank a all)
       (dims_of highest_rank b all) (dims_of highest_rank c all) has in
       same-ternary held all o a a b b c c has
-      (same-read a known.0 (λ n r. there n (or-left (reads n a) (reads n b || reads n c) r)))
-      (same-read b known.1 (λ n r. there n (or-right (reads n a) (reads n b || reads n c)
-      (or-left (reads n b) (reads n c) r))))
-      (same-read c known.2 (λ n r. there n (or-right (reads n a) (reads n b || reads n c)
-      (or-right (reads n b) (reads n c) r))))
+      (same-read a known.0 (λ n r. there n (or_left (reads n a) (reads n b || reads n c) r)))
+      (same-read b known.1 (λ n r. there n (or_right (reads n a) (reads n b || reads n c)
+      (or_left (reads n b) (reads n c) r))))
+      (same-read c known.2 (λ n r. there n (or_right (reads n a) (reads n b || reads n c)
+      (or_right (reads n b) (reads n c) r))))
 
-  -- an operand that is a tensor, or what stands in its place
-  same-instead : (n : ℕ) (u a : Term) → is_input a ≡ true → IsSameTensor u held (input n) all
+  -- so is one that doesn't read the only tensor that isn't there
+  same-unread : (n : ℕ) (t : Term) → reads n t ≡ false → IsOk (dims_of highest_rank t all)
+      → ((m : ℕ) → reads m t ≡ true → nat_eq m n ≡ false → input_of held m ≡ input_of all m)
+      → IsSameTensor t held t all
+  same-unread n t unread has there = same-read t has (λ m r. there m r (other-read n m t r unread))
+
+  -- an operand, or what stands in its place
+  same-instead : (n : ℕ) (u a : Term) → ReadsDirectly n a → IsSameTensor u held (input n) all
+      → IsOk (dims_of highest_rank a all)
       → ((m : ℕ) → reads m a ≡ true → nat_eq m n ≡ false → input_of held m ≡ input_of all m)
       → IsSameTensor (instead n u a) held a all
-  same-instead n u (input m) is_tensor same there =
+  same-instead n u (input m) direct same has there =
       elim (cases_Bool (nat_eq m n)) [
         | inl here ↦
             let number : n ≡ m = sym (eqb-true m n here) in
@@ -85,9 +107,21 @@ module _ (held all : List Contents) where
             subst (λ t. IsSameTensor t held (input m) all) (sym is)
             (same-input held all m (there m (nat_eq-itself m) other))
       ]
-  same-instead n u (unary o a) is_tensor same there = (cc)
-  same-instead n u (binary o a b) is_tensor same there = (cc)
-  same-instead n u (ternary o a b c) is_tensor same there = (cc)
+  same-instead n u (unary o a) direct same has there =
+      elim direct [
+        | inl is_tensor ↦ (cc)
+        | inr unread ↦ same-unread n (unary o a) unread has there
+      ]
+  same-instead n u (binary o a b) direct same has there =
+      elim direct [
+        | inl is_tensor ↦ (cc)
+        | inr unread ↦ same-unread n (binary o a b) unread has there
+      ]
+  same-instead n u (ternary o a b c) direct same has there =
+      elim direct [
+        | inl is_tensor ↦ (cc)
+        | inr unread ↦ same-unread n (ternary o a b c) unread has there
+      ]
 
 -- the operands of what has parts are tensors
 one-tensor : (o : Unary) (a b : Term) → has_parts (unary o a) ≡ true → is_single (unary o a) ≡ true
@@ -106,25 +140,105 @@ two-tensors (concat axis) a b parts single = (cc)
 two-tensors (contract pairs) a b parts single = and_parts (is_input a) (is_input b) single
 two-tensors (convolve axes) a b parts single = (cc)
 
+-- those of what has parts are
+pub ReadDirectly-single : (n : ℕ) (t : Term) → has_parts t ≡ true → is_single t ≡ true
+    → ReadDirectly n t
+ReadDirectly-single n (input m) parts single = tt
+ReadDirectly-single n (unary o a) parts single = inl (one-tensor o a a parts single)
+ReadDirectly-single n (binary o a b) parts single =
+    let tensors = two-tensors o a b parts single in (inl tensors.0, inl tensors.1)
+ReadDirectly-single n (ternary o a b c) parts single = tt
+
+-- also where one of them is read through
+ReadsDirectly-instead : (n k : ℕ) (u a : Term) → is_input a ≡ true → reads n u ≡ false
+    → ReadsDirectly n (instead k u a)
+ReadsDirectly-instead n k u (input m) is_tensor unread =
+    elim (cases_Bool (nat_eq m k)) [
+      | inl here ↦
+          let is : (if nat_eq m k then u else input m) ≡ u = rw here refl in
+          inr (ap (reads n) is ∙ unread)
+      | inr other ↦
+          let is : (if nat_eq m k then u else input m) ≡ input m = rw other refl in
+          inl (ap is_input is)
+    ]
+ReadsDirectly-instead n k u (unary o a) is_tensor unread = (cc)
+ReadsDirectly-instead n k u (binary o a b) is_tensor unread = (cc)
+ReadsDirectly-instead n k u (ternary o a b c) is_tensor unread = (cc)
+
+pub ReadDirectly-through : (n k : ℕ) (u t : Term) → has_parts t ≡ true → is_single t ≡ true
+    → reads n u ≡ false → ReadDirectly n (through k u t)
+ReadDirectly-through n k u (input m) parts single unread = tt
+ReadDirectly-through n k u (unary o a) parts single unread =
+    ReadsDirectly-instead n k u a (one-tensor o a a parts single) unread
+ReadDirectly-through n k u (binary o a b) parts single unread =
+    let tensors = two-tensors o a b parts single in (
+      ReadsDirectly-instead n k u a tensors.0 unread,
+      ReadsDirectly-instead n k u b tensors.1 unread,
+    )
+ReadDirectly-through n k u (ternary o a b c) parts single unread = tt
+
+-- who reads through a term reads what it reads, and what the operation reads
+reads-instead : (m n : ℕ) (u a : Term) → reads m (instead n u a) ≡ true
+    → (reads m u || reads m a) ≡ true
+reads-instead m n u (input k) reading =
+    elim (cases_Bool (nat_eq k n)) [
+      | inl here ↦
+          let is : (if nat_eq k n then u else input k) ≡ u = rw here refl in
+          or_left (reads m u) (nat_eq k m) (ap (reads m) (sym is) ∙ reading)
+      | inr other ↦
+          let is : (if nat_eq k n then u else input k) ≡ input k = rw other refl in
+          or_right (reads m u) (nat_eq k m) (ap (reads m) (sym is) ∙ reading)
+    ]
+reads-instead m n u (unary o a) reading = or_right (reads m u) (reads m (unary o a)) reading
+reads-instead m n u (binary o a b) reading = or_right (reads m u) (reads m (binary o a b)) reading
+reads-instead m n u (ternary o a b c) reading =
+    or_right (reads m u) (reads m (ternary o a b c)) reading
+
+pub reads-through : (m n : ℕ) (u t : Term) → reads m (through n u t) ≡ true
+    → (reads m u || reads m t) ≡ true
+reads-through m n u (input k) reading = or_right (reads m u) (nat_eq k m) reading
+reads-through m n u (unary o a) reading = reads-instead m n u a reading
+reads-through m n u (binary o a b) reading =
+    elim (or_cases (reads m (instead n u a)) (reads m (instead n u b)) reading) [
+      | inl first ↦
+          elim (or_cases (reads m u) (reads m a) (reads-instead m n u a first)) [
+            | inl inside ↦ or_left (reads m u) (reads m a || reads m b) inside
+            | inr beside ↦
+                or_right (reads m u) (reads m a || reads m b)
+                (or_left (reads m a) (reads m b) beside)
+          ]
+      | inr second ↦
+          elim (or_cases (reads m u) (reads m b) (reads-instead m n u b second)) [
+            | inl inside ↦ or_left (reads m u) (reads m a || reads m b) inside
+            | inr beside ↦
+                or_right (reads m u) (reads m a || reads m b)
+                (or_right (reads m a) (reads m b) beside)
+          ]
+    ]
+reads-through m n u (ternary o a b c) reading =
+    or_right (reads m u) (reads m (ternary o a b c)) reading
+
 module _ (held all : List Contents) (n : ℕ) (u : Term) where
   -- what has parts, over a term in the place of a tensor
-  pub same-through : (t : Term) → has_parts t ≡ true → is_single t ≡ true
+  pub same-through : (t : Term) → has_parts t ≡ true → ReadDirectly n t
       → IsOk (dims_of highest_rank t all)
       → IsSameTensor u held (input n) all
       → ((m : ℕ) → reads m t ≡ true → nat_eq m n ≡ false → input_of held m ≡ input_of all m)
       → IsSameTensor (through n u t) held t all
-  same-through (input m) parts single has same there = (cc)
-  same-through (unary o a) parts single has same there =
+  same-through (input m) parts direct has same there = (cc)
+  same-through (unary o a) parts direct has same there =
+      let known = with_one-known (unary_dims highest_rank o) (dims_of highest_rank a all) has in
       same-unary held all o (instead n u a) a has
-      (same-instead held all n u a (one-tensor o a a parts single) same there)
-  same-through (binary o a b) parts single has same there =
-      let tensors = two-tensors o a b parts single in
+      (same-instead held all n u a direct same known.0 there)
+  same-through (binary o a b) parts direct has same there =
+      let known = with_two-known (binary_dims highest_rank o) (dims_of highest_rank a all)
+      (dims_of highest_rank b all) has in
       same-binary held all o (instead n u a) a (instead n u b) b has
-      (same-instead held all n u a tensors.0 same
-      (λ m r. there m (or-left (reads m a) (reads m b) r)))
-      (same-instead held all n u b tensors.1 same
-      (λ m r. there m (or-right (reads m a) (reads m b) r)))
-  same-through (ternary o a b c) parts single has same there = (cc)
+      (same-instead held all n u a direct.0 same known.0
+      (λ m r. there m (or_left (reads m a) (reads m b) r)))
+      (same-instead held all n u b direct.1 same known.1
+      (λ m r. there m (or_right (reads m a) (reads m b) r)))
+  same-through (ternary o a b c) parts direct has same there = (cc)
 
 -- its operation has parts too
 pub has_parts-through : (n : ℕ) (u t : Term) → has_parts t ≡ true → has_parts (through n u t) ≡ true
@@ -133,11 +247,33 @@ has_parts-through n u (unary o a) parts = parts
 has_parts-through n u (binary o a b) parts = parts
 has_parts-through n u (ternary o a b c) parts = parts
 
--- and reads no tensor behind those that the term and its other operands read
+-- a term that doesn't read the last of the tensors can do without it
+names-unread : (count : ℕ) (t : Term) → has_inputs t (count + 1) ≡ true → reads count t ≡ false
+    → has_inputs t count ≡ true
+names-unread count (input m) there unread =
+    lt-ltb m count (other-below m count (ltb-true m (count + 1) there) unread)
+names-unread count (unary o a) there unread = names-unread count a there unread
+names-unread count (binary o a b) there unread =
+    let each = and_parts (has_inputs a (count + 1)) (has_inputs b (count + 1)) there in
+    let neither = or_parts (reads count a) (reads count b) unread in
+    and_from (has_inputs a count) (has_inputs b count)
+    (names-unread count a each.0 neither.0) (names-unread count b each.1 neither.1)
+names-unread count (ternary o a b c) there unread =
+    let first = and_parts (has_inputs a (count + 1))
+    (has_inputs b (count + 1) && has_inputs c (count + 1)) there in
+    let others = and_parts (has_inputs b (count + 1)) (has_inputs c (count + 1)) first.1 in
+    let none = or_parts (reads count a) (reads count b || reads count c) unread in
+    let neither = or_parts (reads count b) (reads count c) none.1 in
+    and_from (has_inputs a count) (has_inputs b count && has_inputs c count)
+    (names-unread count a first.0 none.0)
+    (and_from (has_inputs b count) (has_inputs c count)
+    (names-unread count b others.0 neither.0) (names-unread count c others.1 neither.1))
+
+-- what is read through a term reads no tensor behind those that the term and others read
 names-instead : (n count : ℕ) (u a : Term) → has_inputs u count ≡ true
-    → has_inputs a (count + 1) ≡ true → n ≡ count → is_input a ≡ true
+    → has_inputs a (count + 1) ≡ true → n ≡ count → ReadsDirectly n a
     → has_inputs (instead n u a) count ≡ true
-names-instead n count u (input m) names there last is_tensor =
+names-instead n count u (input m) names there last direct =
     elim (cases_Bool (nat_eq m n)) [
       | inl here ↦
           let is : (if nat_eq m n then u else input m) ≡ u = rw here refl in
@@ -148,20 +284,36 @@ names-instead n count u (input m) names there last is_tensor =
           other-below m count (ltb-true m (count + 1) there) (ap (nat_eq m) (sym last) ∙ other) in
           ap (λ t. has_inputs t count) is ∙ lt-ltb m count below
     ]
-names-instead n count u (unary o a) names there last is_tensor = (cc)
-names-instead n count u (binary o a b) names there last is_tensor = (cc)
-names-instead n count u (ternary o a b c) names there last is_tensor = (cc)
+names-instead n count u (unary o a) names there last direct =
+    elim direct [
+      | inl is_tensor ↦ (cc)
+      | inr unread ↦
+          names-unread count (unary o a) there (ap (λ k. reads k (unary o a)) (sym last) ∙ unread)
+    ]
+names-instead n count u (binary o a b) names there last direct =
+    elim direct [
+      | inl is_tensor ↦ (cc)
+      | inr unread ↦
+          names-unread count (binary o a b) there
+          (ap (λ k. reads k (binary o a b)) (sym last) ∙ unread)
+    ]
+names-instead n count u (ternary o a b c) names there last direct =
+    elim direct [
+      | inl is_tensor ↦ (cc)
+      | inr unread ↦
+          names-unread count (ternary o a b c) there
+          (ap (λ k. reads k (ternary o a b c)) (sym last) ∙ unread)
+    ]
 
 pub names-through : (n count : ℕ) (u t : Term) → has_inputs u count ≡ true
-    → has_inputs t (count + 1) ≡ true → n ≡ count → has_parts t ≡ true → is_single t ≡ true
+    → has_inputs t (count + 1) ≡ true → n ≡ count → has_parts t ≡ true → ReadDirectly n t
     → has_inputs (through n u t) count ≡ true
-names-through n count u (input m) names there last parts single = (cc)
-names-through n count u (unary o a) names there last parts single =
-    names-instead n count u a names there last (one-tensor o a a parts single)
-names-through n count u (binary o a b) names there last parts single =
-    let tensors = two-tensors o a b parts single in
+names-through n count u (input m) names there last parts direct = (cc)
+names-through n count u (unary o a) names there last parts direct =
+    names-instead n count u a names there last direct
+names-through n count u (binary o a b) names there last parts direct =
     let each = and_parts (has_inputs a (count + 1)) (has_inputs b (count + 1)) there in
     and_from (has_inputs (instead n u a) count) (has_inputs (instead n u b) count)
-    (names-instead n count u a names each.0 last tensors.0)
-    (names-instead n count u b names each.1 last tensors.1)
-names-through n count u (ternary o a b c) names there last parts single = (cc)
+    (names-instead n count u a names each.0 last direct.0)
+    (names-instead n count u b names each.1 last direct.1)
+names-through n count u (ternary o a b c) names there last parts direct = (cc)

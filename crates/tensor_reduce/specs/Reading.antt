@@ -1,10 +1,11 @@
 -- Which tensors are read, and operations that read another term in the place of a tensor.
-use Rattle.std.specs.Prelude.{◌≡◌, ℕ, ◌+◌, nat_eq, List, [], ◌∷◌, ◌++◌, length}
+use Rattle.std.specs.Prelude.{◌≡◌, ℕ, zero, suc, nat_eq, List, [], ◌∷◌, ◌++◌, length, drop}
 use Rattle.std.specs.Prelude.{Bool, true, false, ◌||◌, if◌then◌else◌}
 use Rattle.tensor_ops.specs.Contents.{Contents, input_of}
 use Rattle.tensor_ops.specs.Term.{Term, input, unary, binary, ternary}
 use Rattle.tensor_ops.specs.Value.{tensor_of}
 use Rattle.tensor_reduce.specs.Plan.{term_of_step, terms_in, worked_out, last_tensor, AreReady}
+use Rattle.tensor_reduce.specs.declared.read_through.ReadThrough.{ReadThrough}
 use Rattle.tensor_reduce.specs.declared.step.Step.{Step}
 
 -- whether a term reads the tensor of a number
@@ -45,14 +46,20 @@ abbrev pub AreHeld : List Step → List Contents → List Contents → Type 0
 AreHeld left whole held =
     (all : List Contents) × (AreHeldFor left held all × (worked_out (terms_in left) all ≡ whole))
 
--- the tensor of the second of these steps, where no later one reads the first's
-pub record IsSecond (first second : Step) (later : List Step) (all : List Contents)
-    (tensor : Contents) : Type 0 where
-  pub is : tensor ≡ tensor_of (term_of_step second)
-      (all ++ tensor_of (term_of_step first) all ∷ [])
-  pub unread : are_reading (length all) later ≡ false
+-- the tensor of the step behind so many others, none of whose tensors a step behind it reads
+abbrev pub IsReadThrough : ℕ → List Step → List Contents → Contents → Type 0
+IsReadThrough n [] all tensor = ⊥
+IsReadThrough zero (s ∷ left) all tensor = tensor ≡ tensor_of (term_of_step s) all
+IsReadThrough (suc n) (s ∷ left) all tensor =
+    (are_reading (length all) (drop (suc n) left) ≡ false)
+    × IsReadThrough n left (all ++ tensor_of (term_of_step s) all ∷ []) tensor
 
-abbrev pub IsSecondOf : List Step → List Contents → Contents → Type 0
-IsSecondOf [] all tensor = ⊥
-IsSecondOf (first ∷ []) all tensor = ⊥
-IsSecondOf (first ∷ second ∷ later) all tensor = IsSecond first second later all tensor
+-- what was found is such a tensor, over whatever the steps left to do are held for
+abbrev pub GivesReadThrough : List Step → List Contents → ReadThrough → Type 0
+GivesReadThrough left held read =
+    (all : List Contents) → AreHeldFor left held all
+    → IsReadThrough read.skipped left all read.tensor
+
+-- tensors with so many more behind them
+abbrev pub HasMore : ℕ → List Contents → List Contents → Type 0
+HasMore count old new = (more : List Contents) × ((new ≡ old ++ more) × (length more ≡ count))

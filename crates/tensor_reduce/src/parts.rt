@@ -7,7 +7,7 @@ ghost use Rattle.tensor_reduce.specs.Combined.{reducer_of};
 ghost use Rattle.tensor_reduce.specs.Plan.{term_of_step};
 
 use crate::step::Step;
-use tensor_ops::{Binary, Expr, MAX_ELEMENTS, Node, Reducer, Unary};
+use tensor_ops::{Binary, Expr, Inputs, MAX_ELEMENTS, Node, Reducer, Tensor, Unary};
 
 /// How many values a step has at most that is cut into shards.
 const FEW_VALUES: u64 = 64;
@@ -18,6 +18,10 @@ const SHORT: u64 = 4096;
 /// Over how many index lists a value is at least that is worked out of values as they come, where
 /// there are many of them.
 const LONG_RUN: u64 = 256;
+
+/// How many leaves of values that are combinations there are for each worker, so that none waits
+/// long for the last.
+const SHARES: u64 = 4;
 
 /// How the values of a step are cut.
 #[derive(Clone, Copy, Drop)]
@@ -45,8 +49,30 @@ impl Cut {
         })
     }
 
+    /// The value of an inner product in parts, each of values of both operands as they are worked out.
+    pub(crate) fn of_inner_product(
+        first: &Step,
+        second: &Step,
+        reader: &Step,
+        block: u64,
+    ) -> Option<Cut>
+        requires { 0 < block }
+        ensures { IfSome result (λ cut. IsTrue (has_parts (term_of_step reader.now))) }
+    {
+        let places = first.dims().size().min(second.dims().size());
+        let is_product = is_contraction(reader.expr()) && has_parts(reader.expr());
+        if places <= SHORT || reader.dims().size() != 1 || !is_product {
+            return None;
+        }
+        Some(Cut {
+            width: block,
+            leaf: 1,
+        })
+    }
+
     /// The values of a step in parts, each of values of this operand as they are worked out: where
-    /// each of the operand's is worked out once, and all workers have something to do.
+    /// each of the operand's is worked out once, and no fewer workers have something to do than if
+    /// it were a tensor.
     pub(crate) fn of_reader(operand: &Step, reader: &Step, workers: u64, block: u64) -> Option<Cut>
         requires { 0 < block }
         ensures { IfSome result (λ cut. IsTrue (has_parts (term_of_step reader.now))) }
@@ -62,14 +88,51 @@ impl Cut {
                 leaf: 1,
             });
         }
-        let all_work = workers == 1 || values.div_ceil(block) >= workers;
+        let leaf = leaf_of(values, places, workers, block);
+        let all_work = values.div_ceil(leaf) >= places.div_ceil(block).min(workers);
         if !all_work || !is_reduction(reader.expr()) || places < LONG_RUN * values {
             return None;
         }
         Some(Cut {
             width: MAX_ELEMENTS,
-            leaf: block,
+            leaf,
         })
+    }
+}
+
+/// How many values a leaf has of a step that combines values of so many places: a block at most, and
+/// so few that there is a leaf for each block of the places, up to some for each worker.
+pub(crate) fn leaf_of(values: u64, places: u64, workers: u64, block: u64) -> u64
+    requires { 0 < block }
+    ensures { 0 < result }
+{
+    let shares = workers.saturating_mul(SHARES).min(places / block);
+    values.div_ceil(shares.max(1)).min(block).max(1)
+}
+
+/// How many places the tensor has of which a step combines values, or the larger of two. A step
+/// that combines none has no such tensor, and no places.
+pub(crate) fn places_combined(expr: &Expr, inputs: &Inputs, earlier: &[Tensor]) -> u64 {
+    match expr.node() {
+        Node::Unary(Unary::Reduce(_, _), a) => places_of(a, inputs, earlier),
+        Node::Binary(Binary::Contract(_) | Binary::Convolve(_), a, b) => {
+            places_of(a, inputs, earlier).max(places_of(b, inputs, earlier))
+        }
+        _ => 0,
+    }
+}
+
+/// How many places the tensor has that an operand is, among the inputs and those of earlier steps.
+fn places_of(operand: &Expr, inputs: &Inputs, earlier: &[Tensor]) -> u64 {
+    let Node::Input(number) = operand.node() else {
+        return 0;
+    };
+    if number < inputs.len() {
+        return inputs.get(number).dims().size();
+    }
+    match earlier.get((number - inputs.len()) as usize) {
+        Some(tensor) => tensor.dims().size(),
+        None => 0,
     }
 }
 
@@ -98,6 +161,11 @@ pub(crate) fn reducer_of(expr: &Expr) -> Reducer
 /// Whether an expression is a reduction.
 fn is_reduction(expr: &Expr) -> bool {
     matches!(expr.node(), Node::Unary(Unary::Reduce(_, _), _))
+}
+
+/// Whether an expression is a contraction.
+fn is_contraction(expr: &Expr) -> bool {
+    matches!(expr.node(), Node::Binary(Binary::Contract(_), _, _))
 }
 
 /// Whether axes, each of them named once, are the first.

@@ -1,7 +1,8 @@
 //! Which tensors expressions read, and steps that read an expression in the place of a tensor.
 
-ghost use Rattle.std.specs.Prelude.{◌≡◌, IfOk};
+ghost use Rattle.std.specs.Prelude.{◌≡◌, ◌+◌, ◌<◌, ◌^◌, false, IfOk};
 ghost use Rattle.tensor_ops.specs.Tree.{term_of};
+ghost use Rattle.tensor_reduce.specs.Plan.{term_of_step};
 ghost use Rattle.tensor_reduce.specs.Reading.{reads, are_reading, instead, through};
 
 use crate::step::Step;
@@ -18,6 +19,17 @@ pub(crate) fn are_reading(steps: &[Step], number: u32) -> bool
         }
     }
     false
+}
+
+/// Whether the second of two operands reads the first, whose number is given, or one of the later
+/// steps reads one of both.
+pub(crate) fn are_read_elsewhere(number: u32, second: &Step, later: &[Step]) -> bool
+    requires { number + 1 < 2 ^ 32 }
+    ensures second { result ≡ false → reads number (term_of_step second.now) ≡ false }
+    ensures first_later { result ≡ false → are_reading number later.now ≡ false }
+    ensures second_later { result ≡ false → are_reading (number + 1) later.now ≡ false }
+{
+    reads(second.expr(), number) || are_reading(later, number) || are_reading(later, number + 1)
 }
 
 /// Whether an expression reads the tensor of a number.
@@ -50,6 +62,23 @@ pub(crate) fn through(
         }
         Node::Input(_) | Node::Ternary(_, _, _, _) => copied(alloc, reader),
     }
+}
+
+/// An operation on two operands, with one expression for each that is the tensor of a number, and
+/// another one for each that is the tensor of the next number.
+pub(crate) fn through_both(
+    alloc: Global,
+    reader: &Expr,
+    number: u32,
+    first: &Expr,
+    second: &Expr,
+) -> Result<Expr, AllocError>
+    requires { number + 1 < 2 ^ 32 }
+    ensures { IfOk result (λ e. term_of e ≡ through number (term_of first.now)
+        (through (number + 1) (term_of second.now) (term_of reader.now))) }
+{
+    let half = through(alloc, reader, number + 1, second)?;
+    through(alloc, &half, number, first)
 }
 
 /// A copy of an operand, or of an expression where the operand is the tensor of a number.

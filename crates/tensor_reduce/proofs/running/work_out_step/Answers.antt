@@ -7,5 +7,5 @@ pub new-requires : goal.new-requires
 new-requires g c =
     let kernel = c.in_ok-kernel.kernel in
     ap length c.in_ok-values.ensures.items
-    ∙ length-values_from (kernel_tensors kernel) (kernel_term kernel) 0 (c.size.result - 0)
-    ∙ omega (arith, c.size.ensures.value)
+    ∙ length-values_from (kernel_tensors kernel) (kernel_term kernel) 0 (c.size-size.result - 0)
+    ∙ omega (arith, c.size-size.ensures.value)

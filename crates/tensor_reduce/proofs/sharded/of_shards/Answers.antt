@@ -6,7 +6,7 @@ use Rattle.tensor_ops.specs.Tree.{term_of}
 use Rattle.tensor_reduce.specs.Combined.{value_shard, combined_by}
 use Rattle.tensor_reduce.specs.Shards.{shards_in}
 use Rattle.tensor_reduce.proofs.ShardedTensors.{tensor_of-cut}
-use Rattle.tensor_reduce.proofs.running.of_shards.Goals as goal
+use Rattle.tensor_reduce.proofs.sharded.of_shards.Goals as goal
 
 pub combined_values-requires : goal.combined_values-requires
 combined_values-requires g c =
