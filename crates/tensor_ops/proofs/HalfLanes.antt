@@ -2,10 +2,9 @@
 -- numbers.
 use Rattle.std.proofs.Common.{◌≡◌, ℕ, zero, suc, ◌+◌, ◌*◌, ◌%◌, ◌^◌, ◌<◌, ℤ, ◌+ℤ◌, pos}
 use Rattle.std.proofs.Common.{List, [], ◌∷◌, length, map, FitsSigned, to_z, of_z, get_or, refl, ap}
-use Rattle.std.proofs.Common.{sym, subst, ◌∙◌, arith, bit_and}
+use Rattle.std.proofs.Common.{sym, ◌∙◌, arith, bit_and}
 use Rattle.std.specs.Int.{w64, int_wrap}
 use Rattle.std.proofs.lemmas.List.{get_or-map, length-map}
-use Rattle.std.proofs.lemmas.Int.{to_z-of_z, SFits-int_wrap}
 use Rattle.std.proofs.lemmas.Nat.{and_mask}
 use Rattle.std.proofs.lemmas.Simd.{get_or-zip2, length-zip2}
 use lib.Lanes.{zip2}

@@ -1,6 +1,6 @@
 -- Expressions placed: each kind of node keeps the values.
 use Rattle.std.proofs.Common.{◌≡◌, ℕ, ℤ, pos, ◌+◌, ◌<◌, ◌≤◌, ◌≢◌, ◌^◌, List, length, map, Bor, Result, Ok, Err, IfOk}
-use Rattle.std.proofs.Common.{refl, ap, sym, ◌∙◌, arith}
+use Rattle.std.proofs.Common.{refl, ap, sym, subst, ◌∙◌, arith}
 use Rattle.std.specs.List.{range_with_len}
 use Rattle.std.proofs.lemmas.List.FromFn.{length-map-range_with_len, get_or-map-range_with_len}
 use Rattle.tensor_shape.specs.Index.{size_of, IsIndexOf, place, index_of}
@@ -11,10 +11,11 @@ use Rattle.tensor_ops.specs.Contents.{Contents, value_at}
 use Rattle.tensor_ops.specs.Meaning.{meaning, count_of, IsSound, IsListOf}
 use Rattle.tensor_ops.specs.Movement.{moved, moved_dims}
 use Rattle.tensor_ops.specs.Places.{value_in}
-use Rattle.tensor_ops.specs.Placing.{Gives, IsView, meaning_at}
+use Rattle.tensor_ops.specs.Placing.{Gives, IsJoined, IsView, meaning_at}
 use Rattle.tensor_ops.specs.Term.{Movement, reshape}
-use Rattle.tensor_ops.specs.Scalars.{applied}
+use Rattle.tensor_ops.specs.Scalars.{applied, combined}
 use Rattle.tensor_ops.specs.Walk.{walk_size, reached}
+use Rattle.tensor_ops.specs.declared.operations.BinaryScalar.{BinaryScalar}
 use Rattle.tensor_ops.specs.declared.operations.UnaryScalar.{UnaryScalar}
 use Rattle.tensor_ops.specs.declared.placed.Placed.{Placed}
 use Rattle.tensor_ops.specs.declared.placed.Placed.TheVariants.{Lent}
@@ -107,6 +108,22 @@ gives-each o a b whole ds same sounds count means sound full = record {
   means = λ p below. means p ∙ ap (λ q. applied o (meaning b q)) (sym (place-index_of ds p below))
       ∙ ap (λ x. applied o (meaning x (place ds (index_of ds p)))) same;
 }
+
+-- an operation on each two values of operands of the same dims
+pub gives-pairwise : (o : BinaryScalar) (a b whole : Placed) (ds es rs : List ℕ) → es ≡ ds → rs ≡ ds
+    → count_of a ≡ size_of ds → IsJoined whole a (λ p. combined o (meaning a p) (meaning b p))
+    → Gives whole rs (λ index. combined o (meaning_at a ds index) (meaning_at b es index))
+gives-pairwise o a b whole ds es rs same result full joined =
+    subst (λ l. Gives whole rs (λ index. combined o (meaning_at a ds index) (meaning_at b l index)))
+    (sym same)
+    (subst (λ l. Gives whole l (λ index. combined o (meaning_at a ds index)
+    (meaning_at b ds index))) (sym result)
+    (record {
+      sound = joined.sound;
+      count = joined.count ∙ full;
+      means = λ p below. joined.means p
+          ∙ ap (λ q. combined o (meaning a q) (meaning b q)) (sym (place-index_of ds p below));
+    }))
 
 -- values that were worked out
 pub gives-list : (whole placed : Placed) (items : List ℤ) (ds : List ℕ) (count : ℕ) → IsListOf whole items → IsSound whole

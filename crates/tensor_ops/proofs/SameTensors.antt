@@ -34,7 +34,7 @@ use Rattle.tensor_ops.proofs.SplicedTerms.{concatenated-other}
 use Rattle.tensor_ops.proofs.Splices.{concatenation-known}
 
 -- dims that are equal
-equal_dims-known : (ds es rs : List ℕ) → equal_dims ds es ≡ Ok rs → (ds ≡ es) × (rs ≡ ds)
+pub equal_dims-known : (ds es rs : List ℕ) → equal_dims ds es ≡ Ok rs → (ds ≡ es) × (rs ≡ ds)
 equal_dims-known ds es rs dims =
     elim (cases_Bool (pointwise nat_eq ds es)) [
       | inl same ↦ let known = rw same at dims in (same_text ds es (sym same), (cc))

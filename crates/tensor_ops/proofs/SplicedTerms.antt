@@ -1,6 +1,6 @@
 -- Concatenations and pads of terms: operands that agree, and values at places.
 use Rattle.std.proofs.Common.{◌≡◌, ℕ, zero, suc, ◌+◌, ◌-◌, ◌*◌, ◌<◌, ◌≤◌, ℤ, pos, List, [], ◌∷◌, length, take, drop, get_or, set, remove}
-use Rattle.std.proofs.Common.{true, false, nat_lt, Ok, IsOk, refl, ap, sym, subst, ◌∙◌, inl, inr, arith, add-one}
+use Rattle.std.proofs.Common.{true, false, nat_lt, IsOk, refl, ap, sym, subst, ◌∙◌, inl, inr, arith, add-one}
 use Rattle.std.proofs.lemmas.Bool.{cases_Bool, ltb-true, ltb-false}
 use Rattle.std.specs.Result.{result_unwrap_or}
 use Rattle.tensor_shape.specs.Index.{size_of, IsIndexOf, place, index_of}
@@ -9,15 +9,12 @@ use Rattle.tensor_shape.proofs.Places.{IsIndexOf-index_of, index_of-place}
 use Rattle.tensor_ops.specs.Concatenation.{joined_dims, concatenated_dims, concatenated}
 use Rattle.tensor_ops.specs.Contents.{Contents}
 use Rattle.tensor_ops.specs.Padding.{padded_dims, pad_dims, is_inside, moved_back, padded}
-use Rattle.tensor_ops.specs.Placing.{Gives, meaning_at}
 use Rattle.tensor_ops.specs.Result.{dims_of, shape_of}
 use Rattle.tensor_ops.specs.Splicing.{is_of_first, firsts_before, seconds_before, spliced}
 use Rattle.tensor_ops.specs.Term.{Term, unary, binary, pad, concat}
 use Rattle.tensor_ops.specs.Value.{value, value_of_place}
-use Rattle.tensor_ops.specs.declared.placed.Placed.{Placed}
 use Rattle.tensor_ops.proofs.InTurns.{first-below, second-below, before-turns}
 use Rattle.tensor_ops.proofs.Pads.{pad-known, IsIndexOf-moved_back}
-use Rattle.tensor_ops.proofs.Placings.{gives-index, gives-other}
 use Rattle.tensor_ops.proofs.SameValues.{Agree}
 use Rattle.tensor_ops.proofs.Shapes.{with_one-known, with_two-known}
 use Rattle.tensor_ops.proofs.Splices.{IsConcatenation, concatenation-known, concatenated-spliced, widths-some, size_of-parts, drop-others, size_of-concatenation}
@@ -53,21 +50,6 @@ concatenated-other k ds es f g h l known first second is index =
     ]
 
 module _ (inputs : List Contents) where
-  -- a concatenation of operands that were placed
-  pub gives-concatenation : (t u : Term) (axis : ℕ) (a b whole : Placed) (ds es rs : List ℕ) → Gives a ds (value t inputs) → Gives b es (value u inputs)
-      → ds ≡ shape_of t inputs → es ≡ shape_of u inputs → concatenated_dims highest_rank axis ds es ≡ Ok rs
-      → Gives whole rs (concatenated axis ds (meaning_at a ds) (meaning_at b es))
-      → Gives whole rs (value (binary (concat axis) t u) inputs)
-  gives-concatenation t u axis a b whole ds es rs first second shape_first shape_second dims gives =
-      let known = concatenation-known axis ds es (rw dims refl) in
-      let result : rs ≡ joined_dims axis ds es = (cc (dims, known.dims)) in
-      gives-other whole rs _ (value (binary (concat axis) t u) inputs) gives
-      (λ is index.
-      concatenated-other axis ds es (meaning_at a ds) (value t inputs) (meaning_at b es) (value u inputs) known
-      (λ js. gives-index a ds (value t inputs) js first) (λ js. gives-index b es (value u inputs) js second) is
-      (subst (λ l. IsIndexOf l is) result index)
-      ∙ ap (λ l. concatenated axis l (value t inputs) (value u inputs) is) shape_first)
-
   -- the value of a pad at a place
   module _ (ps : List (ℕ × ℕ)) (a : Term) (has : IsOk (dims_of highest_rank (unary (pad ps) a) inputs)) where
     pub pad-dims : (IsOk (pad_dims highest_rank ps (shape_of a inputs))) × (shape_of (unary (pad ps) a) inputs ≡ padded_dims ps (shape_of a inputs))

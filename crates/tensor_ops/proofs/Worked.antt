@@ -5,7 +5,7 @@ use Rattle.std.specs.List.{range_with_len}
 use Rattle.std.specs.Result.{result_unwrap_or}
 use Rattle.std.proofs.lemmas.List.FromFn.{length-map-range_with_len, get_or-map-range_with_len}
 use Rattle.tensor_shape.specs.Legal.{highest_rank}
-use Rattle.tensor_shape.specs.Index.{size_of, IsIndexOf, place, index_of}
+use Rattle.tensor_shape.specs.Index.{size_of, place, index_of}
 use Rattle.tensor_shape.proofs.Places.{place-below-size_of, index_of-place, place-index_of}
 use Rattle.tensor_shape.proofs.Places.{IsIndexOf-index_of}
 use Rattle.tensor_ops.specs.Contents.{Contents}
@@ -14,16 +14,15 @@ use Rattle.tensor_ops.specs.Meaning.{meaning, count_of, IsSound, IsListOf}
 use Rattle.tensor_ops.specs.Places.{value_in}
 use Rattle.tensor_ops.specs.Placing.{Gives, HasValues, meaning_at}
 use Rattle.tensor_ops.specs.Reduction.{reduced, reduced_dims}
-use Rattle.tensor_ops.specs.Result.{shape_of, unary_dims}
-use Rattle.tensor_ops.specs.Term.{Term, unary, binary, Unary}
-use Rattle.tensor_ops.specs.Term.{contract}
-use Rattle.tensor_ops.specs.Value.{value, unary_value}
+use Rattle.tensor_ops.specs.Result.{shape_of, unary_dims, binary_dims}
+use Rattle.tensor_ops.specs.Term.{Term, unary, binary, Unary, Binary}
+use Rattle.tensor_ops.specs.Value.{value, unary_value, binary_value}
 use Rattle.tensor_ops.specs.Woven.{other_dims}
 use Rattle.tensor_ops.specs.declared.placed.Placed.{Placed}
 use Rattle.tensor_ops.specs.declared.reducer.Reducer.{Reducer}
 use Rattle.tensor_ops.proofs.Known.{reduction-known, contraction-known}
 use Rattle.tensor_ops.proofs.Placings.{gives-index, gives-other}
-use Rattle.tensor_ops.proofs.SameTensors.{agree-unary}
+use Rattle.tensor_ops.proofs.SameTensors.{agree-unary, agree-binary}
 use Rattle.tensor_ops.proofs.SameValues.{Agree, reduced-other, contracted-other}
 
 -- the result dims of a reduction, and of a contraction
@@ -56,33 +55,29 @@ module _ (inputs : List Contents) where
       gives-other whole rs (unary_value o ds (meaning_at a ds)) (value (unary o t) inputs) gives
       (agree-term t o a ds rs operand shape dims)
 
-  -- a contraction of two of them
-  pub agree-contraction : (t u : Term) (pairs : List (ℕ × ℕ)) (a b : Placed) (ds es rs : List ℕ)
+  -- and on two
+  pub agree-terms : (t u : Term) (o : Binary) (a b : Placed) (ds es rs : List ℕ)
       → Gives a ds (value t inputs) → Gives b es (value u inputs)
-      → ds ≡ shape_of t inputs → es ≡ shape_of u inputs → contracted_dims highest_rank pairs ds es ≡ Ok rs
-      → Agree rs (contracted pairs ds es (meaning_at a ds) (meaning_at b es)) (value (binary
-      (contract pairs) t u) inputs)
-  agree-contraction t u pairs a b ds es rs first second shape_first shape_second dims index
-      is_index =
-      contracted-other pairs ds es (meaning_at a ds) (value t inputs) (meaning_at b es)
-      (value u inputs) (contraction-known pairs ds es (rw dims refl))
-      (λ js. gives-index a ds (value t inputs) js first)
-      (λ js. gives-index b es (value u inputs) js second) index
-      (subst (λ cs. IsIndexOf cs index) (sym (contracted-shape pairs ds es rs dims)) is_index)
-      ∙ ap (λ d. contracted pairs d es (value t inputs) (value u inputs) index) shape_first
-      ∙ ap (λ e. contracted pairs (shape_of t inputs) e (value t inputs)
-      (value u inputs) index) shape_second
+      → ds ≡ shape_of t inputs → es ≡ shape_of u inputs → binary_dims highest_rank o ds es ≡ Ok rs
+      → Agree rs (binary_value o ds es (meaning_at a ds) (meaning_at b es))
+      (value (binary o t u) inputs)
+  agree-terms t u o a b ds es rs first second shape_first shape_second dims index is_index =
+      agree-binary o ds es rs (meaning_at a ds) (value t inputs) (meaning_at b es) (value u inputs)
+      dims (λ js. gives-index a ds (value t inputs) js first)
+      (λ js. gives-index b es (value u inputs) js second) index is_index
+      ∙ ap (λ d. binary_value o d es (value t inputs) (value u inputs) index) shape_first
+      ∙ ap (λ e. binary_value o (shape_of t inputs) e (value t inputs) (value u inputs) index)
+      shape_second
 
-  pub gives-contraction : (t u : Term) (pairs : List (ℕ × ℕ)) (a b whole : Placed)
-      (ds es rs : List ℕ) → Gives a ds (value t inputs)
-      → Gives b es (value u inputs) → ds ≡ shape_of t inputs → es ≡ shape_of u inputs
-      → contracted_dims highest_rank pairs ds es ≡ Ok rs
-      → Gives whole rs (contracted pairs ds es (meaning_at a ds) (meaning_at b es))
-      → Gives whole rs (value (binary (contract pairs) t u) inputs)
-  gives-contraction t u pairs a b whole ds es rs first second shape_first shape_second dims gives =
-      gives-other whole rs (contracted pairs ds es (meaning_at a ds) (meaning_at b es)) (value
-      (binary (contract pairs) t u) inputs) gives
-      (agree-contraction t u pairs a b ds es rs first second shape_first shape_second dims)
+  pub gives-binary : (t u : Term) (o : Binary) (a b whole : Placed) (ds es rs : List ℕ)
+      → Gives a ds (value t inputs) → Gives b es (value u inputs)
+      → ds ≡ shape_of t inputs → es ≡ shape_of u inputs → binary_dims highest_rank o ds es ≡ Ok rs
+      → Gives whole rs (binary_value o ds es (meaning_at a ds) (meaning_at b es))
+      → Gives whole rs (value (binary o t u) inputs)
+  gives-binary t u o a b whole ds es rs first second shape_first shape_second dims gives =
+      gives-other whole rs (binary_value o ds es (meaning_at a ds) (meaning_at b es))
+      (value (binary o t u) inputs) gives
+      (agree-terms t u o a b ds es rs first second shape_first shape_second dims)
 
 -- values of the same function
 pub values-other : (count : ℕ) (at : ℕ → ℤ) (ds : List ℕ) (f g : List ℕ → ℤ)

@@ -28,7 +28,6 @@ const LONG_ROW: usize = 64;
 
 /// A contraction made ready to be evaluated by ranges of places. It is made once; all who work on
 /// ranges of it share it.
-#[derive(Drop)]
 pub(crate) enum Contraction<'a> {
     /// By tiles of four rows by four columns.
     InTiles(Tiled),
@@ -38,6 +37,18 @@ pub(crate) enum Contraction<'a> {
     InStrips(StripDots<'a>),
     /// A convolution, run by run.
     InRuns(SlidDots<'a>),
+}
+
+// Said once, where a derived drop is unfolded wherever one may be dropped.
+impl Drop for Contraction<'_> {
+    fn drop(self) {
+        match self {
+            Contraction::InTiles(_)
+            | Contraction::InDots(_)
+            | Contraction::InStrips(_)
+            | Contraction::InRuns(_) => {}
+        }
+    }
 }
 
 impl<'a> Contraction<'a> {

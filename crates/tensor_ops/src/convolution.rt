@@ -9,7 +9,6 @@ ghost use Rattle.tensor_ops.specs.Placing.{Gives, HasValues, meaning_at};
 
 use crate::contraction::Contraction;
 use crate::convolution_dims::convolved_dims;
-use crate::kernels::all_values;
 use crate::part::Part;
 use crate::placed::Placed;
 use crate::rows::Rows;
@@ -40,8 +39,8 @@ pub(crate) fn convolution_of<'a>(
     let Ok(dims) = convolved_dims(axes, &operand.dims, &kernel.dims) else {
         unreachable!()
     };
-    let values = all_values(alloc, operand.placed, &operand.dims)?;
-    let factors = all_values(alloc, kernel.placed, &kernel.dims)?;
+    let values = operand.placed.into_values(alloc, &operand.dims)?;
+    let factors = kernel.placed.into_values(alloc, &kernel.dims)?;
     let runs = SlidRuns::under_kernel(alloc, axes, &operand.dims, values, &kernel.dims, &dims)?;
     let row = Rows::one(alloc, &kernel.dims, factors)?;
     Ok((Contraction::InRuns(SlidDots::of(runs, row)), dims))

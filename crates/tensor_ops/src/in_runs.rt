@@ -13,7 +13,7 @@ use crate::contraction_dims::paired_axes;
 use crate::expr::Expr;
 use crate::index_parts::all_among;
 use crate::node::{Binary, Node, Unary};
-use crate::placing::place;
+use crate::placing::{place, place_two};
 use crate::reducer::Reducer;
 use crate::root::KEPT;
 use crate::tensors::Tensors;
@@ -53,8 +53,7 @@ impl<'a> InRuns<'a> {
                 Ok(InRuns::Combined(reducer, runs))
             }
             Node::Binary(Binary::Contract(pairs), first, second) => {
-                let first = place(alloc, first, tensors, &mut room)?;
-                let second = place(alloc, second, tensors, &mut room)?;
+                let (first, second) = place_two(alloc, first, second, tensors, &mut room)?;
                 let Some((firsts, seconds)) = paired_axes(pairs, &first.dims) else {
                     unreachable!()
                 };

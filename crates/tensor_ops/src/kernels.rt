@@ -19,7 +19,6 @@ use crate::placed::Placed;
 use crate::reducer::Reducer;
 use crate::reduction::Reduction;
 use crate::reduction_dims::reduced_dims;
-use crate::settling::settled_over;
 use std::alloc::{AllocError, Global};
 use std::borrow::CowSlice;
 use tensor_shape::{Dims, MAX_RANK};
@@ -42,7 +41,7 @@ pub(crate) fn reduction_of<'a>(
     let Ok(dims) = reduced_dims(axes, &operand.dims) else {
         unreachable!()
     };
-    let values = all_values(alloc, operand.placed, &operand.dims)?;
+    let values = operand.placed.into_values(alloc, &operand.dims)?;
     let reduction = Reduction::of(alloc, reducer, &operand.dims, values, axes)?;
     Ok((reduction, dims))
 }
@@ -69,8 +68,8 @@ pub(crate) fn contraction_of<'a>(
     let Ok(dims) = contracted_dims(MAX_RANK, pairs, &first.dims, &second.dims) else {
         unreachable!()
     };
-    let left = all_values(alloc, first.placed, &first.dims)?;
-    let right = all_values(alloc, second.placed, &second.dims)?;
+    let left = first.placed.into_values(alloc, &first.dims)?;
+    let right = second.placed.into_values(alloc, &second.dims)?;
     let contraction = Contraction::of(alloc, &first.dims, left, &second.dims, right, pairs)?;
     Ok((contraction, dims))
 }
@@ -125,27 +124,4 @@ pub(crate) fn place_contraction<'a>(
         dims,
         pieces: 0,
     })
-}
-
-/// All values of a placed expression of these dims: lent where they are an input's, and else worked
-/// out.
-pub(crate) fn all_values<'a>(
-    alloc: Global,
-    placed: Placed<'a>,
-    dims: &Dims,
-) -> Result<CowSlice<'a, i64, Global>, AllocError>
-    requires sound { IsSound placed }
-    requires count { count_of placed ≡ size_of dims.now }
-    ensures { IfOk result (λ v. HasValues (length (cow_slice_items v))
-        (value_in (cow_slice_items v)) dims.now (meaning_at placed.entry dims.now)) }
-{
-    match placed {
-        Placed::Lent(values) => Ok(CowSlice::Borrowed(values)),
-        Placed::Kept(values) => Ok(CowSlice::Owned(values)),
-        placed => {
-            let settled = settled_over(alloc, placed, dims)?;
-            let values = settled.values(alloc, alloc, 0, dims.size() as usize)?;
-            Ok(CowSlice::Owned(values))
-        }
-    }
 }

@@ -50,7 +50,6 @@ mod root;
 mod route;
 mod row_sums;
 mod rows;
-mod settling;
 mod sixteens;
 mod slid_dots;
 mod slid_runs;

@@ -1,25 +1,31 @@
 //! Placed expressions: what is left of an expression once index lists are settled, a tree whose
 //! values are asked for by place. The values are worked out by loops over places.
 
+pub(crate) mod settling;
+
 ghost use Rattle.std.specs.Prelude.{◌≡◌, ◌<◌, ◌≤◌, ◌-◌, ◌+◌, ◌++◌, ℕ, pos, length, map, vec_len};
 ghost use Rattle.std.specs.Prelude.{IfOk, IfSome, OnOk, slice_index, slice_index_or};
 ghost use Rattle.std.specs.Cow.{cow_slice_items};
 ghost use Rattle.std.specs.List.{range_with_len};
+ghost use Rattle.tensor_shape.specs.Index.{size_of};
 ghost use Rattle.tensor_ops.specs.Loops.{either_way};
 ghost use Rattle.tensor_ops.specs.Meaning.{meaning, count_of, IsSound, IsListOf, IsReadingOf};
-ghost use Rattle.tensor_ops.specs.Places.{places_of, AreBelow};
+ghost use Rattle.tensor_ops.specs.Places.{places_of, value_in, AreBelow};
+ghost use Rattle.tensor_ops.specs.Placing.{HasValues, meaning_at};
 ghost use Rattle.tensor_ops.specs.Splicing.{spliced, HaveTurns};
 
 use crate::combining::{combine_along, has_long_rows};
 use crate::gather::{picked, picked_along};
 use crate::loops::{SelectOrder, apply, combine, combine_row, select};
 use crate::operations::{BinaryScalar, UnaryScalar};
+use crate::placed::settling::settled_over;
 use crate::places::Places;
 use crate::spliced::{parted, spliced_list, spliced_run};
 use crate::turns::Turns;
 use crate::walk::{Axis, Reading, Row, sources};
 use std::alloc::{AllocError, Allocator, Global};
 use std::borrow::CowSlice;
+use tensor_shape::Dims;
 
 /// How many places are worked out at a time, so that their values stay in the nearest cache.
 pub(crate) const PIECE: usize = 1024;
@@ -30,7 +36,6 @@ const LONG_TURN: usize = 64;
 /// An expression over inputs that are lent, without dims, index lists and arguments. Where there
 /// are several operands the first is the one that wants the most memory, which is then worked out
 /// while nothing of the others is held.
-#[derive(Drop)]
 pub(crate) enum Placed<'a> {
     /// The values of an input.
     Lent(&'a [i64]),
@@ -49,6 +54,22 @@ pub(crate) enum Placed<'a> {
     Walk(usize, Vec<Axis>, Box<Placed<'a>>),
     /// The values of both operands in turns.
     Spliced(Turns, Box<Placed<'a>>, Box<Placed<'a>>),
+}
+
+// Said once, where a derived drop is unfolded wherever one may be dropped.
+impl Drop for Placed<'_> {
+    fn drop(self) {
+        match self {
+            Placed::Lent(_)
+            | Placed::Kept(_)
+            | Placed::Same(_, _)
+            | Placed::Unary(_, _)
+            | Placed::Binary(_, _, _, _)
+            | Placed::Select(_, _, _, _)
+            | Placed::Walk(_, _, _)
+            | Placed::Spliced(_, _, _) => {}
+        }
+    }
 }
 
 impl<'a> Placed<'a> {
@@ -75,6 +96,29 @@ impl<'a> Placed<'a> {
             from = to;
         }
         Ok(values)
+    }
+
+    /// All its values, where it has these dims: lent where they are an input's, and else worked
+    /// out.
+    pub(crate) fn into_values(
+        self,
+        alloc: Global,
+        dims: &Dims,
+    ) -> Result<CowSlice<'a, i64, Global>, AllocError>
+        requires sound { IsSound self }
+        requires count { count_of self ≡ size_of dims.now }
+        ensures { IfOk result (λ v. HasValues (length (cow_slice_items v))
+            (value_in (cow_slice_items v)) dims.now (meaning_at self.entry dims.now)) }
+    {
+        match self {
+            Placed::Lent(values) => Ok(CowSlice::Borrowed(values)),
+            Placed::Kept(values) => Ok(CowSlice::Owned(values)),
+            placed => {
+                let settled = settled_over(alloc, placed, dims)?;
+                let values = settled.values(alloc, alloc, 0, dims.size() as usize)?;
+                Ok(CowSlice::Owned(values))
+            }
+        }
     }
 
     /// Whether a value takes no operation: it is in a list, at its place or along a walk.

@@ -8,12 +8,12 @@ ghost use Rattle.tensor_ops.specs.Loops.{either_way, selected};
 ghost use Rattle.tensor_ops.specs.Meaning.{meaning, count_of, IsSound};
 ghost use Rattle.tensor_ops.specs.Movement.{moved, moved_dims};
 ghost use Rattle.tensor_ops.specs.Placing.{Gives, IsJoined, IsView, meaning_at};
-ghost use Rattle.tensor_ops.specs.Result.{dims_of, shape_of, unary_dims};
+ghost use Rattle.tensor_ops.specs.Result.{dims_of, shape_of, unary_dims, binary_dims};
 ghost use Rattle.tensor_ops.specs.Tensors.{tensors_in};
 ghost use Rattle.tensor_ops.specs.Term.{has_inputs};
-ghost use Rattle.tensor_ops.specs.Tree.{term_of, movement_at, unary_at};
+ghost use Rattle.tensor_ops.specs.Tree.{term_of, movement_at, unary_at, binary_at};
 ghost use Rattle.tensor_ops.specs.Scalars.{combined, is_true};
-ghost use Rattle.tensor_ops.specs.Value.{value, unary_value};
+ghost use Rattle.tensor_ops.specs.Value.{value, unary_value, binary_value};
 
 use crate::axes::{moved_axes, moved_start, whole_axes};
 use crate::convolution::place_convolution;
@@ -25,7 +25,7 @@ use crate::node::{Binary, Movement, Node, Ternary, Unary};
 use crate::operations::BinaryScalar;
 use crate::part::Part;
 use crate::placed::Placed;
-use crate::settling::settled_over;
+use crate::placed::settling::settled_over;
 use crate::splicing::{place_concatenation, place_pad};
 use crate::tensors::Tensors;
 use crate::walk::Axis;
@@ -41,6 +41,7 @@ struct View<'a> {
 }
 
 /// An expression placed, where so many places of operands may still be worked out.
+#[cycle(place)]
 pub(crate) fn place<'a>(
     alloc: Global,
     expr: &Expr,
@@ -67,33 +68,44 @@ pub(crate) fn place<'a>(
             let operand = place(alloc, operand, tensors, room)?;
             place_unary(alloc, operation, operand, room)
         }
-        Node::Binary(Binary::Pairwise(operation), left, right) => {
-            let left = place(alloc, left, tensors, room)?;
-            let right = place(alloc, right, tensors, room)?;
-            place_pairwise(alloc, operation, left, right)
-        }
-        Node::Binary(Binary::Concat(axis), first, second) => {
-            let first = place(alloc, first, tensors, room)?;
-            let second = place(alloc, second, tensors, room)?;
-            place_concatenation(alloc, axis, first, second)
-        }
-        Node::Binary(Binary::Contract(pairs), first, second) => {
-            let first = place(alloc, first, tensors, room)?;
-            let second = place(alloc, second, tensors, room)?;
-            place_contraction(alloc, pairs, first, second)
-        }
-        Node::Binary(Binary::Convolve(axes), operand, kernel) => {
-            let operand = place(alloc, operand, tensors, room)?;
-            let kernel = place(alloc, kernel, tensors, room)?;
-            place_convolution(alloc, axes, operand, kernel)
+        Node::Binary(operation, first, second) => {
+            let (first, second) = place_two(alloc, first, second, tensors, room)?;
+            place_binary(alloc, operation, first, second)
         }
         Node::Ternary(Ternary::Select, condition, yes, no) => {
             let condition = place(alloc, condition, tensors, room)?;
-            let yes = place(alloc, yes, tensors, room)?;
-            let no = place(alloc, no, tensors, room)?;
+            let (yes, no) = place_two(alloc, yes, no, tensors, room)?;
             place_select(alloc, condition, yes, no)
         }
     }
+}
+
+/// Two expressions, placed one after the other.
+#[cycle(place)]
+pub(crate) fn place_two<'a>(
+    alloc: Global,
+    first: &Expr,
+    second: &Expr,
+    tensors: Tensors<'a>,
+    room: &mut usize,
+) -> Result<(Part<'a>, Part<'a>), AllocError>
+    requires first_inputs { IsTrue (has_inputs (term_of first.now) (length (tensors_in tensors))) }
+    requires second_inputs { IsTrue (has_inputs (term_of second.now)
+        (length (tensors_in tensors))) }
+    requires first_dims { IsOk (dims_of highest_rank (term_of first.now) (tensors_in tensors)) }
+    requires second_dims { IsOk (dims_of highest_rank (term_of second.now) (tensors_in tensors)) }
+    ensures first { IfOk result (λ r.
+        Gives r.0.placed r.0.dims (value (term_of first.now) (tensors_in tensors.entry))) }
+    ensures second { IfOk result (λ r.
+        Gives r.1.placed r.1.dims (value (term_of second.now) (tensors_in tensors.entry))) }
+    ensures first_dims { IfOk result (λ r.
+        r.0.dims ≡ shape_of (term_of first.now) (tensors_in tensors.entry)) }
+    ensures second_dims { IfOk result (λ r.
+        r.1.dims ≡ shape_of (term_of second.now) (tensors_in tensors.entry)) }
+{
+    let first = place(alloc, first, tensors, room)?;
+    let second = place(alloc, second, tensors, room)?;
+    Ok((first, second))
 }
 
 /// An operation on one tensor, placed.
@@ -132,6 +144,34 @@ fn place_unary<'a>(
         Unary::Move(movement) => place_movement(alloc, movement, operand, room),
         Unary::Pad(pairs) => place_pad(alloc, pairs, operand),
         Unary::Reduce(reducer, axes) => place_reduction(alloc, reducer, axes, operand),
+    }
+}
+
+/// An operation on two tensors, placed.
+fn place_binary<'a>(
+    alloc: Global,
+    operation: Binary<'_>,
+    first: Part<'a>,
+    second: Part<'a>,
+) -> Result<Part<'a>, AllocError>
+    requires first { IsSound first.placed }
+    requires second { IsSound second.placed }
+    requires count_first { count_of first.placed ≡ size_of first.dims }
+    requires count_second { count_of second.placed ≡ size_of second.dims }
+    requires dims { IsOk (binary_dims highest_rank (binary_at operation) first.dims second.dims) }
+    ensures placed { IfOk result (λ r. Gives r.placed r.dims
+        (binary_value (binary_at operation.entry) first.entry.dims second.entry.dims
+        (meaning_at first.entry.placed first.entry.dims)
+        (meaning_at second.entry.placed second.entry.dims))) }
+    ensures dims { IfOk result (λ r.
+        binary_dims highest_rank (binary_at operation.entry) first.entry.dims second.entry.dims
+        ≡ Ok r.dims) }
+{
+    match operation {
+        Binary::Pairwise(operation) => place_pairwise(alloc, operation, first, second),
+        Binary::Concat(axis) => place_concatenation(alloc, axis, first, second),
+        Binary::Contract(pairs) => place_contraction(alloc, pairs, first, second),
+        Binary::Convolve(axes) => place_convolution(alloc, axes, first, second),
     }
 }
 

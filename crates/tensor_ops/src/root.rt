@@ -17,9 +17,9 @@ use crate::kernels::{contraction_of, reduction_of};
 use crate::node::{Binary, Node, Unary};
 use crate::part::Part;
 use crate::placed::Placed;
-use crate::placing::place;
+use crate::placed::settling::settled_over;
+use crate::placing::{place, place_two};
 use crate::reduction::Reduction;
-use crate::settling::settled_over;
 use crate::tensors::Tensors;
 use std::alloc::{AllocError, Allocator, Global};
 use tensor_shape::Dims;
@@ -30,11 +30,19 @@ pub(crate) const KEPT: usize = 32_768;
 
 /// What the values of an expression are asked of: a reduction or a contraction where that is its
 /// last operation.
-#[derive(Drop)]
 pub(crate) enum Root<'a> {
     Placed(Placed<'a>),
     Reduction(Reduction<'a>),
     Contraction(Contraction<'a>),
+}
+
+// Said once, where a derived drop is unfolded wherever one may be dropped.
+impl Drop for Root<'_> {
+    fn drop(self) {
+        match self {
+            Root::Placed(_) | Root::Reduction(_) | Root::Contraction(_) => {}
+        }
+    }
 }
 
 impl<'a> Root<'a> {
@@ -62,14 +70,12 @@ impl<'a> Root<'a> {
                 Ok((Root::Reduction(reduction), dims))
             }
             Node::Binary(Binary::Contract(pairs), first, second) => {
-                let first = place(alloc, first, tensors, &mut room)?;
-                let second = place(alloc, second, tensors, &mut room)?;
+                let (first, second) = place_two(alloc, first, second, tensors, &mut room)?;
                 let (contraction, dims) = contraction_of(alloc, pairs, first, second)?;
                 Ok((Root::Contraction(contraction), dims))
             }
             Node::Binary(Binary::Convolve(axes), operand, kernel) => {
-                let operand = place(alloc, operand, tensors, &mut room)?;
-                let kernel = place(alloc, kernel, tensors, &mut room)?;
+                let (operand, kernel) = place_two(alloc, operand, kernel, tensors, &mut room)?;
                 let (contraction, dims) = convolution_of(alloc, axes, operand, kernel)?;
                 Ok((Root::Contraction(contraction), dims))
             }

@@ -1,23 +1,19 @@
-use Rattle.std.proofs.Common.{◌≡◌, [], IsOk, ap, subst, sym, ◌∙◌}
+use Rattle.std.proofs.Common.{[], IsOk, ap, subst, sym, ◌∙◌}
 use Rattle.std.specs.Result.{result_unwrap_or}
 use Rattle.tensor_shape.specs.Legal.{highest_rank}
-use Rattle.tensor_ops.specs.Concatenation.{concatenated_dims}
 use Rattle.tensor_ops.specs.Contents.{value_at}
 use Rattle.tensor_ops.specs.Placing.{Gives}
-use Rattle.tensor_ops.specs.Result.{dims_of}
+use Rattle.tensor_ops.specs.Result.{dims_of, binary_dims}
 use Rattle.tensor_ops.specs.Tensors.{tensors_in}
-use Rattle.tensor_ops.specs.Term.{binary, concat, contract, convolve}
 use Rattle.tensor_ops.specs.Tree.{term_of, unary_at, binary_at}
 use Rattle.tensor_ops.specs.declared.placed.Placed.TheVariants.{Lent}
-use Rattle.tensor_ops.proofs.Convolved.{gives-convolution}
 use Rattle.tensor_ops.proofs.Placings.{gives-input, IfOk-both}
 use Rattle.tensor_ops.proofs.Shapes.{with_two-over}
-use Rattle.tensor_ops.proofs.SplicedTerms.{gives-concatenation}
-use Rattle.tensor_ops.proofs.Worked.{gives-unary, gives-contraction}
+use Rattle.tensor_ops.proofs.Worked.{gives-unary, gives-binary}
 use Rattle.tensor_ops.proofs.placing.+place.Goals as goal
 
-pub returns-in-Input-clause-placed : goal.returns-in-Input-clause-placed
-returns-in-Input-clause-placed t c =
+pub place-returns-in-Input-clause-placed : goal.place-returns-in-Input-clause-placed
+place-returns-in-Input-clause-placed t c =
     rw (
       ← c.in-Input.ensures,
       c.copied.ensures ∙ c.dims.ensures
@@ -27,8 +23,9 @@ returns-in-Input-clause-placed t c =
     (gives-input c.values.result c.get-input.result.now c.values.ensures.value
     c.values.ensures.full))
 
-pub returns-in_ok-operand-in-Unary-clause-placed : goal.returns-in_ok-operand-in-Unary-clause-placed
-returns-in_ok-operand-in-Unary-clause-placed t c =
+pub place-returns-in_ok-operand-in-Unary-clause-placed :
+    goal.place-returns-in_ok-operand-in-Unary-clause-placed
+place-returns-in_ok-operand-in-Unary-clause-placed t c =
     let operand = c.in_ok-operand-in-Unary in
     rw (← c.in-Unary.ensures)
     (IfOk-both c.place_unary.result _ _ _
@@ -38,95 +35,44 @@ returns-in_ok-operand-in-Unary-clause-placed t c =
     operand.operand.dims r.dims operand.ensures.placed operand.ensures.dims dims gives)
     c.place_unary.ensures.placed c.place_unary.ensures.dims)
 
-pub returns-in_ok-second-in-Binary-Contract-default-default-clause-placed :
-    goal.returns-in_ok-second-in-Binary-Contract-default-default-clause-placed
-returns-in_ok-second-in-Binary-Contract-default-default-clause-placed t c =
-    let arm = c.in-Binary-Contract-default-default in
-    let left = c.in_ok-first-in-Binary-Contract-default-default in
-    let right = c.in_ok-second-in-Binary-Contract-default-default in
-    let node : binary (contract arm.pairs.now) (term_of arm.first.now) (term_of arm.second.now)
-    ≡ term_of c.args.expr.now =
-    ap (λ o. binary (binary_at o) (term_of arm.first.now) (term_of arm.second.now))
-    (sym arm.field-0-is) ∙ arm.ensures in
-    rw (← node)
-    (IfOk-both c.place_contraction.result _ _ _
+pub place-returns-in_ok-first-in-Binary-clause-placed :
+    goal.place-returns-in_ok-first-in-Binary-clause-placed
+place-returns-in_ok-first-in-Binary-clause-placed t c =
+    let arm = c.in-Binary in
+    let both = c.in_ok-first-in-Binary in
+    rw (← arm.ensures)
+    (IfOk-both c.place_binary.result _ _ _
     (λ r gives dims.
-    gives-contraction (tensors_in c.args.tensors) (term_of arm.first.now)
-    (term_of arm.second.now) arm.pairs.now left.first.placed right.second.placed r.placed
-    left.first.dims right.second.dims r.dims left.ensures.placed right.ensures.placed
-    left.ensures.dims right.ensures.dims dims gives)
-    c.place_contraction.ensures.placed c.place_contraction.ensures.dims)
+    gives-binary (tensors_in c.args.tensors) (term_of arm.first.now) (term_of arm.second.now)
+    (binary_at arm.operation) both.first.placed both.second.placed r.placed both.first.dims
+    both.second.dims r.dims both.ensures.first both.ensures.second both.ensures.first_dims
+    both.ensures.second_dims dims gives)
+    c.place_binary.ensures.placed c.place_binary.ensures.dims)
 
-pub returns-in_ok-kernel-in-Binary-Convolve-default-default-clause-placed :
-    goal.returns-in_ok-kernel-in-Binary-Convolve-default-default-clause-placed
-returns-in_ok-kernel-in-Binary-Convolve-default-default-clause-placed t c =
-    let arm = c.in-Binary-Convolve-default-default in
-    let left = c.in_ok-operand-in-Binary-Convolve-default-default in
-    let right = c.in_ok-kernel-in-Binary-Convolve-default-default in
-    let node : binary (convolve arm.axes.now) (term_of arm.operand.now) (term_of arm.kernel.now)
-    ≡ term_of c.args.expr.now =
-    ap (λ o. binary (binary_at o) (term_of arm.operand.now) (term_of arm.kernel.now))
-    (sym arm.field-0-is) ∙ arm.ensures in
-    rw (← node)
-    (IfOk-both c.place_convolution.result _ _ _
-    (λ r gives dims.
-    gives-convolution (tensors_in c.args.tensors) (term_of arm.operand.now)
-    (term_of arm.kernel.now) arm.axes.now left.operand.placed right.kernel.placed r.placed
-    left.operand.dims right.kernel.dims r.dims left.ensures.placed right.ensures.placed
-    left.ensures.dims right.ensures.dims dims gives)
-    c.place_convolution.ensures.placed c.place_convolution.ensures.dims)
-
-pub returns-in_ok-second-in-Binary-Concat-default-default-clause-placed :
-    goal.returns-in_ok-second-in-Binary-Concat-default-default-clause-placed
-returns-in_ok-second-in-Binary-Concat-default-default-clause-placed t c =
-    let arm = c.in-Binary-Concat-default-default in
-    let left = c.in_ok-first-in-Binary-Concat-default-default in
-    let right = c.in_ok-second-in-Binary-Concat-default-default in
-    let node : binary (concat arm.axis) (term_of arm.first.now) (term_of arm.second.now)
-    ≡ term_of c.args.expr.now =
-    ap (λ o. binary (binary_at o) (term_of arm.first.now) (term_of arm.second.now))
-    (sym arm.field-0-is) ∙ arm.ensures in
-    rw (← node)
-    (IfOk-both c.place_concatenation.result _ _ _
-    (λ r gives dims.
-    gives-concatenation (tensors_in c.args.tensors) (term_of arm.first.now)
-    (term_of arm.second.now) arm.axis left.first.placed right.second.placed r.placed
-    left.first.dims right.second.dims r.dims left.ensures.placed right.ensures.placed
-    left.ensures.dims right.ensures.dims dims gives)
-    c.place_concatenation.ensures.placed c.place_concatenation.ensures.dims)
-
-pub place_concatenation-requires-clause-dims : goal.place_concatenation-requires-clause-dims
-place_concatenation-requires-clause-dims t c =
-    let arm = c.in-Binary-Concat-default-default in
-    let left = c.in_ok-first-in-Binary-Concat-default-default in
-    let right = c.in_ok-second-in-Binary-Concat-default-default in
-    let node : binary (concat arm.axis) (term_of arm.first.now) (term_of arm.second.now)
-    ≡ term_of c.args.expr.now =
-    ap (λ o. binary (binary_at o) (term_of arm.first.now) (term_of arm.second.now))
-    (sym arm.field-0-is) ∙ arm.ensures in
-    let has = subst (λ e. IsOk (dims_of highest_rank e (tensors_in c.args.tensors))) (sym node) c.requires.dims in
+pub place-place_binary-requires-clause-dims : goal.place-place_binary-requires-clause-dims
+place-place_binary-requires-clause-dims t c =
+    let arm = c.in-Binary in
+    let both = c.in_ok-first-in-Binary in
+    let has = subst (λ e. IsOk (dims_of highest_rank e (tensors_in c.args.tensors)))
+    (sym arm.ensures) c.requires.dims in
     subst (λ r. IsOk r)
-    (with_two-over (concatenated_dims highest_rank arm.axis)
+    (with_two-over (binary_dims highest_rank (binary_at arm.operation))
     (dims_of highest_rank (term_of arm.first.now) (tensors_in c.args.tensors))
     (dims_of highest_rank (term_of arm.second.now) (tensors_in c.args.tensors))
-    left.first.dims right.second.dims left.ensures.dims right.ensures.dims has) has
+    both.first.dims both.second.dims both.ensures.first_dims both.ensures.second_dims has) has
 
-pub returns-in_ok-second-in-Binary-Concat-default-default-clause-dims :
-    goal.returns-in_ok-second-in-Binary-Concat-default-default-clause-dims
-returns-in_ok-second-in-Binary-Concat-default-default-clause-dims t c =
-    let arm = c.in-Binary-Concat-default-default in
-    let left = c.in_ok-first-in-Binary-Concat-default-default in
-    let right = c.in_ok-second-in-Binary-Concat-default-default in
-    let node : binary (concat arm.axis) (term_of arm.first.now) (term_of arm.second.now)
-    ≡ term_of c.args.expr.now =
-    ap (λ o. binary (binary_at o) (term_of arm.first.now) (term_of arm.second.now))
-    (sym arm.field-0-is) ∙ arm.ensures in
-    let has = subst (λ e. IsOk (dims_of highest_rank e (tensors_in c.args.tensors))) (sym node) c.requires.dims in
-    let own = with_two-over (concatenated_dims highest_rank arm.axis)
+pub place-returns-in_ok-first-in-Binary-clause-dims :
+    goal.place-returns-in_ok-first-in-Binary-clause-dims
+place-returns-in_ok-first-in-Binary-clause-dims t c =
+    let arm = c.in-Binary in
+    let both = c.in_ok-first-in-Binary in
+    let has = subst (λ e. IsOk (dims_of highest_rank e (tensors_in c.args.tensors)))
+    (sym arm.ensures) c.requires.dims in
+    let own = with_two-over (binary_dims highest_rank (binary_at arm.operation))
     (dims_of highest_rank (term_of arm.first.now) (tensors_in c.args.tensors))
     (dims_of highest_rank (term_of arm.second.now) (tensors_in c.args.tensors))
-    left.first.dims right.second.dims left.ensures.dims right.ensures.dims has in
-    rw (← node)
-    (IfOk-both c.place_concatenation.result _ _ _
+    both.first.dims both.second.dims both.ensures.first_dims both.ensures.second_dims has in
+    rw (← arm.ensures)
+    (IfOk-both c.place_binary.result _ _ _
     (λ r gives dims. sym (ap (λ s. result_unwrap_or s []) (own ∙ dims)))
-    c.place_concatenation.ensures.placed c.place_concatenation.ensures.dims)
+    c.place_binary.ensures.placed c.place_binary.ensures.dims)

@@ -1,10 +1,8 @@
-use Rattle.std.proofs.Common.{◌≡◌, ℕ, ◌+◌, ◌<◌, ℤ, ◌+ℤ◌, ◌*ℤ◌, List, slice_index, map}
-use Rattle.std.proofs.Common.{to_z, of_z, ap, ◌∙◌, arith}
+use Rattle.std.proofs.Common.{◌≡◌, ℕ, ◌+◌, ℤ, slice_index, map}
+use Rattle.std.proofs.Common.{to_z, ap, ◌∙◌, arith}
 use Rattle.std.specs.Int.{w64}
-use Rattle.tensor_shape.specs.Wrap.{wrap}
-use Rattle.tensor_ops.specs.Panels.{AreLanes}
 use Rattle.tensor_ops.specs.Places.{value_in}
-use Rattle.tensor_ops.specs.Products.{product_of, sum_to}
+use Rattle.tensor_ops.specs.Products.{product_of}
 use Rattle.tensor_ops.proofs.LaneSums.{next_lane}
 use Rattle.tensor_ops.proofs.SimdLanes.{lanes-bits}
 use Rattle.tensor_ops.proofs.small_eight.small_eight.Goals as goal

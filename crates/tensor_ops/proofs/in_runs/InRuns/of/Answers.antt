@@ -55,7 +55,7 @@ unreachable-requires c =
       arith,
       length-axes (length ds) (firsts arm.pairs.now) known.known.first,
       length-map arm.pairs.now (λ pair. pair.0),
-      ap length c.in_ok-first-in-Binary-Contract-default-default.ensures.dims,
+      ap length c.in_ok-first-in-Binary-Contract-default-default.ensures.first_dims,
     ) in
     let bad = c.in_default-paired_axes.ensures.some.1 few in
     (cc)
@@ -64,8 +64,7 @@ pub returns-in_ok-right-in-Binary-Contract-default-default :
     goal.returns-in_ok-right-in-Binary-Contract-default-default
 returns-in_ok-right-in-Binary-Contract-default-default c =
     let arm = c.in-Binary-Contract-default-default in
-    let left = c.in_ok-first-in-Binary-Contract-default-default in
-    let right = c.in_ok-second-in-Binary-Contract-default-default in
+    let both = c.in_ok-first-in-Binary-Contract-default-default in
     let ts : List Contents = tensors_in c.args.tensors in
     let node : binary (contract arm.pairs.now) (term_of arm.first.now) (term_of arm.second.now)
     ≡ term_of c.args.expr.now =
@@ -74,13 +73,13 @@ returns-in_ok-right-in-Binary-Contract-default-default c =
     let has_dims = subst (λ t. IsOk (dims_of highest_rank t ts)) (sym node) c.requires.dims in
     rw (← node)
     (gives-contracted ts (term_of arm.first.now) (term_of arm.second.now) arm.pairs.now
-    left.first.dims right.second.dims
+    both.first.dims both.second.dims
     c.as_slice-in-Binary-Contract-default-default.result.now
     c.as_slice-in-Binary-Contract-default-default-2.result.now
-    left.first.placed right.second.placed
+    both.first.placed both.second.placed
     c.in_ok-left-in-Binary-Contract-default-default.left
     c.in_ok-right-in-Binary-Contract-default-default.right
-    has_dims left.ensures.placed left.ensures.dims right.ensures.placed right.ensures.dims
+    has_dims both.ensures.first both.ensures.first_dims both.ensures.second both.ensures.second_dims
     (c.as_slice-in-Binary-Contract-default-default.ensures.value ∙ c.in-Some.ensures.first)
     c.in_ok-left-in-Binary-Contract-default-default.ensures
     (c.as_slice-in-Binary-Contract-default-default-2.ensures.value ∙ c.in-Some.ensures.second)

@@ -9,8 +9,7 @@ use Rattle.tensor_ops.specs.Tensors.{tensors_in}
 use Rattle.tensor_ops.specs.Term.{unary, reduce, binary, contract, convolve}
 use Rattle.tensor_ops.specs.Tree.{term_of, unary_at, binary_at}
 use Rattle.tensor_ops.specs.Value.{value}
-use Rattle.tensor_ops.proofs.Convolved.{agree-convolution}
-use Rattle.tensor_ops.proofs.Worked.{values-other, agree-term, agree-contraction}
+use Rattle.tensor_ops.proofs.Worked.{values-other, agree-term, agree-terms}
 use Rattle.tensor_ops.proofs.root.Root.of.Goals as goal
 
 pub returns-in_ok-reduction-in-Unary-Reduce-default-clause-values :
@@ -36,8 +35,7 @@ pub returns-in_ok-contraction-in-Binary-Contract-default-default-clause-values :
     goal.returns-in_ok-contraction-in-Binary-Contract-default-default-clause-values
 returns-in_ok-contraction-in-Binary-Contract-default-default-clause-values c =
     let arm = c.in-Binary-Contract-default-default in
-    let left = c.in_ok-first-in-Binary-Contract-default-default in
-    let right = c.in_ok-second-in-Binary-Contract-default-default in
+    let both = c.in_ok-first-in-Binary-Contract-default-default in
     let made = c.in_ok-contraction-in-Binary-Contract-default-default in
     let node : binary (contract arm.pairs.now) (term_of arm.first.now) (term_of arm.second.now)
     ≡ term_of c.args.expr.now =
@@ -46,22 +44,21 @@ returns-in_ok-contraction-in-Binary-Contract-default-default-clause-values c =
     rw (← node)
     (values-other (contraction_count made.contraction)
     (contraction_value made.contraction) made.dims
-    (contracted arm.pairs.now left.first.dims right.second.dims
-    (meaning_at left.first.placed left.first.dims)
-    (meaning_at right.second.placed right.second.dims))
+    (contracted arm.pairs.now both.first.dims both.second.dims
+    (meaning_at both.first.placed both.first.dims)
+    (meaning_at both.second.placed both.second.dims))
     (value (binary (contract arm.pairs.now) (term_of arm.first.now)
     (term_of arm.second.now)) (tensors_in c.args.tensors)) made.ensures.values
-    (agree-contraction (tensors_in c.args.tensors) (term_of arm.first.now)
-    (term_of arm.second.now) arm.pairs.now left.first.placed right.second.placed
-    left.first.dims right.second.dims made.dims left.ensures.placed right.ensures.placed
-    left.ensures.dims right.ensures.dims made.ensures.dims))
+    (agree-terms (tensors_in c.args.tensors) (term_of arm.first.now) (term_of arm.second.now)
+    (contract arm.pairs.now) both.first.placed both.second.placed both.first.dims
+    both.second.dims made.dims both.ensures.first both.ensures.second
+    both.ensures.first_dims both.ensures.second_dims made.ensures.dims))
 
 pub returns-in_ok-contraction-in-Binary-Convolve-default-default-clause-values :
     goal.returns-in_ok-contraction-in-Binary-Convolve-default-default-clause-values
 returns-in_ok-contraction-in-Binary-Convolve-default-default-clause-values c =
     let arm = c.in-Binary-Convolve-default-default in
-    let left = c.in_ok-operand-in-Binary-Convolve-default-default in
-    let right = c.in_ok-kernel-in-Binary-Convolve-default-default in
+    let both = c.in_ok-operand-in-Binary-Convolve-default-default in
     let made = c.in_ok-contraction-in-Binary-Convolve-default-default in
     let node : binary (convolve arm.axes.now) (term_of arm.operand.now) (term_of arm.kernel.now)
     ≡ term_of c.args.expr.now =
@@ -70,12 +67,12 @@ returns-in_ok-contraction-in-Binary-Convolve-default-default-clause-values c =
     rw (← node)
     (values-other (contraction_count made.contraction) (contraction_value made.contraction)
     made.dims
-    (convolved arm.axes.now right.kernel.dims
-    (meaning_at left.operand.placed left.operand.dims)
-    (meaning_at right.kernel.placed right.kernel.dims))
+    (convolved arm.axes.now both.kernel.dims
+    (meaning_at both.operand.placed both.operand.dims)
+    (meaning_at both.kernel.placed both.kernel.dims))
     (value (binary (convolve arm.axes.now) (term_of arm.operand.now)
     (term_of arm.kernel.now)) (tensors_in c.args.tensors)) made.ensures.values
-    (agree-convolution (tensors_in c.args.tensors) (term_of arm.operand.now)
-    (term_of arm.kernel.now) arm.axes.now left.operand.placed right.kernel.placed
-    left.operand.dims right.kernel.dims made.dims left.ensures.placed right.ensures.placed
-    left.ensures.dims right.ensures.dims made.ensures.dims))
+    (agree-terms (tensors_in c.args.tensors) (term_of arm.operand.now) (term_of arm.kernel.now)
+    (convolve arm.axes.now) both.operand.placed both.kernel.placed both.operand.dims
+    both.kernel.dims made.dims both.ensures.first both.ensures.second
+    both.ensures.first_dims both.ensures.second_dims made.ensures.dims))

@@ -1,6 +1,6 @@
 use Rattle.std.proofs.lemmas.Result.{IfOk-weaker}
 use Rattle.tensor_ops.proofs.Settled.{gives-followed}
-use Rattle.tensor_ops.proofs.settling.settled_over.Goals as goal
+use Rattle.tensor_ops.proofs.placed.settling.settled_over.Goals as goal
 
 pub returns : goal.returns
 returns c =

@@ -34,90 +34,92 @@ pub(crate) fn settled_over<'a>(
     if dims.size() == 0 {
         return Ok(placed);
     }
-    settled(alloc, placed)
+    placed.settled(alloc)
 }
 
-/// A placed expression with its walks at what is read by places. One over another walk is left
-/// where the two can't be one.
-#[cycle(settled)]
-fn settled<'a>(alloc: Global, placed: Placed<'a>) -> Result<Placed<'a>, AllocError>
-    requires sound { IsSound placed }
-    requires some { 0 < count_of placed }
-    requires few { count_of placed ≤ most_elements }
-    ensures { IfOk result (λ r. Follows r (count_of placed.entry) (meaning placed.entry)) }
-{
-    match placed {
-        Placed::Unary(operation, operand) => {
-            let operand = settled(alloc, Box::into_inner(operand))?;
-            each(alloc, operation, operand)
-        }
-        Placed::Binary(operation, turned, first, second) => {
-            let first = settled(alloc, Box::into_inner(first))?;
-            let second = settled(alloc, Box::into_inner(second))?;
-            both(alloc, operation, turned, first, second)
-        }
-        Placed::Select(order, first, second, third) => {
-            let first = settled(alloc, Box::into_inner(first))?;
-            let second = settled(alloc, Box::into_inner(second))?;
-            let third = settled(alloc, Box::into_inner(third))?;
-            all(alloc, order, first, second, third)
-        }
-        Placed::Walk(start, axes, operand) => {
-            led(alloc, Box::into_inner(operand), Route { start, axes })
-        }
-        Placed::Spliced(turns, first, second) => {
-            let first = settled(alloc, Box::into_inner(first))?;
-            let second = settled(alloc, Box::into_inner(second))?;
-            in_turns(alloc, turns, first, second)
-        }
-        list => Ok(list),
-    }
-}
-
-/// A placed expression at the places of a route, which goes down to what is read by places.
-#[cycle(settled)]
-fn led<'a>(alloc: Global, placed: Placed<'a>, route: Route) -> Result<Placed<'a>, AllocError>
-    requires sound { IsSound placed }
-    requires few { count_of placed ≤ most_elements }
-    requires some { 0 < walk_size route.axes.items }
-    requires short { walk_size route.axes.items ≤ most_elements }
-    requires inside { (p : ℕ) → p < walk_size route.axes.items
-        → reached route.start route.axes.items p < count_of placed }
-    ensures { IfOk result (λ r. Follows r (walk_size route.axes.items)
-        (meaning_along placed.entry route.start route.axes.items)) }
-{
-    match placed {
-        Placed::Same(value, _) => Ok(Placed::Same(value, places_along(&route.axes))),
-        Placed::Unary(operation, operand) => {
-            let operand = led(alloc, Box::into_inner(operand), route)?;
-            each(alloc, operation, operand)
-        }
-        Placed::Binary(operation, turned, first, second) => {
-            let first = led(alloc, Box::into_inner(first), route.copied(alloc)?)?;
-            let second = led(alloc, Box::into_inner(second), route)?;
-            both(alloc, operation, turned, first, second)
-        }
-        Placed::Select(order, first, second, third) => {
-            let first = led(alloc, Box::into_inner(first), route.copied(alloc)?)?;
-            let second = led(alloc, Box::into_inner(second), route.copied(alloc)?)?;
-            let third = led(alloc, Box::into_inner(third), route)?;
-            all(alloc, order, first, second, third)
-        }
-        Placed::Walk(start, axes, operand) => {
-            if let Some(joint) = joined(alloc, &route, start, &axes)? {
-                return led(alloc, Box::into_inner(operand), joint);
+impl<'a> Placed<'a> {
+    /// The same with its walks at what is read by places. One over another walk is left where the
+    /// two can't be one.
+    #[cycle(settled)]
+    fn settled(self, alloc: Global) -> Result<Placed<'a>, AllocError>
+        requires sound { IsSound self }
+        requires some { 0 < count_of self }
+        requires few { count_of self ≤ most_elements }
+        ensures { IfOk result (λ r. Follows r (count_of self.entry) (meaning self.entry)) }
+    {
+        match self {
+            Placed::Unary(operation, operand) => {
+                let operand = Box::into_inner(operand).settled(alloc)?;
+                each(alloc, operation, operand)
             }
-            let operand = settled(alloc, Box::into_inner(operand))?;
-            let inner = walk_over(alloc, operand, Route { start, axes })?;
-            walk_over(alloc, inner, route)
+            Placed::Binary(operation, turned, first, second) => {
+                let first = Box::into_inner(first).settled(alloc)?;
+                let second = Box::into_inner(second).settled(alloc)?;
+                both(alloc, operation, turned, first, second)
+            }
+            Placed::Select(order, first, second, third) => {
+                let first = Box::into_inner(first).settled(alloc)?;
+                let second = Box::into_inner(second).settled(alloc)?;
+                let third = Box::into_inner(third).settled(alloc)?;
+                all(alloc, order, first, second, third)
+            }
+            Placed::Walk(start, axes, operand) => {
+                Box::into_inner(operand).led(alloc, Route { start, axes })
+            }
+            Placed::Spliced(turns, first, second) => {
+                let first = Box::into_inner(first).settled(alloc)?;
+                let second = Box::into_inner(second).settled(alloc)?;
+                in_turns(alloc, turns, first, second)
+            }
+            list => Ok(list),
         }
-        Placed::Spliced(turns, first, second) => {
-            let first = settled(alloc, Box::into_inner(first))?;
-            let second = settled(alloc, Box::into_inner(second))?;
-            let splice = in_turns(alloc, turns, first, second)?;
-            walk_over(alloc, splice, route)
+    }
+
+    /// The same at the places of a route, which goes down to what is read by places.
+    #[cycle(settled)]
+    fn led(self, alloc: Global, route: Route) -> Result<Placed<'a>, AllocError>
+        requires sound { IsSound self }
+        requires few { count_of self ≤ most_elements }
+        requires some { 0 < walk_size route.axes.items }
+        requires short { walk_size route.axes.items ≤ most_elements }
+        requires inside { (p : ℕ) → p < walk_size route.axes.items
+            → reached route.start route.axes.items p < count_of self }
+        ensures { IfOk result (λ r. Follows r (walk_size route.axes.items)
+            (meaning_along self.entry route.start route.axes.items)) }
+    {
+        match self {
+            Placed::Same(value, _) => Ok(Placed::Same(value, places_along(&route.axes))),
+            Placed::Unary(operation, operand) => {
+                let operand = Box::into_inner(operand).led(alloc, route)?;
+                each(alloc, operation, operand)
+            }
+            Placed::Binary(operation, turned, first, second) => {
+                let first = Box::into_inner(first).led(alloc, route.copied(alloc)?)?;
+                let second = Box::into_inner(second).led(alloc, route)?;
+                both(alloc, operation, turned, first, second)
+            }
+            Placed::Select(order, first, second, third) => {
+                let first = Box::into_inner(first).led(alloc, route.copied(alloc)?)?;
+                let second = Box::into_inner(second).led(alloc, route.copied(alloc)?)?;
+                let third = Box::into_inner(third).led(alloc, route)?;
+                all(alloc, order, first, second, third)
+            }
+            Placed::Walk(start, axes, operand) => {
+                if let Some(joint) = joined(alloc, &route, start, &axes)? {
+                    return Box::into_inner(operand).led(alloc, joint);
+                }
+                let operand = Box::into_inner(operand).settled(alloc)?;
+                let inner = walk_over(alloc, operand, Route { start, axes })?;
+                walk_over(alloc, inner, route)
+            }
+            Placed::Spliced(turns, first, second) => {
+                let first = Box::into_inner(first).settled(alloc)?;
+                let second = Box::into_inner(second).settled(alloc)?;
+                let splice = in_turns(alloc, turns, first, second)?;
+                walk_over(alloc, splice, route)
+            }
+            list => walk_over(alloc, list, route),
         }
-        list => walk_over(alloc, list, route),
     }
 }
 

@@ -4,7 +4,7 @@ use Rattle.tensor_ops.specs.Meaning.{meaning, count_of}
 use Rattle.tensor_ops.specs.Placing.{meaning_at}
 use Rattle.tensor_ops.specs.declared.placed.Placed.TheVariants.{Lent, Kept}
 use Rattle.tensor_ops.proofs.Worked.{values-placed, values-list, values-worked}
-use Rattle.tensor_ops.proofs.kernels.all_values.Goals as goal
+use Rattle.tensor_ops.proofs.placed.Placed.into_values.Goals as goal
 
 pub returns-in-Lent : goal.returns-in-Lent
 returns-in-Lent c =
@@ -33,6 +33,6 @@ returns-in_ok-values-in_default c =
     let settled = c.in_ok-settled-in_default.settled in
     values-worked (meaning settled) c.in_ok-values-in_default.values.items
     (count_of settled) (c.size.result - 0) c.args.dims.now
-    (meaning_at c.args.placed c.args.dims.now) (values-placed settled c.args.dims.now
-    (meaning_at c.args.placed c.args.dims.now) c.in_ok-settled-in_default.ensures)
+    (meaning_at c.args.self c.args.dims.now) (values-placed settled c.args.dims.now
+    (meaning_at c.args.self c.args.dims.now) c.in_ok-settled-in_default.ensures)
     c.in_ok-values-in_default.ensures (omega (arith, c.size.ensures.value))

@@ -11,7 +11,7 @@ use Rattle.tensor_ops.proofs.Settled.{joined-takes, some-below, follows-spliced,
 use Rattle.tensor_ops.proofs.Settled.{CanSettle, CanLead, settle-beside, lead-beside, lead-copied, settle-walked, lead-joined}
 use Rattle.tensor_ops.proofs.Settled.{follows-same, follows-copied, follows-beside, follows-joined}
 use Rattle.tensor_ops.proofs.Settled.{each-follows, both-follow, all-follow, first-few, second-few}
-use Rattle.tensor_ops.proofs.settling.+settled.Goals as goal
+use Rattle.tensor_ops.proofs.placed.Placed.+settled.Goals as goal
 
 -- settled: what is asked of each operand
 pub settled-settled-requires : goal.settled-settled-requires
@@ -227,7 +227,7 @@ pub led-led-requires : goal.led-led-requires
 led-led-requires t c =
     let start = c.args.route.start in
     let axes = c.args.route.axes.items in
-    let can : CanLead c.args.placed start axes =
+    let can : CanLead c.args.self start axes =
     (c.requires.sound, (c.requires.few, (c.requires.some, (c.requires.short, c.requires.inside)))) in
     let same : c.into_inner.result ≡ c.in-Unary.operand.value = c.into_inner.ensures in (
       omega (arith, c.decreases, ap depth_of c.in-Unary.is, ap depth_of same),
@@ -238,7 +238,7 @@ pub led-led-requires-in-Binary : goal.led-led-requires-in-Binary
 led-led-requires-in-Binary t c =
     let start = c.args.route.start in
     let axes = c.args.route.axes.items in
-    let whole : CanLead c.args.placed start axes =
+    let whole : CanLead c.args.self start axes =
     (c.requires.sound, (c.requires.few, (c.requires.some, (c.requires.short, c.requires.inside)))) in
     let can = rw c.in-Binary.is at whole in
     let same : c.into_inner-in-Binary.result ≡ c.in-Binary.first.value = c.into_inner-in-Binary.ensures in
@@ -254,7 +254,7 @@ led-led-requires-in-Binary-2 t c =
     let axes = c.args.route.axes.items in
     let a = c.in-Binary.first.value in
     let b = c.in-Binary.second.value in
-    let whole : CanLead c.args.placed start axes =
+    let whole : CanLead c.args.self start axes =
     (c.requires.sound, (c.requires.few, (c.requires.some, (c.requires.short, c.requires.inside)))) in
     let can = rw c.in-Binary.is at whole in
     let same : c.into_inner-in-Binary-2.result ≡ b = c.into_inner-in-Binary-2.ensures in (
@@ -266,7 +266,7 @@ pub led-led-requires-in-Select : goal.led-led-requires-in-Select
 led-led-requires-in-Select t c =
     let start = c.args.route.start in
     let axes = c.args.route.axes.items in
-    let whole : CanLead c.args.placed start axes =
+    let whole : CanLead c.args.self start axes =
     (c.requires.sound, (c.requires.few, (c.requires.some, (c.requires.short, c.requires.inside)))) in
     let can = rw c.in-Select.is at whole in
     let same : c.into_inner-in-Select.result ≡ c.in-Select.first.value = c.into_inner-in-Select.ensures in
@@ -282,7 +282,7 @@ led-led-requires-in-Select-2 t c =
     let axes = c.args.route.axes.items in
     let a = c.in-Select.first.value in
     let b = c.in-Select.second.value in
-    let whole : CanLead c.args.placed start axes =
+    let whole : CanLead c.args.self start axes =
     (c.requires.sound, (c.requires.few, (c.requires.some, (c.requires.short, c.requires.inside)))) in
     let can = rw c.in-Select.is at whole in
     let same : c.into_inner-in-Select-2.result ≡ b = c.into_inner-in-Select-2.ensures in
@@ -298,7 +298,7 @@ led-led-requires-in-Select-3 t c =
     let axes = c.args.route.axes.items in
     let a = c.in-Select.first.value in
     let d = c.in-Select.third.value in
-    let whole : CanLead c.args.placed start axes =
+    let whole : CanLead c.args.self start axes =
     (c.requires.sound, (c.requires.few, (c.requires.some, (c.requires.short, c.requires.inside)))) in
     let can = rw c.in-Select.is at whole in
     let same : c.into_inner-in-Select-3.result ≡ d = c.into_inner-in-Select-3.ensures in (

@@ -1,8 +1,8 @@
 use Rattle.tensor_ops.specs.Meaning.{depth_of}
-use Rattle.tensor_ops.proofs.settling.+settled.Given as goal
+use Rattle.tensor_ops.proofs.placed.Placed.+settled.Given as goal
 
 abbrev pub decreases-settled : goal.decreases-settled
-decreases-settled l = depth_of l.placed
+decreases-settled l = depth_of l.self
 
 abbrev pub decreases-led : goal.decreases-led
-decreases-led l = depth_of l.placed
+decreases-led l = depth_of l.self
