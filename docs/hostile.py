@@ -1,5 +1,5 @@
-"""What docs/refusals, docs/streams and docs/texts share: the program, some requests, and the
-library that refuses memory and threads."""
+"""What docs/refusals, docs/starts, docs/streams and docs/texts share: the program, some requests,
+and the library that counts and refuses memory and threads."""
 
 import os
 import signal

@@ -68,7 +68,8 @@ pub(crate) fn take<R: Abort>(
     }
 }
 
-fn prewait<R: Abort>(rt: &R, count: &EventCount, seat: &mut Seat, number: u32)
+/// A seat of this number, which runs and owes nobody, becomes a pre-waiter.
+pub(crate) fn prewait<R: Abort>(rt: &R, count: &EventCount, seat: &mut Seat, number: u32)
     requires of { IsSeatOf count.now seat.old }
     requires waiter { number < (sizes_of count.now).waiters }
     ensures of { IsSeatOf count.now seat.new }

@@ -6,7 +6,7 @@ use std::test::Fail;
 
 /// A call on a row, and what it answers.
 #[derive(Clone, Copy)]
-enum Call {
+pub(crate) enum Call {
     PushFront(u32, Result<(), u32>),
     PushBack(u32, Result<(), u32>),
     PopFront(Option<u32>),

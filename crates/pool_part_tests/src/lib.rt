@@ -36,6 +36,8 @@ mod slot_rows;
 #[cfg(test)]
 mod small_worlds;
 #[cfg(test)]
+mod steps;
+#[cfg(test)]
 mod tables;
 #[cfg(test)]
 mod threads;

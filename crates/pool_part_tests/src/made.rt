@@ -35,11 +35,10 @@ fn the_most_waiters(rt: HostRuntime) {
         last: Some(16_382),
         word: 0x3FFF,
     };
-    assert_eq!(rt; made_and_closed(rt.alloc(), 16_382, 1), Ok(wanted));
-    let refused = made_and_closed(rt.alloc(), 16_383, 1);
-    assert_eq!(rt; refused, Err(CountFault::TooManyWaiters));
-    assert_eq!(rt; CountFault::TooManyWaiters as u8, 1);
-    assert_eq!(rt; CountFault::NoMemory as u8, 2);
+    let found = [16_382, 16_383].map(|waiters| made_and_closed(rt.alloc(), waiters, 1));
+    assert_eq!(rt; found, [Ok(wanted), Err(CountFault::TooManyWaiters)]);
+    let codes = [CountFault::TooManyWaiters as u8, CountFault::NoMemory as u8];
+    assert_eq!(rt; codes, [1, 2]);
 }
 
 #[test]

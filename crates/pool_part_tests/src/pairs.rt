@@ -42,14 +42,16 @@ fn consumes_signals<P: WaitPoint<Global>, R: Wait + Abort>(
     let (point, mut waiter, mut notifier) = pair::<P>(alloc)?;
     point.enter(rt, &mut waiter);
     point.wake_one(rt, &mut notifier);
-    assert_eq!(rt; point.sleep(rt, &mut waiter), Committed::Consumed);
+    let after_one = point.sleep(rt, &mut waiter);
     point.enter(rt, &mut waiter);
     point.wake_all(rt, &mut notifier);
-    assert_eq!(rt; point.sleep(rt, &mut waiter), Committed::Consumed);
+    let after_all = point.sleep(rt, &mut waiter);
     let mut seats = Vec::new(alloc);
     seats.push(waiter)?;
     seats.push(notifier)?;
-    assert_eq!(rt; point.shut(seats), 0x3FFF);
+    let word = point.shut(seats);
+    assert_eq!(rt; [after_one, after_all], [Committed::Consumed; 2]);
+    assert_eq!(rt; word, 0x3FFF);
     Ok(())
 }
 

@@ -6,17 +6,13 @@ use steal_walk::{Partition, PartitionFault};
 #[test]
 fn takes_rows_of_the_pool_alone(rt: HostRuntime) -> Result<(), Fail> {
     // The first fault is told, also where there are both.
-    for (start, limit, fault) in [
-        (0, 0, PartitionFault::Empty),
-        (2, 5, PartitionFault::OutOfPool),
-        (5, 5, PartitionFault::Empty),
-    ] {
-        assert_eq!(rt;
-            Partition::new(start, limit, 4).err(),
-            Some(fault),
-            "{start} to {limit}"
-        );
-    }
+    let faults = [
+        Partition::new(0, 0, 4).err(),
+        Partition::new(2, 5, 4).err(),
+        Partition::new(5, 5, 4).err(),
+    ];
+    let (empty, out_of_pool) = (PartitionFault::Empty, PartitionFault::OutOfPool);
+    assert_eq!(rt; faults, [empty, out_of_pool, empty].map(Some));
     let partition = Partition::new(2, 4, 4)?;
     assert_eq!(rt; (partition.start(), partition.limit()), (2, 4));
     Ok(())

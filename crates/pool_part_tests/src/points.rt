@@ -30,18 +30,16 @@ fn open_and_shut<P: WaitPoint<Global>>(
 
 #[test]
 fn a_point_is_opened_and_shut(rt: HostRuntime) {
-    assert_eq!(rt;
+    let shut = [
         open_and_shut::<EventCount>(rt.alloc(), 2, 3),
-        Ok((5, 0x3FFF))
-    );
-    let refused = open_and_shut::<EventCount>(rt.alloc(), 16_383, 1);
-    assert_eq!(rt; refused, Err(CountFault::TooManyWaiters));
-    assert_eq!(rt;
         open_and_shut::<LockedCount>(rt.alloc(), 2, 3),
-        Ok((5, 0x3FFF))
-    );
-    let refused = open_and_shut::<LockedCount>(rt.alloc(), 16_383, 1);
-    assert_eq!(rt; refused, Err(CountFault::TooManyWaiters));
+    ];
+    assert_eq!(rt; shut, [Ok((5, 0x3FFF)); 2]);
+    let refused = [
+        open_and_shut::<EventCount>(rt.alloc(), 16_383, 1),
+        open_and_shut::<LockedCount>(rt.alloc(), 16_383, 1),
+    ];
+    assert_eq!(rt; refused, [Err(CountFault::TooManyWaiters); 2]);
 }
 
 // Takes an item, if there is one.

@@ -13,9 +13,9 @@ fn one_job_at_the_back(rt: HostRuntime) -> Result<(), Fail> {
         rows.row_length(&rt, outsider, 0),
         rows.row_length(&rt, outsider, 1),
     ];
-    assert_eq!(rt; (put, lengths), (Ok(()), [0, 1]));
     let left = rows.drain_all(seats);
-    assert_eq!(rt; left.as_slice(), [7].as_slice());
+    let found = (put, lengths, left.as_slice());
+    assert_eq!(rt; found, (Ok(()), [0, 1], [7].as_slice()));
     Ok(())
 }
 
@@ -32,8 +32,8 @@ fn an_owner_at_the_front(rt: HostRuntime) -> Result<(), Fail> {
         rows.put_front(&rt, owner, 40),
     ];
     let last = rows.take_front(&rt, owner);
-    assert_eq!(rt; (first, puts, last), (None, [Ok(()); 4], Some(40)));
     let left = rows.drain_all(seats);
+    assert_eq!(rt; (first, puts, last), (None, [Ok(()); 4], Some(40)));
     assert_eq!(rt; left.as_slice(), [20, 10, 30].as_slice());
     Ok(())
 }
@@ -51,10 +51,10 @@ fn a_thief_at_the_back(rt: HostRuntime) -> Result<(), Fail> {
     let takes = [rows.take_back(&rt, thief, 1), rows.take_back(&rt, thief, 0)];
     let length = rows.row_length(&rt, thief, 1);
     let put = rows.put_back(&rt, thief, 0, 50);
-    assert_eq!(rt; (puts, takes), ([Ok(()); 2], [Some(30), None]));
-    assert_eq!(rt; (length, put), (1, Ok(())));
     let left = rows.drain_all(seats);
-    assert_eq!(rt; left.as_slice(), [50, 20].as_slice());
+    assert_eq!(rt; (puts, takes), ([Ok(()); 2], [Some(30), None]));
+    let found = (length, put, left.as_slice());
+    assert_eq!(rt; found, (1, Ok(()), [50, 20].as_slice()));
     Ok(())
 }
 
@@ -76,13 +76,18 @@ fn full_row_gives_the_job_back(rt: HostRuntime) -> Result<(), Fail> {
 
 #[test]
 fn the_most_rows(rt: HostRuntime) -> Result<(), Fail> {
-    assert_eq!(rt; RowsFault::TooManyRows as u8, 1);
-    assert_eq!(rt; RowsFault::NoMemory as u8, 2);
-    let too_many = LockedRows::<u8>::open(rt.alloc(), 257, 1);
-    assert_eq!(rt; too_many.err(), Some(RowsFault::TooManyRows));
+    let too_many = LockedRows::<u8>::open(rt.alloc(), 257, 1).err();
     let (_rows, seats) = LockedRows::<u8>::open(rt.alloc(), 256, 1)?;
-    assert_eq!(rt; seats.len(), 257);
+    let found = (too_many, seats.len());
+    assert_eq!(rt; found, (Some(RowsFault::TooManyRows), 257));
+    Ok(())
+}
+
+#[test]
+fn names_its_faults(rt: HostRuntime) -> Result<(), Fail> {
+    let codes = [RowsFault::TooManyRows as u8, RowsFault::NoMemory as u8];
     let text = format!(in rt.alloc(); "{}, {}", RowsFault::TooManyRows, RowsFault::NoMemory)?;
-    assert_eq!(rt; text.as_str(), "more than 256 rows, out of memory");
+    let wanted = ([1, 2], "more than 256 rows, out of memory");
+    assert_eq!(rt; (codes, text.as_str()), wanted);
     Ok(())
 }

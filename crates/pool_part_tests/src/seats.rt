@@ -52,10 +52,8 @@ pub(crate) fn expect_seat<R: Abort>(rt: &R, seat: &Seat, number: u32, phase: Pha
     ensures owes_none { (card_of seat.now).owing ≡ [] }
     ensures looked { IsTrue looked ↔ IsSome (looked_of seat.now) }
 {
-    assert_eq!(rt; seat.number(), number);
-    assert_eq!(rt; seat.phase(), phase, "the phase of seat {number}");
-    assert_eq!(rt; seat.looked(), looked, "whether seat {number} has looked");
-    assert!(rt; !seat.owing(), "seat {number} owes an unpark");
+    let found = (seat.number(), seat.phase(), seat.looked(), seat.owing());
+    assert_eq!(rt; found, (number, phase, looked, false));
 }
 
 // A seat that runs and owes nobody looks, and finds this word.

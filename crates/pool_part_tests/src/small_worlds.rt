@@ -191,11 +191,9 @@ fn expect_worker<R: Abort>(rt: &R, world: &World, unread: Unread, seat: u16)
 {
     let phase = world.phase(seat);
     let waits = world.pre().iter().filter(|other| **other == seat).count();
-    assert_eq!(rt; waits, usize::from(phase == Phase::Pre));
-    assert_eq!(rt;
-        places_of(world, seat),
-        usize::from(phase == Phase::Stacked)
-    );
+    let (is_pre, is_stacked) = (phase == Phase::Pre, phase == Phase::Stacked);
+    let wanted = (usize::from(is_pre), usize::from(is_stacked));
+    assert_eq!(rt; (waits, places_of(world, seat)), wanted);
     let is_busy = world.owed(u32::from(seat), 0).is_some() || is_set(&unread.announcing, seat);
     assert!(rt; !is_busy || phase == Phase::Running);
 }

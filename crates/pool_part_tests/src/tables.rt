@@ -113,15 +113,15 @@ pub(crate) fn expect_refused<R: Abort>(rt: &R, tables: &mut Tables, event: Event
 {
     let place = actor_of(event) as usize;
     assert!(rt; place < tables.seats.len() && place < tables.row_seats.len());
-    match event {
+    let is_kept = match event {
         Event::Pass { row, .. } => {
             assert!(rt; row < tables.sizes.rows);
-            let length = tables.rows.length(&mut tables.row_seats[place], row);
-            assert_ne!(rt; length, 0, "there are jobs in row {row}");
+            tables.rows.length(&mut tables.row_seats[place], row) != 0
         }
-        Event::PassFlag { .. } => assert_ne!(rt; tables.stop, 0),
-        _ => assert_ne!(rt; tables.seats[place].phase(), Phase::Running),
-    }
+        Event::PassFlag { .. } => tables.stop != 0,
+        _ => tables.seats[place].phase() != Phase::Running,
+    };
+    assert!(rt; is_kept, "{event:?} is possible");
 }
 
 /// An actor looks.
@@ -172,14 +172,31 @@ pub(crate) fn expect_shown<R: Abort>(rt: &R, tables: &mut Tables, world: &World)
     assert!(rt; last < tables.seats.len() && last < tables.row_seats.len());
     let fields = unpack(tables.count.look(&mut tables.seats[last]));
     let top = world.stack().first().copied().unwrap_or(16_383);
-    assert_eq!(rt; fields.top, top);
-    assert_eq!(rt; usize::from(fields.pre), world.pre().len());
-    assert_eq!(rt; u64::from(fields.signals), world.signals());
+    let word = (
+        fields.top,
+        usize::from(fields.pre),
+        u64::from(fields.signals),
+    );
+    assert_eq!(rt; word, (top, world.pre().len(), world.signals()));
     let seat = &mut tables.row_seats[last];
     expect_lengths(rt, &tables.rows, seat, tables.sizes.rows, world);
 }
 
-// A seat's phase, and whether it owes an unpark. A worker that has ended uses no table.
+// The phase of the seat at which an actor uses the tables. A worker that has ended uses none, and a
+// notifier always runs.
+fn phase_of(world: &World, sizes: Sizes, actor: u32) -> Phase
+    requires workers { length world.now.phases ≡ sizes.workers }
+{
+    if actor >= u32::from(sizes.workers) {
+        return Phase::Running;
+    }
+    match world.phase(actor as u16) {
+        Phase::Ended => Phase::Running,
+        phase => phase,
+    }
+}
+
+// Each seat's phase, and whether it owes an unpark.
 fn expect_phases<R: Abort>(rt: &R, seats: &Vec<Seat>, sizes: Sizes, world: &World)
     requires workers { length world.now.phases ≡ sizes.workers }
     requires actors { length world.now.owed ≡ sizes.workers + sizes.notifiers }
@@ -187,14 +204,12 @@ fn expect_phases<R: Abort>(rt: &R, seats: &Vec<Seat>, sizes: Sizes, world: &Worl
     for seat in seats {
         let number = seat.number();
         assert!(rt; number < u32::from(sizes.workers) + u32::from(sizes.notifiers));
-        assert_eq!(rt; seat.owing(), world.owed(number, 0).is_some());
-        if number < u32::from(sizes.workers) {
-            let phase = match world.phase(number as u16) {
-                Phase::Ended => Phase::Running,
-                phase => phase,
-            };
-            assert_eq!(rt; seat.phase(), phase, "the phase of seat {number}");
-        }
+        let wanted = (
+            number,
+            phase_of(world, sizes, number),
+            world.owed(number, 0).is_some(),
+        );
+        assert_eq!(rt; (number, seat.phase(), seat.owing()), wanted);
     }
 }
 

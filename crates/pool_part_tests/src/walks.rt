@@ -27,12 +27,11 @@ fn visits_the_rows_that_a_word_picks(rt: HostRuntime) -> Result<(), Fail> {
 fn counts_the_rows_that_are_left(rt: HostRuntime) -> Result<(), Fail> {
     let coprimes = Coprimes::new(rt.alloc(), 2)?;
     let mut walk = Walk::of(0, u32::MAX - 2, u32::MAX, &coprimes);
-    assert_eq!(rt; walk.size_hint(), (2, Some(2)));
-    assert_eq!(rt; walk.next(), Some(u32::MAX - 2));
-    assert_eq!(rt; walk.len(), 1);
-    assert_eq!(rt; walk.next(), Some(u32::MAX - 1));
-    assert_eq!(rt; walk.len(), 0);
-    assert_eq!(rt; walk.next(), None);
-    assert_eq!(rt; walk.next(), None);
+    let hint = walk.size_hint();
+    let visited = [(walk.next(), walk.len()), (walk.next(), walk.len())];
+    let wanted = [(Some(u32::MAX - 2), 1), (Some(u32::MAX - 1), 0)];
+    let past_the_end = [walk.next(), walk.next()];
+    assert_eq!(rt; (hint, past_the_end), ((2, Some(2)), [None; 2]));
+    assert_eq!(rt; visited, wanted);
     Ok(())
 }

@@ -7,28 +7,26 @@ use event_word::{
 
 #[test]
 fn prewait_notify_consume(rt: HostRuntime) {
-    assert_eq!(rt; after_prewait(0x3FFF), 0x7FFF);
-    assert_eq!(rt; after_notify(0x7FFF), AfterNotify::Signalled(0x1000_7FFF));
-    assert_eq!(rt;
+    let found = (
+        after_prewait(0x3FFF),
+        after_notify(0x7FFF),
         after_commit(0x1000_7FFF, 0, 0),
-        AfterCommit::Consumed(0x3FFF)
     );
+    let wanted = (
+        0x7FFF,
+        AfterNotify::Signalled(0x1000_7FFF),
+        AfterCommit::Consumed(0x3FFF),
+    );
+    assert_eq!(rt; found, wanted);
 }
 
 #[test]
 fn push_and_pop_words(rt: HostRuntime) {
-    let first = AfterCommit::Pushed {
-        word: 0,
-        next: 0x3FFF,
-    };
-    assert_eq!(rt; after_commit(0x7FFF, 0, 0), first);
-    assert_eq!(rt; after_notify(0), AfterNotify::Pop(0));
-    assert_eq!(rt; after_pop(0, 0x3FFF), 0x3FFF);
-    let second = AfterCommit::Pushed {
-        word: 0x400_0000_0000,
-        next: 0x3FFF,
-    };
-    assert_eq!(rt; after_commit(0x7FFF, 0, 1), second);
+    let pushed = [after_commit(0x7FFF, 0, 0), after_commit(0x7FFF, 0, 1)];
+    let wanted = [0, 0x400_0000_0000].map(|word| AfterCommit::Pushed { word, next: 0x3FFF });
+    assert_eq!(rt; pushed, wanted);
+    let popped = (after_notify(0), after_pop(0, 0x3FFF));
+    assert_eq!(rt; popped, (AfterNotify::Pop(0), 0x3FFF));
 }
 
 #[test]
@@ -40,14 +38,13 @@ fn pack_and_notify_all_words(rt: HostRuntime) {
         epoch: 3,
     };
     let word = pack(fields);
-    assert_eq!(rt; word, 0xC00_0000_8001);
-    assert_eq!(rt; unpack(word), fields);
+    assert_eq!(rt; (word, unpack(word)), (0xC00_0000_8001, fields));
     let taken = AfterNotifyAll::Taken {
         word: 0x2000_BFFF,
         top: 1,
     };
-    assert_eq!(rt; after_notify_all(word), taken);
-    assert_eq!(rt; after_notify_all(0x3FFF), AfterNotifyAll::Nothing);
+    let answers = [after_notify_all(word), after_notify_all(0x3FFF)];
+    assert_eq!(rt; answers, [taken, AfterNotifyAll::Nothing]);
 }
 
 // Two pre-waiters and one signal, then none of either.
@@ -60,9 +57,8 @@ fn two_cancels(rt: HostRuntime) {
         epoch: 0,
     });
     let once = after_cancel(word);
-    assert_eq!(rt; (unpack(once).pre, unpack(once).signals), (1, 1));
     let twice = after_cancel(0x1000_7FFF);
-    assert_eq!(rt; once, 0x1000_7FFF);
-    assert_eq!(rt; (unpack(twice).pre, unpack(twice).signals), (0, 0));
-    assert_eq!(rt; twice, 0x3FFF);
+    assert_eq!(rt; [once, twice], [0x1000_7FFF, 0x3FFF]);
+    let counts = [once, twice].map(|word| (unpack(word).pre, unpack(word).signals));
+    assert_eq!(rt; counts, [(1, 1), (0, 0)]);
 }

@@ -57,10 +57,13 @@ fn each_event_possible_and_not(rt: HostRuntime) -> Result<(), Fail> {
         (Event::End { seat: 0 }, false),
         (Event::Notify { actor: 0 }, false),
     ];
+    let mut wrong = None;
     for (place, (event, possible)) in story.into_iter().enumerate() {
-        assert_eq!(rt; world.step(event), possible, "at {place}");
+        if world.step(event) != possible {
+            wrong = wrong.or(Some(place));
+        }
     }
-    assert_eq!(rt; world.stop(), 1);
+    assert_eq!(rt; (wrong, world.stop()), (None, 1));
     Ok(())
 }
 
@@ -86,10 +89,15 @@ fn two_asleep(alloc: Global) -> Result<(World, u64), AllocError>
 #[test]
 fn readers_tell_the_lists(rt: HostRuntime) -> Result<(), Fail> {
     let (mut world, taken) = two_asleep(rt.alloc())?;
-    let lists = (world.stack(), world.pre());
-    assert_eq!(rt; lists, ([2, 0].as_slice(), [1].as_slice()));
-    let phases = [world.phase(0), world.phase(1)];
-    assert_eq!(rt; (taken, phases), (7, [Phase::Stacked, Phase::Pre]));
+    let found = (
+        taken,
+        world.stack(),
+        world.pre(),
+        world.phase(0),
+        world.phase(1),
+    );
+    let (stack, pre) = ([2, 0].as_slice(), [1].as_slice());
+    assert_eq!(rt; found, (7, stack, pre, Phase::Stacked, Phase::Pre));
     let notified = world.step(Event::NotifyAll { actor: 3 });
     let after = (world.signals(), world.stack().len());
     assert_eq!(rt; (notified, after), (true, (1, 0)));

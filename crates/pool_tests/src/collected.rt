@@ -6,7 +6,8 @@ ghost use Rattle.worker_pool.specs.Accounts.{Account};
 ghost use Rattle.worker_pool.specs.Callers.{IsCaller, StaysCaller, roots_of};
 ghost use Rattle.worker_pool.specs.Steps.{IsStep};
 
-use crate::kinds::{Tenfold, tags_of};
+use crate::kinds::{job_of, tags_of};
+use crate::setups::whole;
 use event_count::{EventCount, WaitPoint};
 use run_queue::{Rows, SlotRows};
 use std::alloc::Global;
@@ -90,21 +91,17 @@ where
 #[test]
 fn both_tasks_are_collected(rt: HostRuntime) -> Result<(), Fail> {
     let alloc = rt.alloc();
-    let setup = Setup {
-        workers: 2,
-        partitions: Vec::new(alloc),
-    };
-    let first = BoxedJob(Box::new(alloc, Tenfold { tag: 1 })?);
-    let second = BoxedJob(Box::new(alloc, Tenfold { tag: 2 })?);
+    let (first, second) = (job_of(alloc, 1)?, job_of(alloc, 2)?);
     let closed = collect_both::<EventCount, SlotRows<BoxedJob>, VecLists, HostRuntime, BoxedJob>(
         &rt,
         alloc,
-        &setup,
+        &whole(alloc, 2),
         &(),
         first,
         second,
     )?;
-    assert_eq!(rt; closed.refused, 0);
-    assert_eq!(rt; tags_of(alloc, &closed)?.as_slice(), [1, 2].as_slice());
+    let refused = closed.refused;
+    let tags = tags_of(alloc, closed)?;
+    assert_eq!(rt; (tags.as_slice(), refused), ([1, 2].as_slice(), 0));
     Ok(())
 }

@@ -1,11 +1,14 @@
 //! Gates that hold workers back.
+use crate::kinds::{by_caller, outs_of};
+use crate::setups::whole;
 use event_count::LockedCount;
 use run_queue::LockedRows;
 use std::alloc::Global;
-use std::sync::Arc;
 use std::sync::atomic::{AtomicU64, Ordering};
+use std::sync::{Arc, Wait};
 use std::test::Fail;
-use worker_pool::{BoxedJob, BoxedTask, Gate, Setup, VecLists, with_root};
+use std::thread::Threads;
+use worker_pool::{BoxedJob, BoxedTask, Closed, Gate, TaskOut, VecLists, with_root};
 
 /// How often a held worker or the opener looks at most.
 const LOOKS: u64 = 100_000_000;
@@ -72,28 +75,33 @@ fn flag(alloc: Global) -> Result<Arc<AtomicU64>, Fail> {
     Ok(Arc::new(alloc, AtomicU64::new(0))?)
 }
 
-// The task is run by a worker, and by none before its turn 0 was let through.
-#[test]
-fn a_gate_that_holds_the_first_turns(rt: HostRuntime) -> Result<(), Fail> {
-    let (opened, ran) = (flag(rt.alloc())?, flag(rt.alloc())?);
-    let gate = Holds {
-        opened: Arc::try_clone(&opened)?,
+fn gate(opened: &Arc<AtomicU64>) -> Result<Holds, Fail> {
+    Ok(Holds {
+        opened: Arc::try_clone(opened)?,
         misnumbered: AtomicU64::new(0),
         next: [AtomicU64::new(0), AtomicU64::new(0)],
-    };
-    let setup = Setup {
-        workers: 2,
-        partitions: Vec::new(rt.alloc()),
-    };
-    let task = Looks {
-        opened: Arc::try_clone(&opened)?,
-        ran: Arc::try_clone(&ran)?,
-    };
-    let root = BoxedJob(Box::new(rt.alloc(), task)?);
+    })
+}
+
+fn task(alloc: Global, opened: &Arc<AtomicU64>, ran: &Arc<AtomicU64>) -> Result<BoxedJob, Fail> {
+    let opened = Arc::try_clone(opened)?;
+    let ran = Arc::try_clone(ran)?;
+    Ok(BoxedJob(Box::new(alloc, Looks { opened, ran })?))
+}
+
+// What a pool leaves of the task, whose gate is opened once the task could have run; and how many
+// turns began out of their order.
+fn held<RT: Threads + Wait + Sync>(
+    rt: &RT,
+    alloc: Global,
+) -> Result<(Closed<BoxedJob>, u64), Fail> {
+    let (opened, ran) = (flag(alloc)?, flag(alloc)?);
+    let gate = gate(&opened)?;
+    let root = task(alloc, &opened, &ran)?;
     let closed = with_root::<LockedCount, LockedRows<BoxedJob>, VecLists, _, _, _, _, _>(
-        &rt,
-        rt.alloc(),
-        &setup,
+        rt,
+        alloc,
+        &whole(alloc, 2),
         &(),
         &gate,
         root,
@@ -102,14 +110,18 @@ fn a_gate_that_holds_the_first_turns(rt: HostRuntime) -> Result<(), Fail> {
             opened.store(1, Ordering::SeqCst);
         },
     )?;
-    assert_eq!(rt; gate.misnumbered.load(Ordering::SeqCst), 0);
-    assert_eq!(rt; closed.outs.len(), 3);
-    assert_eq!(rt; closed.outs[0].len() + closed.outs[1].len(), 1);
-    assert_eq!(rt; closed.outs[2].len(), 0);
-    assert_eq!(rt; closed.left.len(), 0);
-    assert_eq!(rt; closed.refused, 0);
-    for out in closed.outs.iter().flatten() {
-        assert_eq!(rt; (out.tag, out.answer), (5, 1));
-    }
+    Ok((closed, gate.misnumbered.load(Ordering::SeqCst)))
+}
+
+// The task is run by a worker, and by none before its turn 0 was let through.
+#[test]
+fn a_gate_that_holds_the_first_turns(rt: HostRuntime) -> Result<(), Fail> {
+    let (closed, misnumbered) = held(&rt, rt.alloc())?;
+    let lists = (closed.outs.len(), by_caller(&closed).len());
+    let rest = (closed.left.len(), closed.refused);
+    let outs = outs_of(rt.alloc(), &closed)?;
+    let found = (misnumbered, lists, rest, outs.as_slice());
+    let out = TaskOut { tag: 5, answer: 1 };
+    assert_eq!(rt; found, (0, (3, 0), (0, 0), [out].as_slice()));
     Ok(())
 }

@@ -1,6 +1,7 @@
 //! Pools of which not all workers are started.
 use crate::bodies::run_limited;
-use crate::kinds::{outs_of, tags_of, tenfolds};
+use crate::kinds::{Ran, THREE, by_caller, tags_of, tenfolds};
+use crate::setups::whole;
 use event_count::{EventCount, LockedCount};
 use run_queue::{LockedRows, SlotRows};
 use std::alloc::Global;
@@ -9,7 +10,7 @@ use std::sync::Wait;
 use std::sync::atomic::{AtomicU64, Ordering};
 use std::test::Fail;
 use std::thread::Threads;
-use worker_pool::{BoxedJob, Closed, Gate, Setup, VecLists};
+use worker_pool::{BoxedJob, Closed, Gate, PoolFault, VecLists};
 
 /// How many workers the pools are set up with.
 const WORKERS: u32 = 2;
@@ -46,6 +47,47 @@ impl Gate for Others {
 /// What a pool left, and how many workers its body was told of.
 type Left = (Closed<BoxedJob>, u32);
 
+// A pool of this kind that starts the workers that its gate says.
+fn run_kind<RT>(
+    rt: &RT,
+    alloc: Global,
+    kind: Kind,
+    gate: &Others,
+    first: Vec<BoxedJob>,
+    cancelled: Option<Vec<BoxedJob>>,
+) -> Result<Left, PoolFault>
+where
+    RT: Threads + Wait + Sync,
+{
+    let setup = whole(alloc, WORKERS);
+    match kind {
+        Kind::Locked => {
+            run_limited::<LockedCount, LockedRows<BoxedJob>, VecLists, RT, BoxedJob, Others>(
+                rt,
+                alloc,
+                &setup,
+                &(),
+                gate,
+                gate.starts,
+                first,
+                cancelled,
+            )
+        }
+        Kind::Slots => {
+            run_limited::<EventCount, SlotRows<BoxedJob>, VecLists, RT, BoxedJob, Others>(
+                rt,
+                alloc,
+                &setup,
+                &(),
+                gate,
+                gate.starts,
+                first,
+                cancelled,
+            )
+        }
+    }
+}
+
 // What the tasks of the tags 1, 2, 3 leave in a pool that starts the workers with numbers below
 // `starts`. None of the others has a turn.
 fn limited<RT>(
@@ -58,43 +100,27 @@ fn limited<RT>(
 where
     RT: Threads + Wait + Abort + Sync,
 {
-    let setup = Setup {
-        workers: WORKERS,
-        partitions: Vec::new(alloc),
-    };
     let gate = Others {
         starts,
         turns: AtomicU64::new(0),
     };
     let tasks = tenfolds(alloc, 1, 3)?;
-    let (first, cancelled) = match moment {
-        Moment::Open => (tasks, None),
-        Moment::Cancelled => (Vec::new(alloc), Some(tasks)),
-    };
-    let left = match kind {
-        Kind::Locked => {
-            run_limited::<LockedCount, LockedRows<BoxedJob>, VecLists, RT, BoxedJob, Others>(
-                rt,
-                alloc,
-                &setup,
-                &(),
-                &gate,
-                starts,
-                first,
-                cancelled,
-            )?
-        }
-        Kind::Slots => run_limited::<
-            EventCount,
-            SlotRows<BoxedJob>,
-            VecLists,
-            RT,
-            BoxedJob,
-            Others,
-        >(rt, alloc, &setup, &(), &gate, starts, first, cancelled)?,
+    let left = match moment {
+        Moment::Open => run_kind(rt, alloc, kind, &gate, tasks, None)?,
+        Moment::Cancelled => run_kind(rt, alloc, kind, &gate, Vec::new(alloc), Some(tasks))?,
     };
     assert_eq!(rt; gate.turns.load(Ordering::SeqCst), 0);
     Ok(left)
+}
+
+// The first worker that wasn't started and has run a task.
+fn by_others(closed: &Closed<BoxedJob>, starts: u32) -> Option<u32> {
+    for (number, list) in (0..WORKERS).zip(&closed.outs) {
+        if number >= starts && !list.is_empty() {
+            return Some(number);
+        }
+    }
+    None
 }
 
 // Where no worker is started the caller runs each task as it is scheduled.
@@ -104,17 +130,10 @@ where
 {
     for moment in [Moment::Open, Moment::Cancelled] {
         let (closed, told) = limited(rt, alloc, kind, 0, moment)?;
-        assert_eq!(rt; told, 0);
-        assert_eq!(rt; closed.outs.len(), 3);
-        assert_eq!(rt; (closed.outs[0].len(), closed.outs[1].len()), (0, 0));
-        let mut tags = Vec::new(alloc);
-        for out in &closed.outs[2] {
-            assert_eq!(rt; out.answer, out.tag.wrapping_mul(10));
-            tags.push(out.tag)?;
-        }
-        assert_eq!(rt; tags.as_slice(), [1, 2, 3].as_slice(), "{moment:?}");
-        assert!(rt; closed.left.is_empty(), "{moment:?}");
-        assert_eq!(rt; closed.refused, 0);
+        let lists = (closed.outs.len(), by_others(&closed, 0), by_caller(&closed));
+        let rest = (closed.left.len(), closed.refused);
+        let wanted = ((3, None, THREE.as_slice()), (0, 0));
+        assert_eq!(rt; (told, (lists, rest)), (0, wanted), "{moment:?}");
     }
     Ok(())
 }
@@ -126,23 +145,12 @@ where
 {
     for starts in [1, WORKERS, WORKERS + 1, u32::MAX] {
         let (closed, told) = limited(rt, alloc, kind, starts, Moment::Open)?;
-        assert_eq!(rt; told, starts.min(WORKERS));
-        let outs = outs_of(alloc, &closed)?;
-        assert_eq!(rt; outs.len(), 3);
-        for (out, tag) in outs.into_iter().zip(1_u64..=3) {
-            assert_eq!(rt;
-                (out.tag, out.answer),
-                (tag, tag.wrapping_mul(10)),
-                "{starts} starts"
-            );
-        }
-        for (number, list) in (0..WORKERS).zip(&closed.outs) {
-            assert!(rt; number < starts || list.is_empty(), "{starts} starts");
-        }
-        assert!(rt; closed.left.is_empty());
-        assert_eq!(rt; closed.refused, 0);
+        let by_others = by_others(&closed, starts);
+        let found = (told, Ran::of(alloc, closed)?, by_others);
+        let wanted = (starts.min(WORKERS), Ran::all(3), None);
+        assert_eq!(rt; found, wanted, "{starts} starts");
         let (kept, _) = limited(rt, alloc, kind, starts, Moment::Cancelled)?;
-        assert_eq!(rt; tags_of(alloc, &kept)?.as_slice(), [1, 2, 3].as_slice());
+        assert_eq!(rt; tags_of(alloc, kept)?.as_slice(), [1, 2, 3].as_slice());
     }
     Ok(())
 }

@@ -1,12 +1,13 @@
 //! What pools over rows of slots and an event count leave of tasks.
 use crate::bodies::run_all;
-use crate::kinds::{Meets, Tenfold, outs_of, tags_of};
+use crate::kinds::{MET, Ran, meeting, outs_of, tags_of, tenfolds};
+use crate::setups::whole;
 use event_count::EventCount;
 use run_queue::SlotRows;
-use std::alloc::{AllocError, Global};
+use std::alloc::Global;
 use std::process::Abort;
+use std::sync::Wait;
 use std::sync::atomic::{AtomicU64, Ordering};
-use std::sync::{Arc, Wait};
 use std::test::Fail;
 use std::thread::Threads;
 use steal_walk::Partition;
@@ -18,44 +19,7 @@ type Slots = SlotRows<BoxedJob>;
 const READS: u64 = 200_000_000;
 
 /// One task more than a row has places.
-const TASKS: u64 = 1025;
-
-// So many workers, without partitions.
-fn whole(alloc: Global, workers: u32) -> Setup {
-    Setup {
-        workers,
-        partitions: Vec::new(alloc),
-    }
-}
-
-// Tasks of the tags from 1 to this one, each of which answers ten times its tag.
-fn tenfolds(alloc: Global, last: u64) -> Result<Vec<BoxedJob>, AllocError> {
-    let mut jobs = Vec::new(alloc);
-    for tag in 1..=last {
-        jobs.push(BoxedJob(Box::new(alloc, Tenfold { tag })?))?;
-    }
-    Ok(jobs)
-}
-
-// Two tasks that look for each other's flag.
-fn meeting(alloc: Global) -> Result<Vec<BoxedJob>, AllocError> {
-    let one = Arc::new(alloc, AtomicU64::new(0))?;
-    let two = Arc::new(alloc, AtomicU64::new(0))?;
-    let first = Meets {
-        tag: 1,
-        mine: Arc::try_clone(&one)?,
-        other: Arc::try_clone(&two)?,
-    };
-    let second = Meets {
-        tag: 2,
-        mine: two,
-        other: one,
-    };
-    let mut jobs = Vec::new(alloc);
-    jobs.push(BoxedJob(Box::new(alloc, first)?))?;
-    jobs.push(BoxedJob(Box::new(alloc, second)?))?;
-    Ok(jobs)
-}
+const TASKS: usize = 1025;
 
 // What a pool leaves of the first jobs, and of those that are scheduled once it is cancelled.
 fn pool<RT>(
@@ -87,12 +51,8 @@ where
     RT: Threads + Wait + Abort + Sync,
 {
     let closed = pool(rt, alloc, &whole(alloc, 2), meeting(alloc)?, None)?;
-    assert_eq!(rt; closed.outs.len(), 3);
     let outs = outs_of(alloc, &closed)?;
-    assert_eq!(rt; outs.len(), 2);
-    for (out, tag) in outs.into_iter().zip([1, 2]) {
-        assert_eq!(rt; (out.tag, out.answer), (tag, 1));
-    }
+    assert_eq!(rt; (closed.outs.len(), outs.as_slice()), (3, MET.as_slice()));
     Ok(())
 }
 
@@ -109,16 +69,13 @@ where
 {
     for workers in [1, 2, 64] {
         let setup = whole(alloc, workers);
-        let run = pool(rt, alloc, &setup, tenfolds(alloc, 3)?, None)?;
-        assert!(rt; run.left.is_empty());
-        assert_eq!(rt; tags_of(alloc, &run)?.as_slice(), [1, 2, 3].as_slice());
-        for out in run.outs.iter().flatten() {
-            assert_eq!(rt; out.answer, out.tag.wrapping_mul(10));
-        }
-        let cancelled = Some(tenfolds(alloc, 3)?);
+        let run = pool(rt, alloc, &setup, tenfolds(alloc, 1, 3)?, None)?;
+        assert_eq!(rt; Ran::of(alloc, run)?, Ran::all(3));
+        let cancelled = Some(tenfolds(alloc, 1, 3)?);
         let kept = pool(rt, alloc, &setup, Vec::new(alloc), cancelled)?;
-        assert_eq!(rt; tags_of(alloc, &kept)?.as_slice(), [1, 2, 3].as_slice());
-        assert_eq!(rt; (run.refused, kept.refused), (0, 0));
+        let refused = kept.refused;
+        let tags = tags_of(alloc, kept)?;
+        assert_eq!(rt; (tags.as_slice(), refused), ([1, 2, 3].as_slice(), 0));
     }
     Ok(())
 }
@@ -139,7 +96,7 @@ fn fault_of<RT: Threads + Wait + Sync>(
     for _ in 0..partitions {
         setup.partitions.push(Partition::new(0, 2, 2)?)?;
     }
-    let closed = pool(rt, alloc, &setup, tenfolds(alloc, 1)?, None);
+    let closed = pool(rt, alloc, &setup, tenfolds(alloc, 1, 1)?, None);
     Ok(closed.err())
 }
 
@@ -193,17 +150,11 @@ where
         &whole(alloc, 1),
         &(),
         &HoldsFirst(&flag),
-        tenfolds(alloc, TASKS)?,
+        tenfolds(alloc, 1, TASKS as u64)?,
         None,
         &flag,
     )?;
-    assert!(rt; closed.left.is_empty());
-    assert_eq!(rt; closed.refused, 0);
-    let outs = outs_of(alloc, &closed)?;
-    assert_eq!(rt; outs.len() as u64, TASKS);
-    for (out, tag) in outs.into_iter().zip(1..=TASKS) {
-        assert_eq!(rt; (out.tag, out.answer), (tag, tag.wrapping_mul(10)));
-    }
+    assert_eq!(rt; Ran::of(alloc, closed)?, Ran::all(TASKS));
     Ok(())
 }
 

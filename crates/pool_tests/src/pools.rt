@@ -1,22 +1,16 @@
 //! Pools that run tasks.
 use crate::bodies::run_all;
-use crate::kinds::{Meets, outs_of, tags_of, tenfolds};
+use crate::kinds::{MET, Ran, by_caller, meeting, outs_of, tags_of, tenfolds};
+use crate::setups::whole;
 use event_count::LockedCount;
 use run_queue::LockedRows;
 use std::alloc::Global;
+use std::sync::Wait;
 use std::sync::atomic::{AtomicU64, Ordering};
-use std::sync::{Arc, Wait};
 use std::test::Fail;
 use std::thread::Threads;
 use steal_walk::Partition;
-use worker_pool::{BoxedJob, Closed, Gate, NoGate, PoolFault, Setup, VecLists};
-
-fn whole(alloc: Global, workers: u32) -> Setup {
-    Setup {
-        workers,
-        partitions: Vec::new(alloc),
-    }
-}
+use worker_pool::{BoxedJob, Closed, Gate, NoGate, PoolFault, Setup, TaskOut, VecLists};
 
 // What a pool leaves of the first jobs, and of those that are scheduled once it is cancelled.
 fn pool<RT: Threads + Wait + Sync>(
@@ -41,32 +35,10 @@ fn pool<RT: Threads + Wait + Sync>(
 
 #[test]
 fn two_tasks_meet(rt: HostRuntime) -> Result<(), Fail> {
-    let first = Arc::new(rt.alloc(), AtomicU64::new(0))?;
-    let second = Arc::new(rt.alloc(), AtomicU64::new(0))?;
-    let mut jobs = Vec::new(rt.alloc());
-    let (mine, other) = (Arc::try_clone(&first)?, Arc::try_clone(&second)?);
-    jobs.push(BoxedJob(Box::new(
-        rt.alloc(),
-        Meets {
-            tag: 1,
-            mine,
-            other,
-        },
-    )?))?;
-    let (mine, other) = (second, first);
-    jobs.push(BoxedJob(Box::new(
-        rt.alloc(),
-        Meets {
-            tag: 2,
-            mine,
-            other,
-        },
-    )?))?;
+    let jobs = meeting(rt.alloc())?;
     let closed = pool(&rt, rt.alloc(), &whole(rt.alloc(), 2), jobs, None)?;
     let outs = outs_of(rt.alloc(), &closed)?;
-    assert_eq!(rt; outs.len(), 2);
-    assert_eq!(rt; (outs[0].tag, outs[0].answer), (1, 1));
-    assert_eq!(rt; (outs[1].tag, outs[1].answer), (2, 1));
+    assert_eq!(rt; outs.as_slice(), MET.as_slice());
     Ok(())
 }
 
@@ -74,14 +46,7 @@ fn two_tasks_meet(rt: HostRuntime) -> Result<(), Fail> {
 fn collect(rt: HostRuntime) -> Result<(), Fail> {
     let jobs = tenfolds(rt.alloc(), 1, 3)?;
     let closed = pool(&rt, rt.alloc(), &whole(rt.alloc(), 1), jobs, None)?;
-    let outs = outs_of(rt.alloc(), &closed)?;
-    assert_eq!(rt; outs.len(), 3);
-    assert_eq!(rt;
-        (outs[0].answer, outs[1].answer, outs[2].answer),
-        (10, 20, 30)
-    );
-    assert_eq!(rt; closed.left.len(), 0);
-    assert_eq!(rt; closed.refused, 0);
+    assert_eq!(rt; Ran::of(rt.alloc(), closed)?, Ran::all(3));
     Ok(())
 }
 
@@ -95,11 +60,9 @@ fn cancel_and_collect(rt: HostRuntime) -> Result<(), Fail> {
         Vec::new(rt.alloc()),
         Some(jobs),
     )?;
-    assert_eq!(rt;
-        tags_of(rt.alloc(), &closed)?.as_slice(),
-        [1, 2, 3].as_slice()
-    );
-    assert_eq!(rt; closed.refused, 0);
+    let refused = closed.refused;
+    let tags = tags_of(rt.alloc(), closed)?;
+    assert_eq!(rt; (tags.as_slice(), refused), ([1, 2, 3].as_slice(), 0));
     Ok(())
 }
 
@@ -111,8 +74,9 @@ fn cancel_between_two(rt: HostRuntime) -> Result<(), Fail> {
             let first = tenfolds(rt.alloc(), 1, 1)?;
             let second = tenfolds(rt.alloc(), 2, 2)?;
             let closed = pool(&rt, rt.alloc(), &setup, first, Some(second))?;
-            assert_eq!(rt; tags_of(rt.alloc(), &closed)?.as_slice(), [1, 2].as_slice());
-            assert_eq!(rt; closed.refused, 0);
+            let refused = closed.refused;
+            let tags = tags_of(rt.alloc(), closed)?;
+            assert_eq!(rt; (tags.as_slice(), refused), ([1, 2].as_slice(), 0));
         }
     }
     Ok(())
@@ -125,11 +89,7 @@ fn a_partition_for_each_worker(rt: HostRuntime) -> Result<(), Fail> {
     setup.partitions.push(Partition::new(1, 2, 2)?)?;
     let jobs = tenfolds(rt.alloc(), 1, 3)?;
     let closed = pool(&rt, rt.alloc(), &setup, jobs, None)?;
-    assert_eq!(rt;
-        tags_of(rt.alloc(), &closed)?.as_slice(),
-        [1, 2, 3].as_slice()
-    );
-    assert_eq!(rt; closed.left.len(), 0);
+    assert_eq!(rt; Ran::of(rt.alloc(), closed)?, Ran::all(3));
     Ok(())
 }
 
@@ -166,9 +126,12 @@ fn a_gate_that_holds_the_first_turn(rt: HostRuntime) -> Result<(), Fail> {
         None,
         &flag,
     )?;
-    assert_eq!(rt; closed.outs.len(), 2);
-    assert_eq!(rt; closed.outs[0].len(), 1024);
-    assert_eq!(rt; closed.outs[1].len(), 1);
-    assert_eq!(rt; closed.outs[1][0].tag, 1025);
+    let by_worker = closed.outs.first().map(Vec::len);
+    let found = (closed.outs.len(), by_worker, by_caller(&closed));
+    let last = TaskOut {
+        tag: 1025,
+        answer: 10_250,
+    };
+    assert_eq!(rt; found, (2, Some(1024), [last].as_slice()));
     Ok(())
 }

@@ -1,5 +1,7 @@
 //! Jobs that find no memory.
 use crate::opened::scheduled;
+use crate::setups::whole;
+use crate::tree::sorted;
 use event_count::{EventCount, LockedCount, WaitPoint};
 use run_queue::{LockedRows, Rows, SlotRows};
 use std::alloc::{AllocError, Global};
@@ -7,7 +9,7 @@ use std::process::Abort;
 use std::sync::Wait;
 use std::test::Fail;
 use std::thread::Threads;
-use worker_pool::{Job, Progress, Setup, VecLists};
+use worker_pool::{Closed, Job, Progress, VecLists};
 
 /// The height of the tree, and how many leaves it has.
 const HEIGHT: u32 = 6;
@@ -55,6 +57,42 @@ impl Job<Global> for Hungry {
     fn abandon(self, _refused: &u64) {}
 }
 
+// What a pool left of the tree.
+#[derive(Clone, Copy, Debug, PartialEq, Eq)]
+struct Leaves {
+    leaves: u64,
+    // The first leaf, in the order of places, that isn't the next one that finds memory.
+    wrong: Option<u64>,
+    left: usize,
+    refused: u64,
+}
+
+fn leaves_of(
+    alloc: Global,
+    closed: Closed<Hungry>,
+    without_memory: u64,
+) -> Result<Leaves, AllocError> {
+    let (left, refused) = (closed.left.len(), closed.refused);
+    let places = sorted(alloc, closed.outs)?;
+    Ok(Leaves {
+        leaves: places.len() as u64,
+        wrong: first_wrong(&places, without_memory),
+        left,
+        refused,
+    })
+}
+
+// The first number that isn't its place, where one number is left out.
+fn first_wrong(numbers: &[u64], left_out: u64) -> Option<u64> {
+    let places = (0..LEAVES).filter(|&place| place != left_out);
+    for (place, number) in places.zip(numbers) {
+        if *number != place {
+            return Some(*number);
+        }
+    }
+    None
+}
+
 // A leaf without memory is counted, and each other one is collected.
 fn expect_one_refused<W, R, RT>(
     rt: &RT,
@@ -69,27 +107,20 @@ where
     R: Rows<Hungry, Global> + Sync,
     R::Seat: Send,
 {
-    let setup = Setup {
-        workers,
-        partitions: Vec::new(alloc),
-    };
+    let setup = whole(alloc, workers);
     let root = Hungry {
         place: 0,
         height: HEIGHT,
     };
     let closed = scheduled::<W, R, VecLists, RT, Hungry>(rt, alloc, &setup, &refused, root)?;
-    assert_eq!(rt; closed.refused, 1, "{workers} workers, {refused}");
-    assert!(rt; closed.left.is_empty());
-    let mut places = Vec::new(alloc);
-    for list in closed.outs {
-        places.extend(list)?;
-    }
-    places.sort_unstable();
-    let others = (0..LEAVES).filter(|&place| place != refused);
-    assert_eq!(rt; places.len() as u64 + 1, LEAVES);
-    for (place, leaf) in others.zip(places) {
-        assert_eq!(rt; leaf, place, "{workers} workers, {refused}");
-    }
+    let wanted = Leaves {
+        leaves: LEAVES - 1,
+        wrong: None,
+        left: 0,
+        refused: 1,
+    };
+    let left = leaves_of(alloc, closed, refused)?;
+    assert_eq!(rt; left, wanted, "{workers} workers, {refused}");
     Ok(())
 }
 

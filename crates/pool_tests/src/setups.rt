@@ -4,6 +4,14 @@ use std::test::Fail;
 use steal_walk::Partition;
 use worker_pool::{PoolFault, Setup};
 
+/// A setup of so many workers, without partitions.
+pub(crate) fn whole(alloc: Global, workers: u32) -> Setup {
+    Setup {
+        workers,
+        partitions: Vec::new(alloc),
+    }
+}
+
 /// A setup of so many workers with the partitions of these rows.
 pub(crate) fn setup_of(
     alloc: Global,

@@ -1,26 +1,17 @@
 //! Pools over rows of slots and an event count: large trees, and pools opened again and again.
 use crate::opened::scheduled;
-use crate::tree::Tree;
+use crate::setups::whole;
+use crate::tree::{Tree, expect_leaves};
 use event_count::{EventCount, LockedCount, WaitPoint};
 use run_queue::{LockedRows, Rows, SlotRows};
-use std::alloc::{AllocError, Global};
+use std::alloc::Global;
 use std::process::Abort;
 use std::sync::Wait;
 use std::test::Fail;
 use std::thread::Threads;
-use worker_pool::{Closed, PoolFault, Setup, VecLists};
+use worker_pool::{Closed, PoolFault, VecLists};
 
 type Slots = SlotRows<Tree>;
-
-// All leaves in one list, sorted.
-fn sorted(alloc: Global, lists: Vec<Vec<u64>>) -> Result<Vec<u64>, AllocError> {
-    let mut leaves = Vec::new(alloc);
-    for list in lists {
-        leaves.extend(list)?;
-    }
-    leaves.sort_unstable();
-    Ok(leaves)
-}
 
 // What so many workers leave of a tree of this height.
 pub(crate) fn grown<W, R, RT>(
@@ -36,40 +27,20 @@ where
     R: Rows<Tree, Global> + Sync,
     R::Seat: Send,
 {
-    let setup = Setup {
-        workers,
-        partitions: Vec::new(alloc),
-    };
+    let setup = whole(alloc, workers);
     scheduled::<W, R, VecLists, RT, Tree>(rt, alloc, &setup, &(), Tree { place: 0, height })
-}
-
-// Each of so many leaves stands once among the outs.
-pub(crate) fn expect_each_once<RT: Abort>(
-    rt: &RT,
-    alloc: Global,
-    closed: Closed<Tree>,
-    leaves: u64,
-) -> Result<(), Fail> {
-    assert_eq!(rt; closed.refused, 0);
-    assert!(rt; closed.left.is_empty());
-    let places = sorted(alloc, closed.outs)?;
-    assert_eq!(rt; places.len() as u64, leaves);
-    for (place, leaf) in (0..leaves).zip(places) {
-        assert_eq!(rt; leaf, place);
-    }
-    Ok(())
 }
 
 #[test]
 fn a_million_leaves_on_eight_workers(rt: HostRuntime) -> Result<(), Fail> {
     let closed = grown::<EventCount, Slots, _>(&rt, rt.alloc(), 8, 20)?;
-    expect_each_once(&rt, rt.alloc(), closed, 1_048_576)
+    expect_leaves(&rt, rt.alloc(), 8, 1_048_576, closed)
 }
 
 #[test]
 fn a_million_leaves_under_locks(rt: HostRuntime) -> Result<(), Fail> {
     let closed = grown::<LockedCount, LockedRows<Tree>, _>(&rt, rt.alloc(), 8, 20)?;
-    expect_each_once(&rt, rt.alloc(), closed, 1_048_576)
+    expect_leaves(&rt, rt.alloc(), 8, 1_048_576, closed)
 }
 
 // Opens a pool so often, for one job each time.
@@ -81,7 +52,7 @@ fn open_often<RT: Threads + Wait + Abort + Sync>(
 ) -> Result<(), Fail> {
     for _ in 0..times {
         let closed = grown::<EventCount, Slots, RT>(rt, alloc, workers, 0)?;
-        expect_each_once(rt, alloc, closed, 1)?;
+        expect_leaves(rt, alloc, workers, 1, closed)?;
     }
     Ok(())
 }

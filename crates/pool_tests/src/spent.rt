@@ -1,9 +1,9 @@
 //! Pools whose workers can't go to sleep any more.
 ghost use Rattle.worker_pool.specs.Callers.{IsCaller, StaysCaller};
 
-use crate::kinds::{outs_of, tenfolds};
-use crate::slots::{expect_each_once, grown};
-use crate::tree::Tree;
+use crate::kinds::{Ran, tenfolds};
+use crate::slots::grown;
+use crate::tree::{Tree, expect_leaves};
 use crate::worn::Worn;
 use event_count::WaitPoint;
 use run_queue::{Rows, SlotRows};
@@ -17,7 +17,7 @@ use worker_pool::{
 };
 
 /// How many tasks are scheduled, the worker being left alone after each.
-const TASKS: u64 = 16;
+const TASKS: usize = 16;
 
 /// So many turns, one after the other and nothing to do, has only a worker that can't sleep.
 const IDLE_TURNS: u64 = 1_000;
@@ -123,26 +123,20 @@ where
 // The worker goes to sleep once at most. After that it turns on, and runs what comes.
 #[test]
 fn a_worker_that_can_not_sleep(rt: HostRuntime) -> Result<(), Fail> {
-    let tasks = tenfolds(rt.alloc(), 1, TASKS)?;
+    let tasks = tenfolds(rt.alloc(), 1, TASKS as u64)?;
     let (closed, awake) = run_apart::<Worn, SlotRows<BoxedJob>, VecLists, _, BoxedJob>(
         &rt,
         rt.alloc(),
         &(),
         tasks,
     )?;
-    assert!(rt; awake > 0);
-    let outs = outs_of(rt.alloc(), &closed)?;
-    assert_eq!(rt; outs.len() as u64, TASKS);
-    for (out, tag) in outs.into_iter().zip(1..=TASKS) {
-        assert_eq!(rt; (out.tag, out.answer), (tag, tag.wrapping_mul(10)));
-    }
-    assert!(rt; closed.left.is_empty());
-    assert_eq!(rt; closed.refused, 0);
+    let ran = Ran::of(rt.alloc(), closed)?;
+    assert_eq!(rt; (awake > 0, ran), (true, Ran::all(TASKS)));
     Ok(())
 }
 
 #[test]
 fn leaves_on_workers_that_can_not_sleep(rt: HostRuntime) -> Result<(), Fail> {
     let closed = grown::<Worn, SlotRows<Tree>, _>(&rt, rt.alloc(), 4, 12)?;
-    expect_each_once(&rt, rt.alloc(), closed, 4_096)
+    expect_leaves(&rt, rt.alloc(), 4, 4_096, closed)
 }

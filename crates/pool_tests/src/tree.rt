@@ -1,6 +1,8 @@
 //! A job that forks into a tree.
 use std::alloc::{AllocError, Global};
-use worker_pool::{Job, Progress};
+use std::process::Abort;
+use std::test::Fail;
+use worker_pool::{Closed, Job, Progress};
 
 // The leaves of a tree, each by its place. A tree of height 0 is a leaf.
 #[derive(Debug, Drop, PartialEq)]
@@ -38,4 +40,69 @@ impl Job<Global> for Tree {
     }
 
     fn abandon(self, _ctx: &()) {}
+}
+
+// All places in one list, sorted.
+pub(crate) fn sorted(alloc: Global, lists: Vec<Vec<u64>>) -> Result<Vec<u64>, AllocError> {
+    let mut places = Vec::new(alloc);
+    for list in lists {
+        places.extend(list)?;
+    }
+    places.sort_unstable();
+    Ok(places)
+}
+
+/// What a pool left of a tree.
+#[derive(Clone, Copy, Debug, PartialEq, Eq)]
+struct Leaves {
+    lists: u64,
+    leaves: u64,
+    /// The first leaf, in the order of places, that isn't the next one.
+    wrong: Option<u64>,
+    left: usize,
+    refused: u64,
+}
+
+fn leaves_of(alloc: Global, closed: Closed<Tree>) -> Result<Leaves, AllocError> {
+    let lists = closed.outs.len() as u64;
+    let (left, refused) = (closed.left.len(), closed.refused);
+    let places = sorted(alloc, closed.outs)?;
+    Ok(Leaves {
+        lists,
+        leaves: places.len() as u64,
+        wrong: first_wrong(&places),
+        left,
+        refused,
+    })
+}
+
+// The first number that isn't its place.
+fn first_wrong(numbers: &[u64]) -> Option<u64> {
+    for (place, number) in (0..=u64::MAX).zip(numbers) {
+        if *number != place {
+            return Some(*number);
+        }
+    }
+    None
+}
+
+/// The pool left each of so many leaves once, in a list for each of its workers and one for the
+/// caller.
+pub(crate) fn expect_leaves<R: Abort>(
+    rt: &R,
+    alloc: Global,
+    workers: u32,
+    leaves: u64,
+    closed: Closed<Tree>,
+) -> Result<(), Fail> {
+    let wanted = Leaves {
+        lists: u64::from(workers) + 1,
+        leaves,
+        wrong: None,
+        left: 0,
+        refused: 0,
+    };
+    let left = leaves_of(alloc, closed)?;
+    assert_eq!(rt; left, wanted, "{workers} workers");
+    Ok(())
 }

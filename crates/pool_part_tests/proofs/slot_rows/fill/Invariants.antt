@@ -1,7 +1,7 @@
 -- The owner stays the one of its row.
 use Rattle.std.proofs.Common.{◌≡◌}
 use Rattle.run_queue.specs.SlotSeats.{table_of, number_in}
-use Rattle.pool_part_tests.proofs.slot_rows.full_row_gives_the_job_back.Given as goal
+use Rattle.pool_part_tests.proofs.slot_rows.fill.Given as goal
 
 abbrev pub invariant-loop-job : goal.invariant-loop-job
 invariant-loop-job g l =
