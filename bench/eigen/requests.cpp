@@ -226,10 +226,11 @@ std::function<void(const Request&)> over_two(Work work) {
   };
 }
 
-template <class Device>
-void sums_along(const Device& device, const Tensor<2>& a, Index axis) {
-  Tensor<1> sum(a.dimension(1 - axis));
-  sum.device(device) = a.sum(Axes<1>{axis});
+// The sums of a square expression along an axis, of so many places along each.
+template <class Device, class Expression>
+void sums_along(const Device& device, const Expression& expression, Index axis, Index places) {
+  Tensor<1> sum(places);
+  sum.device(device) = expression.sum(Axes<1>{axis});
   Line().print(sum);
 }
 
@@ -269,6 +270,8 @@ std::string nest(int count, const std::string& front, const std::string& inner,
 std::map<std::string, std::function<void(const Request&)>> forms() {
   const std::string line = R"(["broadcast","a",[#]])", square = R"(["broadcast","a",[#,#]])";
   const std::string other = R"(["broadcast","b",[#,#]])", cube = R"(["broadcast","a",[#,#,#]])";
+  const std::string product = R"(["mul",)" + square + "," + other + "]";
+  const std::string six = R"(["broadcast","a",[#,#,#,#,#,#]])";
   const auto whole = [](const std::string& text) { return R"(["sum",)" + text + ",[0,1]]"; };
   return {
       {R"(["add","a","b"])", add},
@@ -288,9 +291,26 @@ std::map<std::string, std::function<void(const Request&)>> forms() {
        })},
       {whole(square), over<2>([](const auto& device, const auto& a) { print_sum(device, a); })},
       {R"(["sum",)" + square + ",[0]]",
-       over<2>([](const auto& device, const auto& a) { sums_along(device, a, 0); })},
+       over<2>([](const auto& device, const auto& a) { sums_along(device, a, 0, a.dimension(1)); })},
       {R"(["sum",)" + square + ",[1]]",
-       over<2>([](const auto& device, const auto& a) { sums_along(device, a, 1); })},
+       over<2>([](const auto& device, const auto& a) { sums_along(device, a, 1, a.dimension(0)); })},
+      {whole(product), over_two<2>([](const auto& device, const auto& a, const auto& b) {
+         print_sum(device, a * b);
+       })},
+      {R"(["maximum",)" + product + ",[0,1]]",
+       over_two<2>([](const auto& device, const auto& a, const auto& b) {
+         Tensor<0> greatest;
+         greatest.device(device) = (a * b).maximum();
+         Line().print(greatest);
+       })},
+      {R"(["sum",["add",)" + product + "," + square + "],[0]]",
+       over_two<2>([](const auto& device, const auto& a, const auto& b) {
+         sums_along(device, a * b + a, 0, a.dimension(1));
+       })},
+      {R"(["sum",["add",)" + product + "," + square + "],[1]]",
+       over_two<2>([](const auto& device, const auto& a, const auto& b) {
+         sums_along(device, a * b + a, 1, a.dimension(0));
+       })},
       {R"(["prod",)" + square + ",[0,1]]", over<2>([](const auto& device, const auto& a) {
          Tensor<0> product;
          product.device(device) = a.prod();
@@ -306,6 +326,15 @@ std::map<std::string, std::function<void(const Request&)>> forms() {
          turned.device(device) = a.shuffle(Axes<3>{2, 0, 1});
          print_sum(device, turned);
        })},
+      {R"(["sum",["shuffle",)" + six + ",[5,1,4,3,0,2]],[0,1,2,3,4,5]]",
+       over<6>([](const auto& device, const auto& a) {
+         const Axes<6> order{5, 1, 4, 3, 0, 2};
+         Axes<6> dims;
+         for (int axis = 0; axis < 6; ++axis) dims[axis] = a.dimension(order[axis]);
+         Tensor<6> turned(dims);
+         turned.device(device) = a.shuffle(order);
+         print_sum(device, turned);
+       })},
       {whole(R"(["chip",["slice",["reverse",)" + cube +
              R"(,[true,true,false]],[1,1,0],[1023,511,2]],1,2])"),
        over<3>([](const auto& device, const auto& a) {
@@ -315,6 +344,12 @@ std::map<std::string, std::function<void(const Request&)>> forms() {
        })},
       {whole(R"(["contract",)" + square + "," + square + ",[[1,0]]]"),
        over<2>([](const auto& device, const auto& a) { contraction(device, a); })},
+      {whole(R"(["contract",)" + cube + "," + cube + ",[[1,1],[2,2]]]"),
+       over<3>([](const auto& device, const auto& a) {
+         Tensor<2> product(a.dimension(0), a.dimension(0));
+         product.device(device) = a.contract(a, Eigen::array<Pair, 2>{Pair(1, 1), Pair(2, 2)});
+         print_sum(device, product);
+       })},
       {whole(R"(["convolve",)" + square + R"(,"k",[0,1]])"), convolution<2>},
       {R"(["sum",["convolve",)" + line + R"(,"k",[0]],[0]])", convolution<1>},
       {R"(["sum",["mul",["add",)" + line + "," + line + "]," + line + "],[0]]",

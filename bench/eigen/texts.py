@@ -6,6 +6,7 @@ other way round: all reading and printing. The forms stand in requests.cpp too, 
 others.
 """
 
+import math
 import random
 
 BLOCK = 4096
@@ -40,18 +41,17 @@ def nest(count, front, inner, back):
     return front * count + inner + back * count
 
 
-def squares(times, expr, lowest_bit=0):
+def squares(times, expr, lowest_bit=0, bound=2**63):
     """A request over squares of 64 by 64 numbers, repeated so often along both axes."""
     a, b = SQUARE.format(times), SQUARE.format(times).replace('"a"', '"b"')
-    inputs = {"a": ([64, 64], [it | lowest_bit for it in numbers(4096, 3)])}
+    inputs = {"a": ([64, 64], [it | lowest_bit for it in numbers(4096, 3, bound)])}
     if "{b}" in expr:
-        inputs["b"] = [64, 64], numbers(4096, 4)
+        inputs["b"] = [64, 64], numbers(4096, 4, bound)
     return inputs, expr.replace("{a}", a).replace("{b}", b)
 
 
 def cubes(dims, times, expr):
-    count = dims[0] * dims[1] * dims[2]
-    return {"a": (dims, numbers(count, 5))}, expr.replace(
+    return {"a": (dims, numbers(math.prod(dims), 5))}, expr.replace(
         "{a}", f'["broadcast","a",{listed(times)}]'
     )
 
@@ -105,6 +105,22 @@ REQUESTS = {
         lambda: squares(16, whole('["select",["lt",{a},{b}],{a},{b}]')),
     ),
     "sum": ("the sum of all", lambda: squares(16, whole("{a}"))),
+    "sum-of-products": (
+        "the sum of all of x*y",
+        lambda: squares(16, whole('["mul",{a},{b}]')),
+    ),
+    "greatest-of-products": (
+        "the greatest of all of x*y",
+        lambda: squares(16, '["maximum",["mul",{a},{b}],[0,1]]'),
+    ),
+    "products-over-the-first": (
+        "sums of x*y+x over the first axis",
+        lambda: squares(16, '["sum",["add",["mul",{a},{b}],{a}],[0]]'),
+    ),
+    "products-over-the-second": (
+        "sums of x*y+x over the second axis",
+        lambda: squares(16, '["sum",["add",["mul",{a},{b}],{a}],[1]]'),
+    ),
     "sums-over-the-first": ("sums over the first axis", lambda: squares(16, '["sum",{a},[0]]')),
     "sums-over-the-second": ("sums over the second axis", lambda: squares(16, '["sum",{a},[1]]')),
     # Of odd numbers: others would soon have the product 0.
@@ -116,6 +132,14 @@ REQUESTS = {
     "shuffle": (
         "a shuffle of three axes",
         lambda: cubes([10] * 3, [10] * 3, '["sum",["shuffle",{a},[2,0,1]],[0,1,2]]'),
+    ),
+    "shuffle-six": (
+        "a shuffle of six axes",
+        lambda: cubes(
+            [10] * 3 + [1] * 3,
+            [1] * 3 + [10] * 3,
+            '["sum",["shuffle",{a},[5,1,4,3,0,2]],[0,1,2,3,4,5]]',
+        ),
     ),
     "steps-50": (
         "50 tiny steps",
@@ -132,6 +156,14 @@ REQUESTS = {
     "contraction-1024": (
         "a contraction of 1,024 by 1,024 by 1,024",
         lambda: squares(16, whole('["contract",{a},{a},[[1,0]]]')),
+    ),
+    "contraction-small": (
+        "a contraction of 512 by 512 by 512, of 32 bits",
+        lambda: squares(8, whole('["contract",{a},{a},[[1,0]]]'), bound=2**31),
+    ),
+    "contraction-pairs": (
+        "a contraction of two pairs of axes, 64 by 64 by 16,384",
+        lambda: cubes([64, 16, 4], [1, 8, 32], whole('["contract",{a},{a},[[1,1],[2,2]]]')),
     ),
     "convolution-3": (
         "a square of 1,024 under 3 by 3",

@@ -35,9 +35,9 @@ on_pairs o = two [] (λ none. pairwise o)
 abbrev pub over_axes : Reducer → Operation
 over_axes r = one (sizes ∷ []) (λ a. reduce r a.0)
 
--- the operations of the first version, by their names
-abbrev pub operations_1 : List (List ℕ × Operation)
-operations_1 =
+-- the operations that work each value out from those at its own place, by their names
+abbrev pub operations_on_values : List (List ℕ × Operation)
+operations_on_values =
     (codes "neg", on_each unary.Neg)
     ∷ (codes "abs", on_each unary.Abs)
     ∷ (codes "square", on_each unary.Square)
@@ -57,13 +57,23 @@ operations_1 =
     ∷ (codes "or", on_pairs binary.Or)
     ∷ (codes "select", three [] (λ none. select))
     ∷ (codes "constant", one (value ∷ []) (λ a. constant a.0))
-    ∷ (codes "broadcast", one (sizes ∷ []) (λ a. movement (broadcast a.0)))
+    ∷ []
+
+-- the movements
+abbrev pub movements : List (List ℕ × Operation)
+movements =
+    (codes "broadcast", one (sizes ∷ []) (λ a. movement (broadcast a.0)))
     ∷ (codes "slice", one (sizes ∷ sizes ∷ []) (λ a. movement (slice a.0 a.1.0)))
     ∷ (codes "shuffle", one (sizes ∷ []) (λ a. movement (shuffle a.0)))
     ∷ (codes "reshape", one (sizes ∷ []) (λ a. movement (reshape a.0)))
     ∷ (codes "chip", one (size ∷ size ∷ []) (λ a. movement (chip a.0 a.1.0)))
     ∷ (codes "reverse", one (flags ∷ []) (λ a. movement (reverse a.0)))
-    ∷ (codes "sum", over_axes Sum)
+    ∷ []
+
+-- the reductions and the contraction
+abbrev pub operations_along_axes : List (List ℕ × Operation)
+operations_along_axes =
+    (codes "sum", over_axes Sum)
     ∷ (codes "prod", over_axes Prod)
     ∷ (codes "maximum", over_axes Max)
     ∷ (codes "minimum", over_axes Min)
@@ -71,6 +81,10 @@ operations_1 =
     ∷ (codes "any", over_axes Any)
     ∷ (codes "contract", two (pairs ∷ []) (λ a. contract a.0))
     ∷ []
+
+-- the operations of the first version
+abbrev pub operations_1 : List (List ℕ × Operation)
+operations_1 = (operations_on_values ++ movements) ++ operations_along_axes
 
 -- those that the second version has beside them
 abbrev pub operations_added : List (List ℕ × Operation)

@@ -2,6 +2,7 @@
 
 ghost use Rattle.std.specs.Prelude.{◌≡◌, ◌⊎◌, option_map};
 ghost use Rattle.expr_reader.specs.Profile.{operation_named};
+ghost use Rattle.expr_reader.specs.Table.{operations_on_values, movements, operations_along_axes};
 ghost use Rattle.expr_reader.specs.Table.{operations_1, operations_added};
 ghost use Rattle.expr_reader.specs.Version.{operation_under};
 
@@ -63,9 +64,19 @@ impl Version {
     }
 }
 
-/// The operation of a name in every version.
+/// The operation of a name in every version. It is looked for in three tables, since each arm of a
+/// table is proved not to be one of those above it.
 fn first_operation(name: &str) -> Option<Operation>
     ensures { option_map operation_under result ≡ operation_named name.now operations_1 }
+{
+    operation_on_values(name)
+        .or(movement(name))
+        .or(operation_along_axes(name))
+}
+
+/// An operation that works each value out from those at its own place.
+fn operation_on_values(name: &str) -> Option<Operation>
+    ensures { option_map operation_under result ≡ operation_named name.now operations_on_values }
 {
     match name {
         "neg" => Some(Operation::One(Unary::Each(UnaryScalar::Neg))),
@@ -87,12 +98,30 @@ fn first_operation(name: &str) -> Option<Operation>
         "or" => Some(Operation::Two(Binary::Pairwise(BinaryScalar::Or))),
         "select" => Some(Operation::Select),
         "constant" => Some(Operation::One(Unary::Constant)),
+        _ => None,
+    }
+}
+
+/// A movement.
+fn movement(name: &str) -> Option<Operation>
+    ensures { option_map operation_under result ≡ operation_named name.now movements }
+{
+    match name {
         "broadcast" => Some(Operation::One(Unary::Broadcast)),
         "slice" => Some(Operation::One(Unary::Slice)),
         "shuffle" => Some(Operation::One(Unary::Shuffle)),
         "reshape" => Some(Operation::One(Unary::Reshape)),
         "chip" => Some(Operation::One(Unary::Chip)),
         "reverse" => Some(Operation::One(Unary::Reverse)),
+        _ => None,
+    }
+}
+
+/// A reduction, or the contraction.
+fn operation_along_axes(name: &str) -> Option<Operation>
+    ensures { option_map operation_under result ≡ operation_named name.now operations_along_axes }
+{
+    match name {
         "sum" => Some(Operation::One(Unary::Reduce(Reducer::Sum))),
         "prod" => Some(Operation::One(Unary::Reduce(Reducer::Prod))),
         "maximum" => Some(Operation::One(Unary::Reduce(Reducer::Max))),

@@ -1,9 +1,10 @@
 -- What a contraction is, as sums of products of rows.
-use Rattle.std.proofs.Common.{◌≡◌, ℕ, zero, suc, ℤ, pos, ◌+ℤ◌, ◌*ℤ◌, ◌*◌, ◌/◌, ◌%◌, ◌<◌, List}
+use Rattle.std.proofs.Common.{◌≡◌, ℕ, zero, suc, ℤ, pos, ◌+ℤ◌, ◌*ℤ◌, ◌*◌, ◌/◌, ◌%◌, ◌<◌, ◌≤◌, List}
 use Rattle.std.proofs.Common.{[], ◌∷◌, ◌++◌}
 use Rattle.std.proofs.Common.{length, map, take, drop, fold, refl, ap, sym, ◌∙◌, arith, add-one}
 use Rattle.std.proofs.Common.{IsOk, subst}
 use Rattle.std.specs.List.{range_with_len}
+use Rattle.std.proofs.lemmas.List.{length-map}
 use Rattle.std.proofs.lemmas.List.FromFn.{map-range_with_len_more}
 use Rattle.std.proofs.lemmas.List.Sums.{fold_push}
 use Rattle.std.proofs.lemmas.Simd.{map-map}
@@ -17,11 +18,22 @@ use Rattle.tensor_ops.specs.Contraction.{firsts, seconds, outer_dims, contracted
 use Rattle.tensor_ops.specs.Places.{value_in}
 use Rattle.tensor_ops.specs.Products.{sum_to, IsOperand, rows_dot}
 use Rattle.tensor_ops.specs.Woven.{dims_at, other_dims, woven}
+use Rattle.tensor_ops.proofs.Dropped.{length-axes}
 use Rattle.tensor_ops.proofs.Known.{contraction-known}
 use Rattle.tensor_ops.proofs.ProductSums.{sum_to-ext}
 use Rattle.tensor_ops.proofs.Splits.{size_of-append}
 use Rattle.tensor_ops.proofs.TilePlaces.{some_factor}
 use Rattle.tensor_ops.proofs.TwoParts.{take-index_of, drop-index_of}
+
+-- a contraction that has result dims pairs no more axes than its first operand has
+pub length-pairs : (pairs : List (ℕ × ℕ)) (ds es : List ℕ)
+    → IsOk (contracted_dims highest_rank pairs ds es) → length pairs ≤ length ds
+length-pairs pairs ds es has =
+    omega (
+      arith,
+      length-axes (length ds) (firsts pairs) (contraction-known pairs ds es has).first,
+      length-map pairs (λ pair. pair.0),
+    )
 
 -- a sum over a run of numbers
 pub fold-sum_to : (f : ℕ → ℤ) (n : ℕ) → fold ◌+ℤ◌ (pos 0) (map f (range_with_len 0 n)) ≡ sum_to f n

@@ -1,5 +1,5 @@
 -- The values of reductions and contractions, as their loops find them.
-use Rattle.std.proofs.Common.{◌≡◌, ℕ, ◌+◌, ◌-◌, ◌<◌, ◌/◌, ◌%◌, ℤ, pos, ◌+ℤ◌, ◌*ℤ◌, List, []}
+use Rattle.std.proofs.Common.{◌≡◌, ℕ, ◌+◌, ◌-◌, ◌<◌, ◌≤◌, ◌/◌, ◌%◌, ℤ, pos, ◌+ℤ◌, ◌*ℤ◌, List, []}
 use Rattle.std.proofs.Common.{length, map, take, true, IsOk, ap, subst, sym, ◌∙◌, arith}
 use Rattle.std.specs.Int.{w64}
 use Rattle.std.specs.List.{fold, range_with_len}
@@ -20,6 +20,7 @@ use Rattle.tensor_ops.specs.Value.{value, value_of_place}
 use Rattle.tensor_ops.specs.Woven.{among, dims_at, other_dims, woven}
 use Rattle.tensor_ops.specs.declared.cursor.Pairing.{Pairing}
 use Rattle.tensor_ops.specs.declared.reducer.Reducer.{Reducer}
+use Rattle.tensor_ops.proofs.Contractions.{length-pairs}
 use Rattle.tensor_ops.proofs.Dropped.{other_dims-among}
 use Rattle.tensor_ops.proofs.Combined.{along_dropped, product_at, fold-next, fold-last, wrap-next}
 use Rattle.tensor_ops.proofs.Combined.{reduced-fold, contracted-fold}
@@ -168,18 +169,20 @@ module _ (inputs : List Contents) where
       pub left : IsOk (dims_of highest_rank a inputs)
       pub right : IsOk (dims_of highest_rank b inputs)
       pub known : IsContraction pairs (shape_of a inputs) (shape_of b inputs)
+      pub few : length pairs ≤ length (shape_of a inputs)
       pub shape : shape_of (binary (contract pairs) a b) inputs
           ≡ outer_dims pairs (shape_of a inputs) (shape_of b inputs)
 
     pub contracted-known : IsOk (dims_of highest_rank (binary (contract pairs) a b) inputs) → IsContracted
     contracted-known h =
         let two = with_two-known (contracted_dims highest_rank pairs) (dims_of highest_rank a inputs) (dims_of highest_rank b inputs) h in
-        let known = contraction-known pairs (shape_of a inputs) (shape_of b inputs) (subst
-        (λ s. IsOk s) two.2 h) in
+        let has = subst (λ s. IsOk s) two.2 h in
+        let known = contraction-known pairs (shape_of a inputs) (shape_of b inputs) has in
         record {
           left = two.0;
           right = two.1;
           known = known;
+          few = length-pairs pairs (shape_of a inputs) (shape_of b inputs) has;
           shape =
               ap (λ s. result_unwrap_or s []) (two.2 ∙ known.dims);
         }

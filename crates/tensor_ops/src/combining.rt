@@ -13,13 +13,13 @@ use crate::walk::{Axis, Reading, Row, rows_of};
 use std::alloc::{AllocError, Global};
 
 /// How many places rows have at least where they are read one by one.
-const LONG_ROW: usize = 16;
+const SHORTEST_READ_ROW: usize = 16;
 
 /// Whether the rows along the first axis that has steps are long.
 pub(crate) fn has_long_rows(axes: &[Axis]) -> bool {
     for axis in axes {
         if axis.size != 1 {
-            return axis.size >= LONG_ROW;
+            return axis.size >= SHORTEST_READ_ROW;
         }
     }
     false

@@ -36,17 +36,6 @@ pub(crate) fn concatenated_dims(
     joined_dims(rank, axis as usize, firsts, seconds)
 }
 
-/// The result dims of a concatenation that has some.
-pub(crate) fn known_dims(axis: u64, first: &Dims, second: &Dims) -> Dims
-    requires { IsOk (concatenated_dims highest_rank axis first.now second.now) }
-    ensures { concatenated_dims highest_rank axis first.now second.now ≡ Ok result }
-{
-    match concatenated_dims(MAX_RANK, axis, first, second) {
-        Ok(dims) => dims,
-        Err(_) => unreachable!(),
-    }
-}
-
 /// Whether sizes are the same but along one axis.
 fn agree_but_at(axis: usize, firsts: &[u64], seconds: &[u64]) -> bool
     requires axis { axis < length firsts.now }

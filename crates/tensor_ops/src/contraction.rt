@@ -9,6 +9,7 @@ ghost use Rattle.tensor_ops.specs.Contraction.{firsts, seconds, contracted, cont
 ghost use Rattle.tensor_ops.specs.Contraction.{outer_dims};
 ghost use Rattle.tensor_ops.specs.Places.{value_in};
 
+use crate::contraction_dims::paired_axes;
 use crate::dots::Dots;
 use crate::rows::Rows;
 use crate::slid_dots::SlidDots;
@@ -24,7 +25,7 @@ use tensor_shape::Dims;
 const TILE: usize = 4;
 
 /// The shortest rows that are taken as slices. Shorter ones cost more to find than to pass.
-const LONG_ROW: usize = 64;
+const SHORTEST_STRIP: usize = 64;
 
 /// A contraction made ready to be evaluated by ranges of places. It is made once; all who work on
 /// ranges of it share it.
@@ -79,20 +80,21 @@ impl<'a> Contraction<'a> {
             (λ js. value_in (cow_slice_items second.entry) (place second_dims.now js))
             (index_of (outer_dims pairs.now first_dims.now second_dims.now) p)) }
     {
-        let (first_axes, second_axes) = axes_of(alloc, pairs)?;
-        let width = strip_width(first_dims, &first_axes);
-        let second_width = strip_width(second_dims, &second_axes);
+        let (firsts, seconds) = paired_axes(pairs, first_dims).unwrap();
+        let (first_axes, second_axes) = (firsts.as_slice(), seconds.as_slice());
+        let width = strip_width(first_dims, first_axes);
+        let second_width = strip_width(second_dims, second_axes);
         let (one, few) = (
             first.as_slice().len() == width,
             second.as_slice().len() < TILE * width,
         );
-        if LONG_ROW <= width && LONG_ROW <= second_width && (one || few) {
-            let left = Strips::of(alloc, first_dims, first, &first_axes)?;
-            let right = Strips::of(alloc, second_dims, second, &second_axes)?;
+        if SHORTEST_STRIP <= width && SHORTEST_STRIP <= second_width && (one || few) {
+            let left = Strips::of(alloc, first_dims, first, first_axes)?;
+            let right = Strips::of(alloc, second_dims, second, second_axes)?;
             return Ok(Contraction::InStrips(StripDots::of(left, right)));
         }
-        let first = Rows::of(alloc, first_dims, first, &first_axes)?;
-        let second = Rows::of(alloc, second_dims, second, &second_axes)?;
+        let first = Rows::of(alloc, first_dims, first, first_axes)?;
+        let second = Rows::of(alloc, second_dims, second, second_axes)?;
         if second.starts.len() < TILE {
             return Ok(Contraction::InDots(Dots::of(first, second)));
         }
@@ -133,18 +135,4 @@ impl<'a> Contraction<'a> {
             Contraction::InRuns(dots) => dots.fill(first, out),
         }
     }
-}
-
-/// The paired axes of the first operand, and those of the second.
-fn axes_of(alloc: Global, pairs: &[(u64, u64)]) -> Result<(Vec<u64>, Vec<u64>), AllocError>
-    ensures first { IfOk result (λ axes. axes.0.items ≡ firsts pairs.now) }
-    ensures second { IfOk result (λ axes. axes.1.items ≡ seconds pairs.now) }
-{
-    let mut first = Vec::with_capacity(alloc, pairs.len())?;
-    let mut second = Vec::with_capacity(alloc, pairs.len())?;
-    for pair in pairs {
-        first.push_reserved(pair.0);
-        second.push_reserved(pair.1);
-    }
-    Ok((first, second))
 }

@@ -36,9 +36,7 @@ pub(crate) fn convolution_of<'a>(
         (meaning_at operand.entry.placed operand.entry.dims)
         (meaning_at kernel.entry.placed kernel.entry.dims))) }
 {
-    let Ok(dims) = convolved_dims(axes, &operand.dims, &kernel.dims) else {
-        unreachable!()
-    };
+    let dims = convolved_dims(axes, &operand.dims, &kernel.dims).unwrap();
     let values = operand.placed.into_values(alloc, &operand.dims)?;
     let factors = kernel.placed.into_values(alloc, &kernel.dims)?;
     let runs = SlidRuns::under_kernel(alloc, axes, &operand.dims, values, &kernel.dims, &dims)?;

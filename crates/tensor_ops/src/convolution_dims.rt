@@ -60,8 +60,5 @@ fn slid_dims(axes: &[u64], kernel: &[u64], dims: &Dims) -> Dims
         let axis = axes[k] as usize;
         slid[axis] = sizes[axis] - kernel[k] + 1;
     }
-    match legal_dims(MAX_RANK, slid.as_slice()) {
-        Ok(dims) => dims,
-        Err(_) => unreachable!(),
-    }
+    legal_dims(MAX_RANK, slid.as_slice()).unwrap()
 }

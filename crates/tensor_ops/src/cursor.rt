@@ -198,9 +198,7 @@ fn convolved_at(axes: &[u64], a: &Expr, b: &Expr, inputs: &Inputs, place: u64) -
 {
     let dims = known_dims(a, inputs);
     let kernel = known_dims(b, inputs);
-    let Ok(slid) = convolved_dims(axes, &dims, &kernel) else {
-        unreachable!()
-    };
+    let slid = convolved_dims(axes, &dims, &kernel).unwrap();
     let mut value = 0;
     for inner in 0..kernel.size() {
         let read = slid_place(axes, &dims, &kernel, &slid, inner, place);
@@ -237,9 +235,7 @@ impl Pairing {
     {
         let first = known_dims(a, inputs);
         let second = known_dims(b, inputs);
-        let Some((firsts, seconds)) = paired_axes(pairs, &first) else {
-            unreachable!()
-        };
+        let (firsts, seconds) = paired_axes(pairs, &first).unwrap();
         let count = dims_at(firsts.as_slice(), &first).size();
         let outer = other_dims(firsts.as_slice(), &first).size();
         Pairing {
@@ -259,8 +255,5 @@ fn known_dims(expr: &Expr, inputs: &Inputs) -> Dims
     requires dims { IsOk (dims_of highest_rank (term_of expr.now) inputs.now.tensors) }
     ensures { result ≡ shape_of (term_of expr.now) inputs.now.tensors }
 {
-    match dims_within(MAX_RANK, expr, inputs) {
-        Ok(dims) => dims,
-        Err(_) => unreachable!(),
-    }
+    dims_within(MAX_RANK, expr, inputs).unwrap()
 }

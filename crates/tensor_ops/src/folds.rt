@@ -8,7 +8,7 @@ ghost use Rattle.tensor_ops.specs.Reduction.{combine};
 use crate::reducer::Reducer;
 
 /// The shortest row that is combined as a row. Shorter ones are combined value by value.
-const LONG_ROW: usize = 8;
+const SHORTEST_COMBINED_ROW: usize = 8;
 
 /// Combines with each value of a row those at its place in runs of rows. A run has so many rows, a
 /// step apart, and begins at an offset from where the row starts.
@@ -53,7 +53,7 @@ fn combine_run(
     ensures { IsCombined reducer row.old row.new
         (λ i t. value_in values.now (start + i + t * step)) run }
 {
-    if row.len() < LONG_ROW {
+    if row.len() < SHORTEST_COMBINED_ROW {
         combine_by_value(reducer, row, values, start, step, run);
     } else {
         combine_by_row(reducer, row, values, start, step, run);

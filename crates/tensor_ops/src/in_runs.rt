@@ -54,9 +54,7 @@ impl<'a> InRuns<'a> {
             }
             Node::Binary(Binary::Contract(pairs), first, second) => {
                 let (first, second) = place_two(alloc, first, second, tensors, &mut room)?;
-                let Some((firsts, seconds)) = paired_axes(pairs, &first.dims) else {
-                    unreachable!()
-                };
+                let (firsts, seconds) = paired_axes(pairs, &first.dims).unwrap();
                 let left = ValueRuns::along(alloc, firsts.as_slice(), first, &mut room)?;
                 let right = ValueRuns::along(alloc, seconds.as_slice(), second, &mut room)?;
                 Ok(InRuns::Multiplied(left, right))

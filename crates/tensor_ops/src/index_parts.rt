@@ -33,10 +33,7 @@ pub(crate) fn dims_at(axes: &[u64], dims: &Dims) -> Dims
     requires { are_axes (length dims.now) axes.now ≡ true }
     ensures { result ≡ dims_at axes.now dims.now }
 {
-    match shuffled_dims(axes, dims.as_slice()) {
-        Ok(dims) => dims,
-        Err(_) => unreachable!(),
-    }
+    shuffled_dims(axes, dims.as_slice()).unwrap()
 }
 
 /// The dims of the other axes.

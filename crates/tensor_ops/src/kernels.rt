@@ -38,9 +38,7 @@ pub(crate) fn reduction_of<'a>(
         (reduced reducer axes.now operand.entry.dims
         (meaning_at operand.entry.placed operand.entry.dims))) }
 {
-    let Ok(dims) = reduced_dims(axes, &operand.dims) else {
-        unreachable!()
-    };
+    let dims = reduced_dims(axes, &operand.dims).unwrap();
     let values = operand.placed.into_values(alloc, &operand.dims)?;
     let reduction = Reduction::of(alloc, reducer, &operand.dims, values, axes)?;
     Ok((reduction, dims))
@@ -65,9 +63,7 @@ pub(crate) fn contraction_of<'a>(
         (meaning_at first.entry.placed first.entry.dims)
         (meaning_at second.entry.placed second.entry.dims))) }
 {
-    let Ok(dims) = contracted_dims(MAX_RANK, pairs, &first.dims, &second.dims) else {
-        unreachable!()
-    };
+    let dims = contracted_dims(MAX_RANK, pairs, &first.dims, &second.dims).unwrap();
     let left = first.placed.into_values(alloc, &first.dims)?;
     let right = second.placed.into_values(alloc, &second.dims)?;
     let contraction = Contraction::of(alloc, &first.dims, left, &second.dims, right, pairs)?;

@@ -9,9 +9,9 @@ ghost use Rattle.tensor_ops.specs.Movement.{moved_dims, moved};
 ghost use Rattle.tensor_ops.specs.Movement.{wrapped, offset_by, scattered, mirrored, scaled};
 ghost use Rattle.tensor_ops.specs.Tree.{movement_at};
 
-use crate::movement_dims::{extend, known_dims};
+use crate::movement_dims::{extend, moved_dims};
 use crate::node::Movement;
-use tensor_shape::{Dims, PerAxis};
+use tensor_shape::{Dims, MAX_RANK, PerAxis};
 
 /// The place of the operand, of these dims, that is read for a place of the result.
 pub(crate) fn moved_place(movement: Movement<'_>, dims: &Dims, linear: u64) -> u64
@@ -23,7 +23,7 @@ pub(crate) fn moved_place(movement: Movement<'_>, dims: &Dims, linear: u64) -> u
         linear)) }
     ensures below { result < size_of dims.now }
 {
-    let shape = known_dims(movement, dims);
+    let shape = moved_dims(MAX_RANK, movement, dims).unwrap();
     let index = shape.index_of(linear);
     let read = moved(movement, dims, &shape, index.as_slice());
     dims.linear(read.as_slice())

@@ -35,17 +35,6 @@ pub(crate) fn moved_dims(
     }
 }
 
-/// The result dims of a movement that has some.
-pub(crate) fn known_dims(movement: Movement<'_>, dims: &Dims) -> Dims
-    requires { IsOk (moved_dims highest_rank (movement_at movement) dims.now) }
-    ensures { moved_dims highest_rank (movement_at movement.entry) dims.now ≡ Ok result }
-{
-    match moved_dims(MAX_RANK, movement, dims) {
-        Ok(dims) => dims,
-        Err(_) => unreachable!(),
-    }
-}
-
 fn broadcast_dims(rank: usize, counts: &[u64], dims: &Dims) -> Result<Dims, ExprFault>
     requires { rank ≤ highest_rank }
     ensures { result ≡ moved_dims rank (broadcast counts.now) dims.now }

@@ -20,17 +20,6 @@ pub(crate) fn pad_dims(rank: usize, pairs: &[(u64, u64)], dims: &Dims) -> Result
     padded_dims(rank, pairs, dims.as_slice())
 }
 
-/// The result dims of a pad that has some.
-pub(crate) fn known_dims(pairs: &[(u64, u64)], dims: &Dims) -> Dims
-    requires { IsOk (pad_dims highest_rank pairs.now dims.now) }
-    ensures { pad_dims highest_rank pairs.now dims.now ≡ Ok result }
-{
-    match pad_dims(MAX_RANK, pairs, dims) {
-        Ok(dims) => dims,
-        Err(_) => unreachable!(),
-    }
-}
-
 /// Each size, and what stands before and behind it. One past 64 bits is past the limit, too.
 fn padded_dims(rank: usize, pairs: &[(u64, u64)], sizes: &[u64]) -> Result<Dims, ExprFault>
     requires rank { rank ≤ highest_rank }

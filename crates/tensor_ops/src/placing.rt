@@ -20,7 +20,7 @@ use crate::convolution::place_convolution;
 use crate::expr::Expr;
 use crate::kernels::{place_contraction, place_reduction};
 use crate::loops::SelectOrder;
-use crate::movement_dims::known_dims;
+use crate::movement_dims::moved_dims;
 use crate::node::{Binary, Movement, Node, Ternary, Unary};
 use crate::operations::BinaryScalar;
 use crate::part::Part;
@@ -30,7 +30,7 @@ use crate::splicing::{place_concatenation, place_pad};
 use crate::tensors::Tensors;
 use crate::walk::Axis;
 use std::alloc::{AllocError, Global};
-use tensor_shape::Dims;
+use tensor_shape::{Dims, MAX_RANK};
 
 /// A placed expression that is read along axes from a start.
 #[derive(Drop)]
@@ -300,7 +300,7 @@ pub(crate) fn place_movement<'a>(
         meaning_at operand.entry.placed operand.entry.dims
         (moved (movement_at movement.entry) operand.entry.dims index))) }
 {
-    let dims = known_dims(movement, &operand.dims);
+    let dims = moved_dims(MAX_RANK, movement, &operand.dims).unwrap();
     let count = dims.size() as usize;
     if count == 0 {
         return Ok(Part {

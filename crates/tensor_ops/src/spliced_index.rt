@@ -7,9 +7,9 @@ ghost use Rattle.tensor_shape.specs.Legal.{highest_rank};
 ghost use Rattle.tensor_ops.specs.Concatenation.{joined_dims, concatenated_dims};
 ghost use Rattle.tensor_ops.specs.Padding.{padded_dims, pad_dims, is_inside, moved_back};
 
-use crate::padding_dims::known_dims;
+use crate::padding_dims::pad_dims;
 use crate::turns::Turns;
-use tensor_shape::{Dims, PerAxis};
+use tensor_shape::{Dims, MAX_RANK, PerAxis};
 
 /// The turns of a concatenation along an axis: the places of each operand along the axes up to it.
 pub(crate) fn turns_along(axis: u64, first: &Dims, second: &Dims) -> Turns
@@ -46,7 +46,7 @@ pub(crate) fn padded_place(pairs: &[(u64, u64)], dims: &Dims, linear: u64) -> Op
     ensures outside { IsNone result → is_inside pairs.now dims.now
         (index_of (padded_dims pairs.now dims.now) linear) ≡ false }
 {
-    let shape = known_dims(pairs, dims);
+    let shape = pad_dims(MAX_RANK, pairs, dims).unwrap();
     let index = shape.index_of(linear);
     let read = moved_back(pairs, dims.as_slice(), index.as_slice())?;
     Some(dims.linear(read.as_slice()))

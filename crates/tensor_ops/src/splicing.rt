@@ -10,13 +10,13 @@ ghost use Rattle.tensor_ops.specs.Padding.{padded, pad_dims};
 ghost use Rattle.tensor_ops.specs.Splicing.{padded_along};
 ghost use Rattle.tensor_ops.specs.Placing.{Gives, meaning_at};
 
-use crate::concatenation_dims::known_dims;
+use crate::concatenation_dims::concatenated_dims;
 use crate::movement_dims::extend;
 use crate::part::Part;
 use crate::placed::Placed;
 use crate::spliced_index::turns_along;
 use std::alloc::{AllocError, Global};
-use tensor_shape::{Dims, PerAxis};
+use tensor_shape::{Dims, MAX_RANK, PerAxis};
 
 /// A concatenation along an axis, placed.
 pub(crate) fn place_concatenation<'a>(
@@ -37,7 +37,7 @@ pub(crate) fn place_concatenation<'a>(
         (meaning_at first.entry.placed first.entry.dims)
         (meaning_at second.entry.placed second.entry.dims))) }
 {
-    let dims = known_dims(axis, &first.dims, &second.dims);
+    let dims = concatenated_dims(MAX_RANK, axis, &first.dims, &second.dims).unwrap();
     if dims.size() == 0 {
         return Ok(Part {
             placed: Placed::Same(0, 0),

@@ -59,9 +59,9 @@ impl Cut {
         requires { 0 < block }
         ensures { IfSome result (λ cut. IsTrue (has_parts (term_of_step reader.now))) }
     {
-        let places = first.dims().size().min(second.dims().size());
+        let come_as_read = comes_as_read(first) && comes_as_read(second);
         let is_product = is_contraction(reader.expr()) && has_parts(reader.expr());
-        if places <= SHORT || reader.dims().size() != 1 || !is_product {
+        if !come_as_read || reader.dims().size() != 1 || !is_product {
             return None;
         }
         Some(Cut {
@@ -79,7 +79,7 @@ impl Cut {
     {
         let values = reader.dims().size();
         let places = operand.dims().size();
-        if places <= SHORT || !has_parts(reader.expr()) {
+        if !comes_as_read(operand) || !has_parts(reader.expr()) {
             return None;
         }
         if values == 1 || values <= FEW_VALUES && is_reduction(reader.expr()) {
@@ -156,6 +156,17 @@ pub(crate) fn reducer_of(expr: &Expr) -> Reducer
         Node::Unary(Unary::Reduce(reducer, _), _) => reducer,
         _ => Reducer::Sum,
     }
+}
+
+/// Whether a step has many values, each of which can be worked out as it is read. Those of a step
+/// that combines are worked out together, by all workers.
+fn comes_as_read(step: &Step) -> bool {
+    let combines = matches!(
+        step.expr().node(),
+        Node::Unary(Unary::Reduce(_, _), _)
+            | Node::Binary(Binary::Contract(_) | Binary::Convolve(_), _, _)
+    );
+    step.dims().size() > SHORT && !combines
 }
 
 /// Whether an expression is a reduction.

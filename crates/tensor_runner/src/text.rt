@@ -11,7 +11,7 @@ use std::alloc::{AllocError, Global};
 
 /// How many numbers are printed at a time, so that their values and their text stay in the same
 /// few pages.
-const PIECE: usize = 4_096;
+const NUMBERS_AT_ONCE: usize = 4_096;
 
 /// Appends `{"data":[..],"dims":[..]}` and a line feed.
 pub(crate) fn push_tensor(
@@ -32,9 +32,9 @@ pub(crate) fn push_tensor(
 fn push_data(alloc: Global, numbers: &[i64], line: &mut Vec<u8>) -> Result<(), AllocError>
     ensures { OnOk result (line.new.items ≡ line.old.items ++ numbers_text numbers.now) }
 {
-    let (first, rest) = numbers.split_at(numbers.len().min(PIECE));
+    let (first, rest) = numbers.split_at(numbers.len().min(NUMBERS_AT_ONCE));
     push_piece(alloc, first, line)?;
-    for piece in rest.chunks(PIECE) {
+    for piece in rest.chunks(NUMBERS_AT_ONCE) {
         line.push(b',')?;
         push_piece(alloc, piece, line)?;
     }

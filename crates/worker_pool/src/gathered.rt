@@ -1,5 +1,5 @@
 //! What comes home from those that worked in a pool.
-ghost use Rattle.std.specs.Prelude.{ℕ, ◌+◌, IfOk};
+ghost use Rattle.std.specs.Prelude.{◌≡◌, ℕ, ◌+◌, [], vec_capacity, IfOk};
 
 use crate::job::Job;
 use crate::worker::WorkerState;
@@ -39,9 +39,9 @@ where
         ensures room { IfOk result (HasRoom count) }
     {
         Ok(Gathered {
-            rows: Vec::with_capacity(alloc.clone()?, count)?,
-            wakers: Vec::with_capacity(alloc.clone()?, count)?,
-            lists: Vec::with_capacity(alloc.clone()?, count)?,
+            rows: room(alloc, count)?,
+            wakers: room(alloc, count)?,
+            lists: room(alloc, count)?,
             refused: 0,
         })
     }
@@ -63,4 +63,12 @@ where
         self.lists.push_reserved(outs);
         self.refused = self.refused.saturating_add(refused);
     }
+}
+
+/// An empty list with room for so many.
+fn room<T: Drop, A: Allocator + Clone>(alloc: &A, count: usize) -> Result<Vec<T, A>, AllocError>
+    ensures empty { IfOk result (λ list. list.items ≡ []) }
+    ensures room { IfOk result (λ list. vec_capacity list ≡ count) }
+{
+    Vec::with_capacity(alloc.clone()?, count)
 }

@@ -1,98 +1,20 @@
-use Rattle.std.proofs.Common.{refl}
+use Rattle.std.proofs.Common.{◌++◌, refl}
+use Rattle.expr_reader.specs.Table.{operations_on_values, movements, operations_along_axes}
+use Rattle.expr_reader.specs.Version.{operation_under}
+use Rattle.expr_reader.proofs.Operations.{operation_named-append, option_map-or}
 use Rattle.expr_reader.proofs.version.first_operation.Goals as goal
 
-pub returns-in-neg : goal.returns-in-neg
-returns-in-neg c = rw c.in-neg.is refl
-
-pub returns-in-abs : goal.returns-in-abs
-returns-in-abs c = rw c.in-abs.is refl
-
-pub returns-in-square : goal.returns-in-square
-returns-in-square c = rw c.in-square.is refl
-
-pub returns-in-not : goal.returns-in-not
-returns-in-not c = rw c.in-not.is refl
-
-pub returns-in-add : goal.returns-in-add
-returns-in-add c = rw c.in-add.is refl
-
-pub returns-in-sub : goal.returns-in-sub
-returns-in-sub c = rw c.in-sub.is refl
-
-pub returns-in-mul : goal.returns-in-mul
-returns-in-mul c = rw c.in-mul.is refl
-
-pub returns-in-cwise_max : goal.returns-in-cwise_max
-returns-in-cwise_max c = rw c.in-cwise_max.is refl
-
-pub returns-in-cwise_min : goal.returns-in-cwise_min
-returns-in-cwise_min c = rw c.in-cwise_min.is refl
-
-pub returns-in-lt : goal.returns-in-lt
-returns-in-lt c = rw c.in-lt.is refl
-
-pub returns-in-le : goal.returns-in-le
-returns-in-le c = rw c.in-le.is refl
-
-pub returns-in-eq : goal.returns-in-eq
-returns-in-eq c = rw c.in-eq.is refl
-
-pub returns-in-ne : goal.returns-in-ne
-returns-in-ne c = rw c.in-ne.is refl
-
-pub returns-in-gt : goal.returns-in-gt
-returns-in-gt c = rw c.in-gt.is refl
-
-pub returns-in-ge : goal.returns-in-ge
-returns-in-ge c = rw c.in-ge.is refl
-
-pub returns-in-and : goal.returns-in-and
-returns-in-and c = rw c.in-and.is refl
-
-pub returns-in-or : goal.returns-in-or
-returns-in-or c = rw c.in-or.is refl
-
-pub returns-in-select : goal.returns-in-select
-returns-in-select c = rw c.in-select.is refl
-
-pub returns-in-constant : goal.returns-in-constant
-returns-in-constant c = rw c.in-constant.is refl
-
-pub returns-in-broadcast : goal.returns-in-broadcast
-returns-in-broadcast c = rw c.in-broadcast.is refl
-
-pub returns-in-slice : goal.returns-in-slice
-returns-in-slice c = rw c.in-slice.is refl
-
-pub returns-in-shuffle : goal.returns-in-shuffle
-returns-in-shuffle c = rw c.in-shuffle.is refl
-
-pub returns-in-reshape : goal.returns-in-reshape
-returns-in-reshape c = rw c.in-reshape.is refl
-
-pub returns-in-chip : goal.returns-in-chip
-returns-in-chip c = rw c.in-chip.is refl
-
-pub returns-in-reverse : goal.returns-in-reverse
-returns-in-reverse c = rw c.in-reverse.is refl
-
-pub returns-in-sum : goal.returns-in-sum
-returns-in-sum c = rw c.in-sum.is refl
-
-pub returns-in-prod : goal.returns-in-prod
-returns-in-prod c = rw c.in-prod.is refl
-
-pub returns-in-maximum : goal.returns-in-maximum
-returns-in-maximum c = rw c.in-maximum.is refl
-
-pub returns-in-minimum : goal.returns-in-minimum
-returns-in-minimum c = rw c.in-minimum.is refl
-
-pub returns-in-all : goal.returns-in-all
-returns-in-all c = rw c.in-all.is refl
-
-pub returns-in-any : goal.returns-in-any
-returns-in-any c = rw c.in-any.is refl
-
-pub returns-in-contract : goal.returns-in-contract
-returns-in-contract c = rw c.in-contract.is refl
+pub returns : goal.returns
+returns c =
+    rw (
+      c.or-2.ensures,
+      option_map-or operation_under c.or.result c.operation_along_axes.result,
+      c.or.ensures,
+      option_map-or operation_under c.operation_on_values.result c.movement.result,
+      c.operation_on_values.ensures,
+      c.movement.ensures,
+      c.operation_along_axes.ensures,
+      operation_named-append c.args.name.now (operations_on_values ++ movements) operations_along_axes,
+      operation_named-append c.args.name.now operations_on_values movements,
+    )
+    refl

@@ -15,7 +15,7 @@ returns c =
     let axes = c.args.axes.now in
     let ds = c.args.operand.dims in
     let ks = c.args.kernel.dims in
-    let rs = c.in-Ok.dims in
+    let rs = c.unwrap-dims.result in
     let values = cow_slice_items c.in_ok-values.values in
     let factors = cow_slice_items c.in_ok-factors.factors in
     let runs = c.in_ok-runs.runs in
@@ -23,11 +23,11 @@ returns c =
     let made = InRuns c.of.result in
     let whole : contraction_count made ≡ slid_count runs = c.of.ensures.count in
     record {
-      dims = sym c.in-Ok.ensures;
+      dims = sym c.convolved_dims.ensures ∙ c.unwrap-dims.ensures;
       values = values-convolved axes ds ks rs (length values) (length factors)
           (contraction_count made) (value_in values) (value_in factors) (contraction_value made)
           (meaning_at c.args.operand.placed ds) (meaning_at c.args.kernel.placed ks)
-          (sym c.in-Ok.ensures) c.in_ok-values.ensures c.in_ok-factors.ensures
+          (sym c.convolved_dims.ensures ∙ c.unwrap-dims.ensures) c.in_ok-values.ensures c.in_ok-factors.ensures
           (whole ∙ c.in_ok-runs.ensures.count)
           (λ p below.
           c.of.ensures.value p

@@ -52,8 +52,8 @@ bounds-deref_mut-axis c =
           (omega arith),
     )
 
-pub unreachable-requires : goal.unreachable-requires
-unreachable-requires c =
+pub unwrap-requires : goal.unwrap-requires
+unwrap-requires c =
     let all : c.loop-k.k ≡ 0 = omega arith in
     let whole = c.as_slice.ensures.value ∙ rw all at c.loop-k.invariant.0
     ∙ ap (slid_dims c.args.axes.now c.args.kernel.now) c.as_slice-sizes.ensures.value in

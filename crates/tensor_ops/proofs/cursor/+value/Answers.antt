@@ -206,8 +206,8 @@ contracted_at-returns t c =
     (to_z w64 c.loop-inner.value-bits)
     c.loop-inner.inner _ c.args.place fits (omega arith) c.loop-inner.invariant
 
-pub convolved_at-unreachable-requires : goal.convolved_at-unreachable-requires
-convolved_at-unreachable-requires t c =
+pub convolved_at-unwrap-slid-requires : goal.convolved_at-unwrap-slid-requires
+convolved_at-unwrap-slid-requires t c =
     let known = convolved-known c.args.inputs.now.tensors c.args.axes.now (term_of c.args.a.now)
     (term_of c.args.b.now) c.requires.dims in
     let found = rw (c.known_dims-dims.ensures, c.known_dims-kernel.ensures, known.dims)
@@ -218,12 +218,12 @@ pub convolved_at-slid_place-read-requires-clause-outer :
     goal.convolved_at-slid_place-read-requires-clause-outer
 convolved_at-slid_place-read-requires-clause-outer t c =
     let over : SlidOver c.args.inputs.now.tensors c.args.axes.now (term_of c.args.a.now)
-    (term_of c.args.b.now) c.known_dims-dims.result c.known_dims-kernel.result c.in-Ok.slid
+    (term_of c.args.b.now) c.known_dims-dims.result c.known_dims-kernel.result c.unwrap-slid.result
     c.size-inner-end.result =
     record {
       operand = c.known_dims-dims.ensures;
       kernel = c.known_dims-kernel.ensures;
-      dims = sym c.in-Ok.ensures;
+      dims = sym c.convolved_dims.ensures ∙ c.unwrap-slid.ensures;
       whole = c.size-inner-end.ensures.value;
     } in
     slid-outer _ _ _ _ c.requires.dims _ _ _ _ c.args.place over c.requires.below
@@ -231,12 +231,12 @@ convolved_at-slid_place-read-requires-clause-outer t c =
 pub convolved_at-loop-inner-init : goal.convolved_at-loop-inner-init
 convolved_at-loop-inner-init t c =
     let over : SlidOver c.args.inputs.now.tensors c.args.axes.now (term_of c.args.a.now)
-    (term_of c.args.b.now) c.known_dims-dims.result c.known_dims-kernel.result c.in-Ok.slid
+    (term_of c.args.b.now) c.known_dims-dims.result c.known_dims-kernel.result c.unwrap-slid.result
     c.size-inner-end.result =
     record {
       operand = c.known_dims-dims.ensures;
       kernel = c.known_dims-kernel.ensures;
-      dims = sym c.in-Ok.ensures;
+      dims = sym c.convolved_dims.ensures ∙ c.unwrap-slid.ensures;
       whole = c.size-inner-end.ensures.value;
     } in
     slid-init _ _ _ _ _ _ _ _ c.args.place over
@@ -248,12 +248,12 @@ convolved_at-loop-inner-preserved t c =
     let fits_product : SFits w64 c.combined.result = search rules in
     let fits : SFits w64 c.combined-value.result = search rules in
     let over : SlidOver c.args.inputs.now.tensors c.args.axes.now (term_of c.args.a.now)
-    (term_of c.args.b.now) c.known_dims-dims.result c.known_dims-kernel.result c.in-Ok.slid
+    (term_of c.args.b.now) c.known_dims-dims.result c.known_dims-kernel.result c.unwrap-slid.result
     c.size-inner-end.result =
     record {
       operand = c.known_dims-dims.ensures;
       kernel = c.known_dims-kernel.ensures;
-      dims = sym c.in-Ok.ensures;
+      dims = sym c.convolved_dims.ensures ∙ c.unwrap-slid.ensures;
       whole = c.size-inner-end.ensures.value;
     } in
     slid-next _ _ _ _ c.requires.dims _ _ _ _ _ _ _ _ _ _ _ over c.loop-inner-test.true

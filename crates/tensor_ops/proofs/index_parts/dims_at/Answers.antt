@@ -16,8 +16,8 @@ shuffled_dims-requires-clause-axes c = λ k within.
     rw c.as_slice.ensures.value (get_or-are_axes
     (length c.args.dims.now) k c.args.axes.now c.requires within)
 
-pub unreachable-requires : goal.unreachable-requires
-unreachable-requires c =
+pub unwrap-requires : goal.unwrap-requires
+unwrap-requires c =
     let legal = are_legal-axes c.args.dims.now c.args.axes.now c.as_slice.ensures.legal c.requires
     in
     let found = rw (c.as_slice.ensures.value, legal) at c.shuffled_dims.ensures in

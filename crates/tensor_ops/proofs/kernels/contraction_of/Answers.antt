@@ -1,4 +1,4 @@
-use Rattle.std.proofs.Common.{length, sym}
+use Rattle.std.proofs.Common.{length, sym, ◌∙◌}
 use Rattle.std.specs.Cow.{cow_slice_items}
 use Rattle.tensor_ops.specs.Contracting.{contraction_count, contraction_value}
 use Rattle.tensor_ops.specs.Places.{value_in}
@@ -12,12 +12,12 @@ returns c =
     let first = cow_slice_items c.in_ok-left.left in
     let second = cow_slice_items c.in_ok-right.right in
     record {
-      dims = sym c.in-Ok.ensures;
-      values = values-contracted c.args.pairs.now c.args.first.dims c.args.second.dims c.in-Ok.dims
+      dims = sym c.contracted_dims.ensures ∙ c.unwrap-dims.ensures;
+      values = values-contracted c.args.pairs.now c.args.first.dims c.args.second.dims c.unwrap-dims.result
           (length first) (length second) (contraction_count made) (value_in first)
           (value_in second) (contraction_value made)
           (meaning_at c.args.first.placed c.args.first.dims)
-          (meaning_at c.args.second.placed c.args.second.dims) (sym c.in-Ok.ensures)
+          (meaning_at c.args.second.placed c.args.second.dims) (sym c.contracted_dims.ensures ∙ c.unwrap-dims.ensures)
           c.in_ok-left.ensures c.in_ok-right.ensures c.in_ok-contraction.ensures.count
           c.in_ok-contraction.ensures.each;
     }

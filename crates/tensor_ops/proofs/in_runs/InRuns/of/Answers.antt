@@ -1,14 +1,11 @@
-use Rattle.std.proofs.Common.{◌≡◌, ◌≤◌, ℕ, List, length, IsOk, ap, sym, subst, ◌∙◌, arith}
-use Rattle.std.proofs.lemmas.List.{length-map}
+use Rattle.std.proofs.Common.{◌≡◌, List, length, IsOk, ap, sym, subst, ◌∙◌}
 use Rattle.tensor_shape.specs.Legal.{highest_rank}
 use Rattle.tensor_ops.specs.Contents.{Contents}
-use Rattle.tensor_ops.specs.Contraction.{firsts}
-use Rattle.tensor_ops.specs.Result.{dims_of, shape_of}
+use Rattle.tensor_ops.specs.Result.{dims_of}
 use Rattle.tensor_ops.specs.Tensors.{tensors_in}
 use Rattle.tensor_ops.specs.Term.{unary, binary, reduce, contract}
 use Rattle.tensor_ops.specs.Tree.{term_of, unary_at, binary_at}
 use Rattle.tensor_ops.specs.Woven.{among}
-use Rattle.tensor_ops.proofs.Dropped.{length-axes}
 use Rattle.tensor_ops.proofs.Others.{are_axes-among}
 use Rattle.tensor_ops.proofs.PartValues.{gives-reduced, gives-contracted}
 use Rattle.tensor_ops.proofs.Terms.{contracted-known}
@@ -37,9 +34,10 @@ along-requires-clause-axes c =
     (are_axes-among c.in-Unary-Reduce-default.axes.now
     (length c.in_ok-operand-in-Unary-Reduce-default.operand.dims))
 
-pub unreachable-requires : goal.unreachable-requires
-unreachable-requires c =
+pub unwrap-firsts-requires : goal.unwrap-firsts-requires
+unwrap-firsts-requires c =
     let arm = c.in-Binary-Contract-default-default in
+    let both = c.in_ok-first-in-Binary-Contract-default-default in
     let ts : List Contents = tensors_in c.args.tensors in
     let node : binary (contract arm.pairs.now) (term_of arm.first.now) (term_of arm.second.now)
     ≡ term_of c.args.expr.now =
@@ -48,17 +46,7 @@ unreachable-requires c =
     let has_dims = subst (λ t. IsOk (dims_of highest_rank t ts)) (sym node) c.requires.dims in
     let known = contracted-known ts arm.pairs.now (term_of arm.first.now) (term_of arm.second.now)
     has_dims in
-    let ds : List ℕ = shape_of (term_of arm.first.now) ts in
-    let few : length arm.pairs.now
-    ≤ length c.in_ok-first-in-Binary-Contract-default-default.first.dims =
-    omega (
-      arith,
-      length-axes (length ds) (firsts arm.pairs.now) known.known.first,
-      length-map arm.pairs.now (λ pair. pair.0),
-      ap length c.in_ok-first-in-Binary-Contract-default-default.ensures.first_dims,
-    ) in
-    let bad = c.in_default-paired_axes.ensures.some.1 few in
-    (cc)
+    c.paired_axes.ensures.some.1 (rw both.ensures.first_dims known.few)
 
 pub returns-in_ok-right-in-Binary-Contract-default-default :
     goal.returns-in_ok-right-in-Binary-Contract-default-default
@@ -80,7 +68,7 @@ returns-in_ok-right-in-Binary-Contract-default-default c =
     c.in_ok-left-in-Binary-Contract-default-default.left
     c.in_ok-right-in-Binary-Contract-default-default.right
     has_dims both.ensures.first both.ensures.first_dims both.ensures.second both.ensures.second_dims
-    (c.as_slice-in-Binary-Contract-default-default.ensures.value ∙ c.in-Some.ensures.first)
+    (c.as_slice-in-Binary-Contract-default-default.ensures.value ∙ (rw c.unwrap-firsts.ensures at c.paired_axes.ensures.first))
     c.in_ok-left-in-Binary-Contract-default-default.ensures
-    (c.as_slice-in-Binary-Contract-default-default-2.ensures.value ∙ c.in-Some.ensures.second)
+    (c.as_slice-in-Binary-Contract-default-default-2.ensures.value ∙ (rw c.unwrap-firsts.ensures at c.paired_axes.ensures.second))
     c.in_ok-right-in-Binary-Contract-default-default.ensures)
