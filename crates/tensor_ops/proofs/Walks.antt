@@ -20,6 +20,21 @@ row-of_row d q i below =
     let some : 0 < d = omega arith in
     add-mul-div_left i q some ∙ ap (λ r. r + q) (div-eq_of_lt below) ∙ omega arith
 
+-- a row's first place tells which row it is
+pub first-of-row : (d first q : ℕ) → 0 < d → first ≡ d * q → first / d ≡ q
+first-of-row d first q some is = ap (λ n. n / d) (omega (arith, is)) ∙ row-of_row d q 0 some
+
+-- and so does each place that isn't a row away from it
+pub row-of-first : (d first place : ℕ) → first ≡ d * (first / d) → first ≤ place
+    → place - first < d → place / d ≡ first / d
+row-of-first d first place is above below =
+    let at : place ≡ place - first + d * (first / d) = omega (arith, is, above) in
+    ap (λ n. n / d) at ∙ row-of_row d (first / d) (place - first) below
+
+-- how far a place is from its row's first
+pub index-from-first : (d first place : ℕ) → first ≡ d * (place / d) → place - first ≡ place % d
+index-from-first d first place is = omega (arith, is, mod-add-div place d)
+
 pub mul-next : (d q r : ℕ) → d * (q + (r + 1)) ≡ d * (q + r) + d
 mul-next d q r = grind arith
 
