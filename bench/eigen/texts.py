@@ -158,11 +158,11 @@ REQUESTS = {
         lambda: squares(16, whole('["contract",{a},{a},[[1,0]]]')),
     ),
     "contraction-small": (
-        "a contraction of 512 by 512 by 512, of 32 bits",
+        "a contraction of 512, of 32 bits",
         lambda: squares(8, whole('["contract",{a},{a},[[1,0]]]'), bound=2**31),
     ),
     "contraction-pairs": (
-        "a contraction of two pairs of axes, 64 by 64 by 16,384",
+        "a contraction of two pairs of axes",
         lambda: cubes([64, 16, 4], [1, 8, 32], whole('["contract",{a},{a},[[1,1],[2,2]]]')),
     ),
     "convolution-3": (
