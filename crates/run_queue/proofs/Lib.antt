@@ -1,4 +1,5 @@
 pub mod Closing
+pub mod Faults
 pub mod InRows
 pub mod Keeps
 pub mod Lengths

@@ -6,6 +6,7 @@ ghost use Rattle.run_queue.specs.Limits.{most_jobs};
 ghost use Rattle.run_queue.specs.Grid.{row_of};
 
 use crate::deque::{Deque, ROW_JOBS};
+use crate::room::room_for;
 use std::alloc::{AllocError, Allocator};
 use std::marker::Model;
 
@@ -28,16 +29,13 @@ impl<J, A: Allocator> Model for DequeRows<J, A> {
 
 impl<J: Drop, A: Allocator> DequeRows<J, A> {
     /// Empty rows.
-    pub(crate) fn new(alloc: A, count: u16) -> Result<Self, AllocError>
+    pub(crate) fn new(alloc: &A, count: u16) -> Result<Self, AllocError>
     where
         A: Clone,
         ensures { IfOk result (λ rows. rows ≡ replicate count []) }
     {
-        let left = Vec::with_capacity(alloc.clone()?, usize::from(count) * ROW_JOBS)?;
-        let mut deques = Vec::with_capacity(alloc.clone()?, usize::from(count))?;
-        for _ in 0..count {
-            deques.push_reserved(Deque::new(alloc.clone()?)?);
-        }
+        let left = room_for(alloc, usize::from(count) * ROW_JOBS)?;
+        let deques = empty_deques(alloc, count)?;
         Ok(DequeRows { deques, left })
     }
 
@@ -113,4 +111,18 @@ impl<J: Drop, A: Allocator> DequeRows<J, A> {
         }
         left
     }
+}
+
+// So many empty rows.
+fn empty_deques<J: Drop, A: Allocator + Clone>(
+    alloc: &A,
+    count: u16,
+) -> Result<Vec<Deque<J, A>, A>, AllocError>
+    ensures { IfOk result (λ deques. deques.items ≡ replicate count []) }
+{
+    let mut deques = room_for(alloc, usize::from(count))?;
+    for _ in 0..count {
+        deques.push_reserved(Deque::new(alloc.clone()?)?);
+    }
+    Ok(deques)
 }

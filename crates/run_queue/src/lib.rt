@@ -5,6 +5,7 @@
 mod deque;
 mod deque_rows;
 mod locked_rows;
+mod room;
 mod rows;
 mod slot_rows;
 

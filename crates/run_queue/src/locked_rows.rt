@@ -67,7 +67,7 @@ impl<J: Drop, A: Allocator + Clone> Rows<J, A> for LockedRows<J, A> {
         if rows > MOST_ROWS {
             return Err(RowsFault::TooManyRows);
         }
-        let deques = Mutex::new(DequeRows::new(alloc.clone()?, rows)?);
+        let deques = Mutex::new(DequeRows::new(&alloc, rows)?);
         let seats = seats(alloc, u32::from(rows) + u32::from(outsiders))?;
         Ok((
             LockedRows {

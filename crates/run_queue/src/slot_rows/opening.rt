@@ -4,11 +4,13 @@ ghost use Rattle.std.specs.Prelude.{◌*◌, replicate, vec_len, vec_capacity};
 ghost use Rattle.std.specs.List.{range_with_len};
 ghost use Rattle.run_queue.specs.Limits.{most_rows, most_jobs};
 ghost use Rattle.run_queue.specs.Elements.{empty_word};
+ghost use Rattle.run_queue.specs.Lengths.{length_word};
 ghost use Rattle.run_queue.specs.Views.{fresh};
 ghost use Rattle.run_queue.specs.SlotSeats.{rows_id, row_count_of, seat_count_of, table_of};
 ghost use Rattle.run_queue.specs.SlotSeats.{number_in, puts_of, takes_of, front_of};
 
 use crate::deque::ROW_JOBS;
+use crate::room::room_for;
 use crate::rows::{MOST_ROWS, RowsFault};
 use crate::slot_rows::reserve::Reserve;
 use crate::slot_rows::rule::{Deals, EMPTY, LINE_WORDS, Law};
@@ -39,16 +41,9 @@ impl<J: Drop, A: Allocator + Clone> SlotRows<J, A> {
         if rows > MOST_ROWS {
             return Err(RowsFault::TooManyRows);
         }
-        let count = usize::from(rows) * ROW_JOBS;
-        let seats = u32::from(rows) + u32::from(outsiders);
-        let backs = backs(alloc.clone()?, rows)?;
-        let left = Reserve::new(alloc.clone()?, count)?;
-        // A line behind the last length is the table's too, and so a table of no rows has words.
-        let word_count = count + LINE_WORDS * (usize::from(rows) + 1) + 1;
-        let words = empty_words(alloc.clone()?, word_count)?;
-        let list = Vec::with_capacity(alloc.clone()?, seats as usize)?;
-        let (table, keeper) = Table::vacant(alloc, words.as_slice(), count, &seats)?;
-        let list = deal(&table.shared, keeper, seats, list);
+        let backs = backs(&alloc, rows)?;
+        let left = Reserve::new(&alloc, usize::from(rows) * ROW_JOBS)?;
+        let (table, seats) = seated(alloc, rows, u32::from(rows) + u32::from(outsiders))?;
         Ok((
             SlotRows {
                 rows,
@@ -56,25 +51,58 @@ impl<J: Drop, A: Allocator + Clone> SlotRows<J, A> {
                 backs,
                 left,
             },
-            list,
+            seats,
         ))
     }
 }
 
+// A table for so many rows with nothing in them, and its seats.
+fn seated<J: Drop, A: Allocator + Clone>(
+    alloc: A,
+    rows: u16,
+    seats: u32,
+) -> Result<
+    (
+        Table<Option<J>, View<J>, u32, Law<J>, A>,
+        Vec<SlotSeat<J>, A>,
+    ),
+    AllocError,
+>
+    requires few { rows ≤ most_rows }
+    ensures words { IfOk result (λ r.
+        length_word (rows * most_jobs) rows < r.0.shared.table_id.words) }
+    ensures slots { IfOk result (λ r. r.0.shared.table_id.slots ≡ rows * most_jobs) }
+    ensures seats { IfOk result (λ r. r.0.shared.key ≡ seats) }
+    ensures numbers { IfOk result (λ r. map number_in r.1.items ≡ range_with_len 0 seats) }
+    ensures ours { IfOk result (λ r. All (λ s. table_of s ≡ r.0.shared.table_id) r.1.items) }
+    ensures accounts { IfOk result (λ r.
+        All (λ s. (puts_of s ≡ []) × (takes_of s ≡ [])) r.1.items) }
+    ensures fronts { IfOk result (λ r. All (λ s. front_of s ≡ 0) r.1.items) }
+{
+    let count = usize::from(rows) * ROW_JOBS;
+    // A line behind the last length is the table's too, and so a table of no rows has words.
+    let word_count = count + LINE_WORDS * (usize::from(rows) + 1) + 1;
+    let words = empty_words(&alloc, word_count)?;
+    let list = room_for(&alloc, seats as usize)?;
+    let (table, keeper) = Table::vacant(alloc, words.as_slice(), count, &seats)?;
+    let list = deal(&table.shared, keeper, seats, list);
+    Ok((table, list))
+}
+
 // So many words, each of an empty element or the length of a row with nothing in it.
-fn empty_words<A: Allocator>(alloc: A, count: usize) -> Result<Vec<u64, A>, AllocError>
+fn empty_words<A: Allocator + Clone>(alloc: &A, count: usize) -> Result<Vec<u64, A>, AllocError>
     ensures { IfOk result (λ words. words.items ≡ replicate count empty_word) }
 {
-    let mut words = Vec::with_capacity(alloc, count)?;
+    let mut words = room_for(alloc, count)?;
     words.resize(count, EMPTY)?;
     Ok(words)
 }
 
 // The backs of so many rows, each at its first position.
-fn backs<A: Allocator>(alloc: A, count: u16) -> Result<Vec<Mutex<Back>, A>, AllocError>
+fn backs<A: Allocator + Clone>(alloc: &A, count: u16) -> Result<Vec<Mutex<Back>, A>, AllocError>
     ensures { IfOk result (λ backs. vec_len backs ≡ count) }
 {
-    let mut backs = Vec::with_capacity(alloc, usize::from(count))?;
+    let mut backs = room_for(alloc, usize::from(count))?;
     for _ in 0..count {
         backs.push_reserved(Mutex::new(Back { at: 0 }));
     }

@@ -1,6 +1,7 @@
 //! Room for a list, kept where threads share it.
 ghost use Rattle.std.specs.Prelude.{◌≡◌, ◌≤◌, ℕ, [], vec_capacity, IfOk};
 
+use crate::room::room_for;
 use atomic_table::{Table, TableRule};
 use std::alloc::{AllocError, Allocator};
 use std::marker::{Model, PhantomData};
@@ -38,15 +39,15 @@ impl<J, A: Allocator> Model for Reserve<J, A> {
 
 impl<J: Drop, A: Allocator> Reserve<J, A> {
     /// Room for so many elements.
-    pub(crate) fn new(alloc: A, room: usize) -> Result<Self, AllocError>
+    pub(crate) fn new(alloc: &A, room: usize) -> Result<Self, AllocError>
     where
         A: Clone,
         ensures { IfOk result (λ reserve. reserve ≡ room) }
     {
-        let list = Vec::with_capacity(alloc.clone()?, room)?;
-        let mut lists = Vec::with_capacity(alloc.clone()?, 1)?;
+        let list = room_for(alloc, room)?;
+        let mut lists = room_for(alloc, 1)?;
         lists.push_reserved(list);
-        match Table::new(alloc, &[], lists, &room) {
+        match Table::new(alloc.clone()?, &[], lists, &room) {
             Ok((table, _)) => Ok(Reserve { table }),
             Err(_) => Err(AllocError),
         }
