@@ -1,7 +1,9 @@
 -- Lists of values, item by item.
 use Rattle.std.proofs.Common.{◌≡◌, ℕ, ◌<◌, List, [], ◌∷◌, ◌++◌, length, Option, Some, None}
+use Rattle.std.proofs.Common.{◌⊎◌, inl, inr, ◌≤◌}
 use Rattle.std.proofs.Common.{option_map, option_and_then, refl, ap, sym, ◌∙◌, arith, ℤ, suc, ◌==◌}
 use Rattle.std.proofs.Common.{if◌then◌else◌, ◌+◌, get_or, drop, add-one, drop-cons, append_assoc}
+use Rattle.std.proofs.lemmas.List.{append-nil, drop_all}
 use Rattle.std.proofs.lemmas.Bool.{eq-eqb, ne_eqb, lt-leb}
 use Rattle.tensor_ops.specs.Legal.{are_legal}
 use Rattle.serde_json.specs.Data.{Data, Items, no_items, item}
@@ -12,6 +14,8 @@ use Rattle.serde_json.specs.declared.value.Value.{Value}
 use Rattle.expr_reader.specs.Arguments.{size_in, pair_of, pair_in}
 use Rattle.expr_reader.specs.Fields.{whole_of, signed_of, each_of, cons_of, list_in}
 use Rattle.expr_reader.specs.Tensors.{dims_in, values_in}
+use Rattle.expr_reader.specs.declared.fault.Fault.{Fault}
+use Rattle.expr_reader.specs.declared.fault.Fault.TheVariants.{NoMemory}
 
 -- what was taken, before the rest
 abbrev pub after : {A : Type 0} → List A → Option (List A) → Option (List A)
@@ -32,6 +36,39 @@ after-next f done more vs i d x whole within is taken before =
     ap (λ l. after l rest) taken
     ∙ sym (ap (λ l. after done (each_of f (items_view l))) cons ∙ ap (λ head. after done (cons_of head rest)) is ∙ after-cons_of done x rest)
     ∙ before
+
+-- nothing was taken yet
+pub after-nothing : {A : Type 0} (rest : Option (List A)) → after [] rest ≡ rest
+after-nothing None = refl
+after-nothing (Some xs) = refl
+
+-- the items of a value that is a list
+pub list_in-items : {A : Type 0} (f : Data → Option A) (d : Data) (vs : List Value)
+    → Some (items_view vs) ≡ as_array d → list_in f d ≡ each_of f (items_view vs)
+list_in-items f d vs found = ap (option_and_then (each_of f)) (sym found)
+
+module _ {A : Type 0} (f : Data → Option A) (done : List A) (vs : List Value) (i : ℕ)
+    (whole : Option (List A)) (before : after done (each_of f (items_view (drop i vs))) ≡ whole) where
+  -- at the end everything was taken
+  pub after-end : length vs ≤ i → whole ≡ Some done
+  after-end end =
+      sym before ∙ ap (λ l. after done (each_of f (items_view l))) (drop_all i vs end)
+      ∙ ap Some (append-nil done)
+
+  -- a value that is no item
+  pub after-none : (d : Value) → i < length vs → f (view (get_or vs i d)) ≡ None → whole ≡ None
+  after-none d within is =
+      sym before ∙ ap (λ l. after done (each_of f (items_view l))) (drop-cons vs i d within)
+      ∙ ap (λ head. after done (cons_of head (each_of f (items_view (drop (suc i) vs))))) is
+
+-- the fault of a part is that of the whole
+pub whole-fault : {A B : Type 0} {fault e : Fault} {part : Option A} {whole : Option B}
+    → (e ≡ NoMemory) ⊎ ((e ≡ fault) × (part ≡ None)) → (part ≡ None → whole ≡ None)
+    → (e ≡ NoMemory) ⊎ ((e ≡ fault) × (whole ≡ None))
+whole-fault h none = elim h [
+  | inl memory ↦ inl memory
+  | inr found ↦ inr (found.0, none found.1)
+]
 
 -- a head and a rest have one item more than the rest
 length-cons_of : {A : Type 0} (head : Option A) (rest : Option (List A)) (xs : List A) → cons_of head rest ≡ Some xs

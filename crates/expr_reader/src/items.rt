@@ -85,7 +85,9 @@ pub(crate) fn read_list<T: Item>(
         (list_in T.item_in (view value.now)) result }
 {
     let list = value.as_array().ok_or(fault)?;
-    let mut items = Vec::with_capacity(alloc, list.len()).map_err(|_| Fault::NoMemory)?;
+    let Ok(mut items) = Vec::with_capacity(alloc, list.len()) else {
+        return Err(Fault::NoMemory);
+    };
     for item in list {
         let item = read_item(item, fault)?;
         items.push_reserved(item);

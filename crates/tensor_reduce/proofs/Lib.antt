@@ -4,6 +4,7 @@ pub mod Fits
 pub mod Held
 pub mod LeftSteps
 pub mod Named
+pub mod Operands
 pub mod Planned
 pub mod Sharding
 pub mod ShardedTensors
