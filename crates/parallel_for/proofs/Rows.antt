@@ -4,7 +4,7 @@ use Rattle.std.proofs.Common.{List, [], ◌∷◌, ◌++◌, length, map, set, r
 use Rattle.std.proofs.Common.{refl, ap, sym, subst, ◌∙◌, arith, add-zero}
 use Rattle.std.specs.declared.vec.Vec.{Vec}
 use Rattle.std.specs.List.{range_with_len, slice_get}
-use Rattle.std.proofs.lemmas.List.{map-set, length-map}
+use Rattle.std.proofs.lemmas.List.{map-set, map-append, length-map, replicate_more}
 use Rattle.std.proofs.lemmas.List.FromFn.{length-map-range_with_len}
 use Rattle.std.proofs.lemmas.Option.{slice_get_within, slice_get_read, get_or_from_slice_get}
 use Rattle.std.proofs.lemmas.Grind.{div_ceil_times}
@@ -94,6 +94,13 @@ module _ {I : Type 0} (n b : ℕ) where
           subst (λ (f : ℕ). AreItems item_at f (min ((first / b + 1) * b) n) items) (sym split)
               (subst (λ (l : ℕ). AreItems item_at first l items) end is),
         )
+
+    -- no block is joined
+    pub joined-none : (i : ℕ) (items : List I) → i ≡ 0 → items ≡ []
+        → AreItems item_at 0 (min (i * b) n) items
+    joined-none i items first none =
+        let end : 0 ≡ min (i * b) n - 0 = rw first (omega arith) in
+        none ∙ ap (λ (m : ℕ). map item_at (range_with_len 0 m)) end
 
     -- the items of one more block
     pub joined-more : (i j : ℕ) (before items after : List I)
@@ -244,6 +251,17 @@ module _ {I A : Type 0} where
   -- as many lists of items as rows
   pub length-rows_of : (rows : List (Vec I A)) → length (rows_of rows) ≡ length rows
   length-rows_of rows = length-map rows (λ (v : Vec I A). v.items)
+
+  -- one more empty row
+  pub rows_of-more : (rows all : List (Vec I A)) (row : Vec I A) (count : ℕ)
+      → all ≡ rows ++ row ∷ []
+      → row.items ≡ []
+      → rows_of rows ≡ replicate count []
+      → rows_of all ≡ replicate (count + 1) []
+  rows_of-more rows all row count more blank so_far =
+      ap rows_of more
+      ∙ map-append (λ (v : Vec I A). v.items) rows (row ∷ [])
+      ∙ rw (so_far, blank) (replicate_more count [])
 
   -- the items after a row was written
   pub rows_of-set : (rows : List (Vec I A)) (k : ℕ) (row : Vec I A)

@@ -51,11 +51,23 @@ fn blank<I: Drop, A: Allocator + Clone>(
     ensures long { IfOk result (λ table. vec_len table ≡ blocks_of n block) }
 {
     let count = blocks(n, block) as usize;
-    let mut table = Vec::with_capacity(alloc.clone()?, count)?;
+    let mut table = with_room(alloc, count)?;
     for _ in 0..count {
         table.push_reserved(Vec::new(alloc.clone()?));
     }
     Ok(table)
+}
+
+/// An empty list that has room for so many.
+fn with_room<T: Drop, A: Allocator + Clone>(
+    alloc: &A,
+    count: usize,
+) -> Result<Vec<T, A>, AllocError>
+    ensures items { IfOk result (λ list. list.items ≡ []) }
+    ensures len { IfOk result (λ list. vec_len list ≡ 0) }
+    ensures room { IfOk result (λ list. count ≤ vec_capacity list) }
+{
+    Vec::with_capacity(alloc.clone()?, count)
 }
 
 /// Puts each piece into its row.
@@ -119,7 +131,7 @@ fn join<K: Kernel, A: Allocator + Clone>(
     requires whole { missing n block 0 (rows_of table.items) ≡ [] }
     ensures items { IfOk result (λ items. AreItems (K.item_at kernel.now) 0 n items.items) }
 {
-    let mut joined = Vec::with_capacity(alloc.clone()?, n as usize)?;
+    let mut joined = with_room(alloc, n as usize)?;
     for items in table {
         append(&mut joined, items);
     }

@@ -1,16 +1,19 @@
 //! Evaluating a range on the workers of a pool.
-ghost use Rattle.std.specs.Prelude.{◌≡◌, ◌<◌, ◌≤◌, ◌↔◌, IfOk, IsErrOf};
+ghost use Rattle.std.specs.Prelude.{◌≡◌, ◌<◌, ◌≤◌, ◌↔◌, All, IfOk, IsErrOf};
 ghost use Rattle.pool_barrier.specs.Shares.{barrier_id, notices_of, IsShareOf, IsWaiterOf};
+ghost use Rattle.run_queue.specs.Bag.{SameBag};
 ghost use Rattle.worker_pool.specs.Setup.{IsPoolSize, IsNoPoolSize, AreNoPartitions};
 ghost use Rattle.parallel_for.specs.Faults.{most_leaves, IsBlockLength, IsNoBlockLength};
 ghost use Rattle.parallel_for.specs.Items.{AreItems};
-ghost use Rattle.parallel_for.specs.Leaves.{blocks_of};
+ghost use Rattle.parallel_for.specs.Leaves.{blocks_of, leaves_of};
+ghost use Rattle.parallel_for.specs.Pieces.{IsRight, all_ranges};
 
 use crate::collector::collect;
 use crate::division::Division;
 use crate::fault::ForFault;
 use crate::halving::blocks;
 use crate::kernel::Kernel;
+use crate::piece::Piece;
 use crate::range_job::{RangeContext, RangeJob};
 use event_count::EventCount;
 use pool_barrier::{Barrier, MOST_NOTICES, Share, Waiter};
@@ -72,13 +75,43 @@ where
     if n <= block {
         return Ok(kernel.fill(alloc, 0, n)?);
     }
-    Ok(fill_leaves(rt, alloc, setup, kernel, n, block)?)
+    Ok(fill_leaves(rt, &alloc, setup, kernel, n, block)?)
 }
 
 // The items of several leaves, by no more workers than there are leaves.
 fn fill_leaves<RT, K, A>(
     rt: &RT,
-    alloc: A,
+    alloc: &A,
+    setup: &Setup<A>,
+    kernel: &K,
+    n: u64,
+    block: u64,
+) -> Result<Vec<K::Item, A>, AllocError>
+where
+    RT: Threads + Wait + Sync,
+    K: Kernel + Sync,
+    K::Item: Send,
+    A: Allocator + Clone + Send + Sync,
+    requires inside { n ≤ K.size kernel.now }
+    requires several { block < n }
+    requires blocks { IsBlockLength n block }
+    ensures items { IfOk result (λ items. AreItems (K.item_at kernel.now) 0 n items.items) }
+{
+    let leaves = blocks(n, block);
+    if leaves >= u64::from(setup.workers) {
+        return fill_counted(rt, alloc, setup, kernel, n, block);
+    }
+    let fewer = Setup {
+        workers: leaves as u32,
+        partitions: Vec::new(alloc.clone()?),
+    };
+    fill_counted(rt, alloc, &fewer, kernel, n, block)
+}
+
+// The items of several leaves, which are counted by a barrier of their own.
+fn fill_counted<RT, K, A>(
+    rt: &RT,
+    alloc: &A,
     setup: &Setup<A>,
     kernel: &K,
     n: u64,
@@ -95,15 +128,7 @@ where
     ensures items { IfOk result (λ items. AreItems (K.item_at kernel.now) 0 n items.items) }
 {
     let range = CountedRange::of(alloc.clone()?, n, block)?;
-    let leaves = blocks(n, block);
-    if leaves >= u64::from(setup.workers) {
-        return fill_range::<Brand, RT, &K, A>(rt, alloc, setup, kernel, range);
-    }
-    let fewer = Setup {
-        workers: leaves as u32,
-        partitions: Vec::new(alloc.clone()?),
-    };
-    fill_range::<Brand, RT, &K, A>(rt, alloc, &fewer, kernel, range)
+    fill_range::<Brand, RT, &K, A>(rt, alloc, setup, kernel, range)
 }
 
 // The places below n, which are cut into blocks, and a barrier with a notice for each block.
@@ -141,10 +166,10 @@ impl<A: Allocator> CountedRange<A> {
     }
 }
 
-// The items of the range, whose leaves are jobs of a pool. The caller sleeps until all have run.
+// The items of the range, whose leaves are jobs of a pool.
 fn fill_range<D, RT, K, A>(
     rt: &RT,
-    alloc: A,
+    alloc: &A,
     setup: &Setup<A>,
     kernel: K,
     range: CountedRange<A>,
@@ -165,20 +190,44 @@ where
         n,
         block,
         barrier,
-        mut waiter,
+        waiter,
         share,
     } = range;
     let ctx = RangeContext::<K, D, A>::new(kernel, barrier, block);
-    let root = RangeJob::<K, D, A>::root(n, share);
+    let pieces = run_leaves(rt, alloc, setup, &ctx, waiter, RangeJob::root(n, share))?;
+    collect(alloc, &ctx.kernel, n, block, pieces)
+}
+
+// The pieces of all leaves of a range. The caller sleeps until they have run.
+fn run_leaves<D, RT, K, A>(
+    rt: &RT,
+    alloc: &A,
+    setup: &Setup<A>,
+    ctx: &RangeContext<K, D, A>,
+    mut waiter: Waiter,
+    root: RangeJob<K, D, A>,
+) -> Result<Vec<Vec<Piece<K::Item, A>, A>, A>, AllocError>
+where
+    D: Division + Send + Sync,
+    RT: Threads + Wait + Sync,
+    K: Kernel + Drop + Send + Sync,
+    K::Item: Send,
+    A: Allocator + Clone + Send + Sync,
+    requires { IsWaiterOf ctx.now.barrier waiter }
+    ensures right { IfOk result (λ lists.
+        All (λ pieces. All (IsRight (K.item_at ctx.now.kernel)) pieces.items) lists.items) }
+    ensures covered { IfOk result (λ lists.
+        SameBag (leaves_of root.first root.last D.block) (all_ranges lists.items)) }
+{
     let closed = with_root::<EventCount<A>, Slots<K, D, A>, VecLists, _, _, _, _, _>(
         rt,
         alloc.clone()?,
         setup,
-        &ctx,
+        ctx,
         &NoGate,
         root,
         ||
-            requires { IsWaiterOf ctx.barrier waiter }
+            requires { IsWaiterOf ctx.now.barrier waiter }
         {
             ctx.barrier.wait(rt, &mut waiter);
         },
@@ -190,5 +239,5 @@ where
     if closed.refused > 0 {
         return Err(AllocError);
     }
-    collect(&alloc, &ctx.kernel, n, block, closed.outs)
+    Ok(closed.outs)
 }

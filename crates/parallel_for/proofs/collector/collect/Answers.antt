@@ -1,9 +1,9 @@
-use Rattle.std.proofs.Common.{rules, ◌≡◌, List, All, length, subst, sym, ap}
+use Rattle.std.proofs.Common.{arith, rules, ◌≡◌, List, All, length, subst, sym, ap}
 use Rattle.std.proofs.lemmas.List.Elements.{All-rest, All-head, All-same}
 use Rattle.std.specs.Vec.Iter.{into_iter_items}
 use Rattle.parallel_for.specs.Leaves.{Range, blocks_of, leaves_of}
 use Rattle.parallel_for.specs.Pieces.{IsRight, ranges_of, all_ranges}
-use Rattle.parallel_for.specs.Table.{IsTable, missing}
+use Rattle.parallel_for.specs.Table.{IsTable}
 use Rattle.parallel_for.proofs.Rows.{IsTable-blank, items-none}
 use Rattle.parallel_for.proofs.Moves.{AreMoved, AreMoved-start, AreMoved-list}
 use Rattle.parallel_for.proofs.Moves.{missing-leaves, still-among, none-missing}
@@ -69,3 +69,6 @@ join-requires-clause-whole g c =
     let none : length rest ≡ 0 = search rules in
     none-missing _ _ _ _ (ap all_ranges (items-none rest none)) c.loop-pieces.invariant.moved
     c.requires.covered
+
+pub loop-pieces-smaller : goal.loop-pieces-smaller
+loop-pieces-smaller g c = omega (arith, c.in-Some.ensures.steps.1)

@@ -1,5 +1,5 @@
-use Rattle.std.proofs.Common.{rules, ◌≡◌, ap, length}
-use Rattle.std.proofs.lemmas.List.Elements.{All-rest, All-same}
+use Rattle.std.proofs.Common.{arith, rules, ◌≡◌, All, ap, length, subst}
+use Rattle.std.proofs.lemmas.List.Elements.{All-head, All-rest, All-same}
 use Rattle.std.specs.Vec.Iter.{into_iter_items}
 use Rattle.parallel_for.specs.Pieces.{IsRight, ranges_of}
 use Rattle.parallel_for.proofs.Rows.{items-none}
@@ -19,6 +19,12 @@ loop-piece-init g c =
       moved = AreMoved-start _ _ _ (ap ranges_of all);
     }
 
+pub put-requires-clause-right : goal.put-requires-clause-right
+put-requires-clause-right g c =
+    let is_right = IsRight (g.K.Kernel.item_at c.args.kernel.now) in
+    All-head is_right c.in-Some.piece (into_iter_items c.next.new.self)
+    (subst (All is_right) c.in-Some.ensures.steps.0 c.loop-piece.invariant.right)
+
 pub loop-piece-preserved : goal.loop-piece-preserved
 loop-piece-preserved g c =
     let p = c.in-Some.piece in
@@ -35,6 +41,9 @@ loop-piece-preserved g c =
           AreMoved-one _ _ _ _ (p.first, p.last) _ _ (ap ranges_of split)
           c.loop-piece.invariant.moved c.put.ensures.taken;
     }
+
+pub loop-piece-smaller : goal.loop-piece-smaller
+loop-piece-smaller g c = omega (arith, c.in-Some.ensures.steps.1)
 
 pub put-requires-clause-missing : goal.put-requires-clause-missing
 put-requires-clause-missing g c =

@@ -1,39 +1,12 @@
-use Rattle.std.proofs.Common.{rules, ◌≡◌, ◌∙◌, refl, ap, sym, arith}
-use Rattle.std.specs.declared.vec.Vec.{Vec}
+use Rattle.std.proofs.Common.{◌∙◌, ap, ◌≡◌, refl}
 use Rattle.run_queue.specs.Bag.{total}
-use Rattle.parallel_for.specs.declared.piece.Piece.{Piece}
 use Rattle.parallel_for.specs.Leaves.{leaves_of}
-use Rattle.parallel_for.specs.Pieces.{IsRight}
-use Rattle.parallel_for.proofs.Outs.{outs-hold, IsRight-leaf}
-use Rattle.parallel_for.proofs.Covering.{weight-account, weight-halved, weight-leaf, weight-lists}
 use Rattle.parallel_for.proofs.evaluation.fill_range.Goals as goal
-
-pub collect-requires-clause-right : goal.collect-requires-clause-right
-collect-requires-clause-right g c =
-    let item_at = g.K.Kernel.item_at c.new-ctx.result.kernel in
-    outs-hold (IsRight item_at)
-    (λ (pieces : Vec (Piece g.row.K-Item.Denot g.row.A.Denot) g.row.A.Denot). pieces.items)
-    c.in-Ok.closed.outs.items
-    (λ job piece step. IsRight-leaf item_at piece _ _ step.0)
-    c.in-Ok.ensures.account
 
 pub collect-requires-clause-covered : goal.collect-requires-clause-covered
 collect-requires-clause-covered g c = λ h.
-    let item_at = g.K.Kernel.item_at c.new-ctx.result.kernel in
-    let n = c.args.range.n in
-    let block = g.D.Division.block in
-    let root = c.root-root.result in
-    let closed = c.in-Ok.closed in
-    let none_refused : closed.refused ≡ 0 = search rules in
-    let came = weight-account _ (λ job. total h (leaves_of job.first job.last block))
-    (λ piece. h (piece.first, piece.last))
-    (λ job kid rest step. weight-halved h (job.first, job.last) (kid.first, kid.last)
-    (rest.first, rest.last) block (omega (arith, c.requires.block, c.args.range.some)) job.order
-    kid.order step.0)
-    (λ job piece step. weight-leaf h item_at piece.items.items (job.first, job.last)
-    (piece.first, piece.last) block job.order step.0)
-    root _ closed.left.items closed.refused tt c.in-Ok.ensures.none_left none_refused
-    c.in-Ok.ensures.account in
-    let whole : leaves_of 0 n c.args.range.block ≡ leaves_of root.first root.last block =
-    rw (c.root-root.ensures.first, c.root-root.ensures.last, c.requires.block) refl in
-    ap (total h) whole ∙ came ∙ sym (weight-lists h closed.outs.items)
+    let root = c.root.result in
+    let whole : leaves_of 0 c.args.range.n c.args.range.block
+    ≡ leaves_of root.first root.last g.D.Division.block =
+    rw (c.root.ensures.first, c.root.ensures.last, c.requires.block) refl in
+    ap (total h) whole ∙ c.in_ok-pieces.ensures.covered h

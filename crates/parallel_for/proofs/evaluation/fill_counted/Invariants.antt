@@ -1,6 +1,6 @@
--- The division that the jobs of these calls name.
+-- The division that the jobs of this call name.
 use Rattle.pool_barrier.specs.Shares.{barrier_id}
-use Rattle.parallel_for.proofs.evaluation.fill_leaves.Given as goal
+use Rattle.parallel_for.proofs.evaluation.fill_counted.Given as goal
 
 abbrev pub ghosts-fill_range : goal.ghosts-fill_range
 ghosts-fill_range g a = record {
