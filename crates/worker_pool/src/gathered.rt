@@ -66,7 +66,10 @@ where
 }
 
 /// An empty list with room for so many.
-fn room<T: Drop, A: Allocator + Clone>(alloc: &A, count: usize) -> Result<Vec<T, A>, AllocError>
+pub(crate) fn room<T: Drop, A: Allocator + Clone>(
+    alloc: &A,
+    count: usize,
+) -> Result<Vec<T, A>, AllocError>
     ensures empty { IfOk result (λ list. list.items ≡ []) }
     ensures room { IfOk result (λ list. vec_capacity list ≡ count) }
 {

@@ -27,8 +27,8 @@ impl<A: Allocator> HomeRows<A> {
 }
 
 /// The partition of the worker of this number, where it isn't the whole pool.
-pub(crate) fn home_rows_of<A: Allocator>(
-    alloc: A,
+pub(crate) fn home_rows_of<A: Allocator + Clone>(
+    alloc: &A,
     setup: &Setup<A>,
     number: u32,
 ) -> Result<Option<HomeRows<A>>, AllocError>
@@ -42,6 +42,7 @@ pub(crate) fn home_rows_of<A: Allocator>(
         ≡ home_of setup.now.workers setup.now.partitions.items number)) }
     ensures inside { IfOk result (λ home. IfSome home (λ n. n.rows.limit ≤ setup.now.workers)) }
 {
+    let alloc = alloc.clone()?;
     let Some(&rows) = setup.partitions.get(number as usize) else {
         return Ok(None);
     };

@@ -1,15 +1,18 @@
 //! Opening a pool. All memory is taken here that its starting, ending and closing need.
-ghost use Rattle.std.specs.Prelude.{◌≡◌, ◌+◌, ◌<◌, ◌↔◌, [], ◌∷◌, ◌++◌, map, All, IfOk};
+ghost use Rattle.std.specs.Prelude.{◌≡◌, ◌+◌, ◌<◌, ◌≤◌, ◌↔◌, [], ◌∷◌, ◌++◌, map, All, IfOk};
 ghost use Rattle.std.specs.Prelude.{IsErrOf, length};
 ghost use Rattle.std.specs.List.{range_with_len};
+ghost use Rattle.run_queue.specs.Limits.{most_rows};
+ghost use Rattle.worker_pool.specs.OpenerStates.{IsFresh};
 ghost use Rattle.worker_pool.specs.Openings.{AreRowSeats, AreWakers, IsByNumber, IsOpened};
-ghost use Rattle.worker_pool.specs.Seats.{IsJobQueue};
+ghost use Rattle.worker_pool.specs.Openings.{seeded_by};
+ghost use Rattle.worker_pool.specs.Seats.{IsJobQueue, IsOwner};
 ghost use Rattle.worker_pool.specs.Setup.{IsPoolSize, IsNoPoolSize, ArePartitions};
 ghost use Rattle.worker_pool.specs.Setup.{AreNoPartitions};
-ghost use Rattle.worker_pool.specs.Stops.{IsStopSeatOf, jobs_of, stored_of};
+ghost use Rattle.worker_pool.specs.Stops.{IsStopSeatOf, jobs_of, stored_of, open_word};
 ghost use Rattle.worker_pool.specs.Works.{IsAtWork};
 
-use crate::gathered::Gathered;
+use crate::gathered::{Gathered, room};
 use crate::home_rows::home_rows_of;
 use crate::job::Job;
 use crate::job_queue::JobQueue;
@@ -91,33 +94,10 @@ where
     ensures { IfOk result (IsOpened R.Rows W.WaitPoint setup.now.partitions.items J.Job L.Lists
         setup.now.workers) }
 {
-    let workers = setup.workers as u16;
-    let gathered = Gathered::with_room(&alloc, usize::from(workers) + 1)?;
-    let ended = Vec::with_capacity(alloc.clone()?, usize::from(workers))?;
-    let (queue, mut rows, mut wakers) = open_queue::<J, A, W, R>(&alloc, workers)?;
-    let (stop, mut scheduled) = stop::open(alloc.clone()?)?;
-    let pool = Pool {
-        queue,
-        stop,
-        coprimes: Coprimes::new(alloc.clone()?, u32::from(workers))?,
-        alloc,
-    };
-    let row = take_last(&mut rows);
-    let waker = take_last(&mut wakers);
-    let states = deal(&pool, setup, &mut scheduled, rows, wakers)?;
-    let opener = OpenerState {
-        seats: OpenerSeats {
-            row,
-            waker,
-            words: Lcg64Xsh32::seed_from_u64(u64::from(workers)),
-            started: 0,
-            of: PhantomData,
-        },
-        scheduled,
-        outs: L::new(pool.alloc.clone()?),
-        refused: 0,
-        cancelled: false,
-    };
+    let workers = setup.workers as usize;
+    let gathered = Gathered::with_room(&alloc, workers + 1)?;
+    let ended = room(&alloc, workers)?;
+    let (pool, opener, states) = open_manned(alloc, setup)?;
     Ok(Opened {
         pool,
         opener,
@@ -127,15 +107,41 @@ where
     })
 }
 
-// Takes the last item off the list.
-fn take_last<T, A: Allocator>(list: &mut Vec<T, A>) -> T
-    requires { 0 < length list.old.items }
-    ensures { list.old.items ≡ list.new.items ++ result ∷ [] }
+// A pool, what its opener works with, and the state of each worker, by number.
+fn open_manned<J, A, W, R, L>(
+    alloc: A,
+    setup: &Setup<A>,
+) -> Result<
+    (
+        Pool<J, A, W, R>,
+        OpenerState<J, A, W, R, L>,
+        Vec<WorkerState<J, A, W, R>, A>,
+    ),
+    AllocError,
+>
+where
+    J: Job<A> + Drop,
+    J::Out: Drop,
+    A: Allocator + Clone,
+    W: WaitPoint<A>,
+    R: Rows<J, A>,
+    L: Lists<J::Out, A>,
+    requires size { IsPoolSize setup.now.workers }
+    requires partitions { ArePartitions setup.now.workers setup.now.partitions.items }
+    ensures workers { IfOk result (λ made. made.0.queue.workers ≡ setup.now.workers) }
+    ensures opener { IfOk result (λ made. IsFresh R.Rows W.WaitPoint L.Lists made.0 made.1) }
+    ensures words { IfOk result (λ made. made.1.seats.words ≡ seeded_by setup.now.workers) }
+    ensures at_work { IfOk result (λ made. (ctx : J.Ctx) →
+        All (IsAtWork R.Rows W.WaitPoint J.Job made.0 ctx) made.2.items) }
+    ensures numbers { IfOk result (λ made.
+        map (λ state. state.number) made.2.items ≡ range_with_len 0 setup.now.workers) }
+    ensures by_number { IfOk result (λ made. All (IsByNumber R.Rows W.WaitPoint
+        setup.now.partitions.items setup.now.workers) made.2.items) }
 {
-    let Some(last) = list.pop() else {
-        unreachable!()
-    };
-    last
+    let (queue, rows, wakers) = open_queue::<J, A, W, R>(&alloc, setup.workers as u16)?;
+    let (pool, scheduled) = pool_of(alloc, queue)?;
+    let (opener, states) = man(&pool, setup, rows, wakers, scheduled)?;
+    Ok((pool, opener, states))
 }
 
 // A queue for so many workers and an opener, and the seats there by number: the opener's are last.
@@ -155,22 +161,143 @@ where
     ensures many { IfOk result (λ made.
         (length made.1.items ≡ workers + 1) × (length made.2.items ≡ workers + 1)) }
 {
-    let (rows, row_seats) = match R::open(alloc.clone()?, workers, 1) {
-        Ok(opened) => opened,
-        Err(RowsFault::NoMemory) => return Err(AllocError),
-        Err(RowsFault::TooManyRows) => unreachable!(),
-    };
-    let (point, wakers) = match W::open(alloc.clone()?, workers, 1) {
-        Ok(opened) => opened,
-        Err(CountFault::NoMemory) => return Err(AllocError),
-        Err(CountFault::TooManyWaiters) => unreachable!(),
-    };
+    let (rows, row_seats) = open_rows::<J, A, R>(alloc, workers)?;
+    let (point, wakers) = open_point(alloc, workers)?;
     let queue = JobQueue {
         rows,
         point,
         workers,
     };
     Ok((queue, row_seats, wakers))
+}
+
+// Rows for so many workers, and the seats there.
+fn open_rows<J, A, R>(alloc: &A, workers: u16) -> Result<(R, Vec<R::Seat, A>), AllocError>
+where
+    A: Allocator + Clone,
+    R: Rows<J, A>,
+    requires { workers ≤ most_rows }
+    ensures rows { IfOk result (λ made. R.row_count made.0 ≡ workers) }
+    ensures many { IfOk result (λ made. R.seat_count made.0 ≡ workers + 1) }
+    ensures seats { IfOk result (λ made. AreRowSeats R.Rows made.0 0 made.1.items) }
+    ensures all { IfOk result (λ made. length made.1.items ≡ workers + 1) }
+{
+    match R::open(alloc.clone()?, workers, 1) {
+        Ok(opened) => Ok(opened),
+        Err(RowsFault::NoMemory) => Err(AllocError),
+        Err(RowsFault::TooManyRows) => unreachable!(),
+    }
+}
+
+// A point at which so many workers wait, and the seats there.
+fn open_point<A, W>(alloc: &A, workers: u16) -> Result<(W, Vec<W::Seat, A>), AllocError>
+where
+    A: Allocator + Clone,
+    W: WaitPoint<A>,
+    requires { IsPoolSize workers }
+    ensures waiters { IfOk result (λ made. W.waiter_count made.0 ≡ workers) }
+    ensures many { IfOk result (λ made. W.seat_count made.0 ≡ workers + 1) }
+    ensures seats { IfOk result (λ made. AreWakers W.WaitPoint made.0 0 made.1.items) }
+    ensures all { IfOk result (λ made. length made.1.items ≡ workers + 1) }
+{
+    match W::open(alloc.clone()?, workers, 1) {
+        Ok(opened) => Ok(opened),
+        Err(CountFault::NoMemory) => Err(AllocError),
+        Err(CountFault::TooManyWaiters) => unreachable!(),
+    }
+}
+
+// A pool with this queue, and the first seat at its stop word.
+fn pool_of<J, A, W, R>(
+    alloc: A,
+    queue: JobQueue<W, R>,
+) -> Result<(Pool<J, A, W, R>, StopSeat<J>), AllocError>
+where
+    A: Allocator + Clone,
+    W: Drop,
+    R: Drop,
+    requires { 0 < queue.workers }
+    ensures queue { IfOk result (λ made. made.0.queue ≡ queue) }
+    ensures coprimes { IfOk result (λ made. made.0.coprimes ≡ queue.workers) }
+    ensures stop { IfOk result (λ made. IsStopSeatOf made.0.stop.shared made.1) }
+    ensures none { IfOk result (λ made. jobs_of made.1 ≡ []) }
+    ensures stored { IfOk result (λ made. stored_of made.1 ≡ open_word) }
+{
+    let (stop, scheduled) = stop::open(&alloc)?;
+    let coprimes = Coprimes::new(alloc.clone()?, u32::from(queue.workers))?;
+    let pool = Pool {
+        queue,
+        stop,
+        coprimes,
+        alloc,
+    };
+    Ok((pool, scheduled))
+}
+
+// What the opener works with, to whom the last seats go, and the state of each worker, by number.
+fn man<J, A, W, R, L>(
+    pool: &Pool<J, A, W, R>,
+    setup: &Setup<A>,
+    mut rows: Vec<R::Seat, A>,
+    mut wakers: Vec<W::Seat, A>,
+    mut scheduled: StopSeat<J>,
+) -> Result<(OpenerState<J, A, W, R, L>, Vec<WorkerState<J, A, W, R>, A>), AllocError>
+where
+    J: Job<A> + Drop,
+    J::Out: Drop,
+    A: Allocator + Clone,
+    W: WaitPoint<A>,
+    R: Rows<J, A>,
+    L: Lists<J::Out, A>,
+    requires sized { IsJobQueue R.Rows W.WaitPoint pool.now.queue }
+    requires coprimes { pool.now.coprimes ≡ pool.now.queue.workers }
+    requires same_size { setup.now.workers ≡ pool.now.queue.workers }
+    requires partitions { ArePartitions setup.now.workers setup.now.partitions.items }
+    requires rows { AreRowSeats R.Rows pool.now.queue.rows 0 rows.items }
+    requires wakers { AreWakers W.WaitPoint pool.now.queue.point 0 wakers.items }
+    requires rows_many { length rows.items ≡ setup.now.workers + 1 }
+    requires wakers_many { length wakers.items ≡ setup.now.workers + 1 }
+    requires stop { IsStopSeatOf pool.now.stop.shared scheduled }
+    requires none { jobs_of scheduled ≡ [] }
+    requires stored { stored_of scheduled ≡ open_word }
+    ensures opener { IfOk result (λ made. IsFresh R.Rows W.WaitPoint L.Lists pool.now made.0) }
+    ensures words { IfOk result (λ made. made.0.seats.words ≡ seeded_by setup.now.workers) }
+    ensures at_work { IfOk result (λ made. (ctx : J.Ctx) →
+        All (IsAtWork R.Rows W.WaitPoint J.Job pool.now ctx) made.1.items) }
+    ensures numbers { IfOk result (λ made.
+        map (λ state. state.number) made.1.items ≡ range_with_len 0 setup.now.workers) }
+    ensures by_number { IfOk result (λ made. All (IsByNumber R.Rows W.WaitPoint
+        setup.now.partitions.items setup.now.workers) made.1.items) }
+{
+    let row = take_last(&mut rows);
+    let waker = take_last(&mut wakers);
+    let states = deal(pool, setup, &mut scheduled, rows, wakers)?;
+    let outs = L::new(pool.alloc.clone()?);
+    let opener = OpenerState {
+        seats: OpenerSeats {
+            row,
+            waker,
+            words: Lcg64Xsh32::seed_from_u64(u64::from(setup.workers)),
+            started: 0,
+            of: PhantomData,
+        },
+        scheduled,
+        outs,
+        refused: 0,
+        cancelled: false,
+    };
+    Ok((opener, states))
+}
+
+// Takes the last item off the list.
+fn take_last<T, A: Allocator>(list: &mut Vec<T, A>) -> T
+    requires { 0 < length list.old.items }
+    ensures { list.old.items ≡ list.new.items ++ result ∷ [] }
+{
+    let Some(last) = list.pop() else {
+        unreachable!()
+    };
+    last
 }
 
 // The state of each worker, by number.
@@ -206,23 +333,57 @@ where
     ensures by_number { IfOk result (λ states. All (IsByNumber R.Rows W.WaitPoint
         setup.now.partitions.items setup.now.workers) states.items) }
 {
-    let mut states = Vec::with_capacity(pool.alloc.clone()?, rows.len())?;
+    let mut states = room(&pool.alloc, rows.len())?;
     for (row, waker) in rows.into_iter().zip(wakers) {
         let number = states.len() as u32;
-        let home = home_rows_of(pool.alloc.clone()?, setup, number)?;
-        states.push_reserved(WorkerState {
-            number,
-            home,
-            seats: WorkerSeats {
-                row,
-                waker,
-                of: PhantomData,
-            },
-            stop: stop::deal(&pool.stop.shared, scheduled),
-            words: Lcg64Xsh32::seed_from_u64(u64::from(number)),
-            outs: Vec::new(pool.alloc.clone()?),
-            refused: 0,
-        });
+        let stop = stop::deal(&pool.stop.shared, scheduled);
+        states.push_reserved(state_of(pool, setup, number, row, waker, stop)?);
     }
     Ok(states)
+}
+
+// The state of the worker of this number, with its seats.
+fn state_of<J, A, W, R>(
+    pool: &Pool<J, A, W, R>,
+    setup: &Setup<A>,
+    number: u32,
+    row: R::Seat,
+    waker: W::Seat,
+    stop: StopSeat<J>,
+) -> Result<WorkerState<J, A, W, R>, AllocError>
+where
+    J: Job<A> + Drop,
+    J::Out: Drop,
+    A: Allocator + Clone,
+    W: WaitPoint<A>,
+    R: Rows<J, A>,
+    requires coprimes { pool.now.coprimes ≡ pool.now.queue.workers }
+    requires same_size { setup.now.workers ≡ pool.now.queue.workers }
+    requires partitions { ArePartitions setup.now.workers setup.now.partitions.items }
+    requires seats { IsOwner R.Rows W.WaitPoint pool.now.queue row waker }
+    requires row_number { R.number_of row ≡ number }
+    requires waker_number { W.number_of waker ≡ number }
+    requires untouched { R.keeps_accounts → (R.puts_of row ≡ []) × (R.takes_of row ≡ []) }
+    requires stop { IsStopSeatOf pool.now.stop.shared stop }
+    ensures at_work { IfOk result (λ state. (ctx : J.Ctx) →
+        IsAtWork R.Rows W.WaitPoint J.Job pool.now ctx state) }
+    ensures number { IfOk result (λ state. state.number ≡ number) }
+    ensures by_number { IfOk result (IsByNumber R.Rows W.WaitPoint setup.now.partitions.items
+        setup.now.workers) }
+{
+    let home = home_rows_of(&pool.alloc, setup, number)?;
+    let outs = Vec::new(pool.alloc.clone()?);
+    Ok(WorkerState {
+        number,
+        home,
+        seats: WorkerSeats {
+            row,
+            waker,
+            of: PhantomData,
+        },
+        stop,
+        words: Lcg64Xsh32::seed_from_u64(u64::from(number)),
+        outs,
+        refused: 0,
+    })
 }

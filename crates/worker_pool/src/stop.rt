@@ -92,12 +92,14 @@ pub(crate) type StopWord<J> = Shared<(), StopView<J>, (), StopRule>;
 pub(crate) type StopSeat<J> = Seat<(), StopView<J>>;
 
 /// The stop word of a pool that is open, and its first seat.
-pub(crate) fn open<J, A: Allocator>(alloc: A) -> Result<(StopTable<J, A>, StopSeat<J>), AllocError>
+pub(crate) fn open<J, A: Allocator + Clone>(
+    alloc: &A,
+) -> Result<(StopTable<J, A>, StopSeat<J>), AllocError>
     ensures of { IfOk result (λ made. IsStopSeatOf made.0.shared made.1) }
     ensures none { IfOk result (λ made. jobs_of made.1 ≡ []) }
     ensures stored { IfOk result (λ made. stored_of made.1 ≡ open_word) }
 {
-    Table::of_words(alloc, &[OPEN; WORDS], &())
+    Table::of_words(alloc.clone()?, &[OPEN; WORDS], &())
 }
 
 /// Another seat.

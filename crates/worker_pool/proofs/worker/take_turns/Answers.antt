@@ -2,6 +2,18 @@ use Rattle.std.proofs.Common.{rules, refl, ◌∙◌}
 use Rattle.worker_pool.proofs.Tallies.{account-more, account-same}
 use Rattle.worker_pool.proofs.worker.take_turns.Goals as goal
 
+pub loop-init : goal.loop-init
+loop-init g c = record {
+  can = tt;
+  finite = tt;
+  seats = c.requires.seats;
+  stop_seat = c.requires.stop_seat;
+  account = c.requires.account;
+}
+
+pub take_turn-requires-clause-seats : goal.take_turn-requires-clause-seats
+take_turn-requires-clause-seats g c = c.loop.invariant.seats
+
 pub loop-preserved-in-Found : goal.loop-preserved-in-Found
 loop-preserved-in-Found g c = record {
   can = tt;
@@ -22,4 +34,14 @@ returns-in-Last g c = record {
   walks = c.requires.walks;
   account = account-same _ _ _ _ _ _ _ _ _ c.loop.invariant.account c.in-Last.ensures.takes
       c.in-Last.ensures.puts;
+}
+
+pub loop-preserved : goal.loop-preserved
+loop-preserved g c = record {
+  can = tt;
+  finite = tt;
+  seats = c.in-Again.ensures.seats;
+  stop_seat = c.in-Again.ensures.stop;
+  account = account-same _ _ _ _ _ _ _ _ _ c.loop.invariant.account c.in-Again.ensures.takes
+      c.in-Again.ensures.puts;
 }

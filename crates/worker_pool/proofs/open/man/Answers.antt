@@ -1,0 +1,66 @@
+use Rattle.std.proofs.Common.{◌≡◌, ◌∙◌, [], ap, arith, refl, sym}
+use Rattle.std.specs.List.{range_with_len}
+use Rattle.worker_pool.specs.Seats.{IsIdle}
+use Rattle.worker_pool.proofs.Dealings.{AreRowSeats-front, AreWakers-front}
+use Rattle.worker_pool.proofs.Growing.{All-last, length-snoc}
+use Rattle.worker_pool.proofs.open.man.Goals as goal
+
+pub deal-requires-clause-rows : goal.deal-requires-clause-rows
+deal-requires-clause-rows g c =
+    AreRowSeats-front g.R.Rows c.args.pool.now.queue.rows _ _ _ c.take_last-row.ensures
+    c.requires.rows
+
+pub deal-requires-clause-wakers : goal.deal-requires-clause-wakers
+deal-requires-clause-wakers g c =
+    AreWakers-front g.W.WaitPoint c.args.pool.now.queue.point _ _ _ c.take_last-waker.ensures
+    c.requires.wakers
+
+pub deal-requires-clause-rows_many : goal.deal-requires-clause-rows_many
+deal-requires-clause-rows_many g c =
+    let less = length-snoc _ _ _ c.take_last-row.ensures in
+    omega (arith, c.requires.rows_many, c.requires.same_size, less)
+
+pub deal-requires-clause-wakers_many : goal.deal-requires-clause-wakers_many
+deal-requires-clause-wakers_many g c =
+    let less = length-snoc _ _ _ c.take_last-waker.ensures in
+    omega (arith, c.requires.wakers_many, c.requires.same_size, less)
+
+pub take_last-row-requires : goal.take_last-row-requires
+take_last-row-requires g c = omega (arith, c.requires.rows_many)
+
+pub take_last-waker-requires : goal.take_last-waker-requires
+take_last-waker-requires g c = omega (arith, c.requires.wakers_many)
+
+pub returns-clause-opener : goal.returns-clause-opener
+returns-clause-opener g c =
+    let queue = c.args.pool.now.queue in
+    let row_last = c.take_last-row.ensures in
+    let waker_last = c.take_last-waker.ensures in
+    let untouched = λ (on : g.R.Rows.keeps_accounts).
+    All-last (λ seat. (g.R.Rows.puts_of seat ≡ []) × (g.R.Rows.takes_of seat ≡ [])) _ _ _
+    row_last (c.requires.rows.untouched on) in
+    record {
+      seats = record {
+        sized = c.requires.sized;
+        ours = All-last (λ seat. g.R.Rows.rows_of seat ≡ g.R.Rows.identity_of queue.rows) _ _ _
+            row_last c.requires.rows.ours;
+        idle = All-last (IsIdle g.W.WaitPoint queue.point) _ _ _ waker_last c.requires.wakers.idle;
+      };
+      stop_seat = c.deal.ensures.stop;
+      no_roots = c.deal.ensures.same ∙ c.requires.none;
+      stored_none = c.deal.ensures.stored ∙ c.requires.stored;
+      put_none = λ on. (untouched on).0;
+      took_none = λ on. (untouched on).1;
+      no_outs = c.new-outs.ensures;
+      none_refused = refl;
+    }
+
+pub returns-clause-at_work : goal.returns-clause-at_work
+returns-clause-at_work g c = c.in_ok-states.ensures.at_work
+
+pub returns-clause-numbers : goal.returns-clause-numbers
+returns-clause-numbers g c =
+    c.in_ok-states.ensures.numbers ∙ ap (range_with_len 0) (sym c.requires.same_size)
+
+pub returns-clause-by_number : goal.returns-clause-by_number
+returns-clause-by_number g c = c.in_ok-states.ensures.by_number
