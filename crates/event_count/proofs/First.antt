@@ -76,6 +76,10 @@ each_one P v all (suc id) x at = absurd (some-ne-none x (sym at))
 abbrev no_words : ℕ → List ℕ
 no_words waiters = replicate (words_for waiters) 0
 
+pub length-words_at_first : (waiters : ℕ) → length (words_at_first waiters) ≡ words_for waiters
+length-words_at_first waiters =
+    length-set (no_words waiters) STATE nobody ∙ length-replicate (words_for waiters) 0
+
 written_first : (k : Sizes)
     → Written k (words_at_first k.waiters) (first_world k) (next_epoch k [])
 written_first k =
@@ -84,7 +88,7 @@ written_first k =
     let here : slice_index (words_at_first k.waiters) STATE ≡ nobody =
     get_or-set_same (no_words k.waiters) STATE nobody 0 (omega arith) in
     record {
-      room = length-set (no_words k.waiters) STATE nobody ∙ long;
+      room = length-words_at_first k.waiters;
       pre = ap (λ n. (fields_of n).pre) here;
       signals = ap (λ n. (fields_of n).signals) here;
       stack = (ap (λ n. (fields_of n).top) here, ap (λ n. (fields_of n).epoch) here);

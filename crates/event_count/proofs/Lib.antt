@@ -12,6 +12,7 @@ pub mod Fresh
 pub mod Keeps
 pub mod Looking
 pub mod PreSeats
+pub mod Retrying
 pub mod Stacking
 pub mod Stepping
 pub mod Steps

@@ -7,7 +7,7 @@ ghost use Rattle.event_count.specs.Cards.{fresh_cards};
 
 use crate::fault::CountFault;
 use crate::gathering::gather;
-use crate::opening::{deal, opening_words};
+use crate::opening::{deal_all, opening_words, room_for_seats};
 use crate::plays::Arrives;
 use crate::rule::{Law, MOST_WAITERS, STATE, Sizes};
 use crate::seat::Seat;
@@ -99,13 +99,10 @@ impl<A: Allocator> EventCount<A> {
         ensures unlooked { IfOk result (λ made. All HasNoLook made.1.items) }
         ensures ours { IfOk result (λ made. All (IsSeatOf made.0) made.1.items) }
     {
-        let words = opening_words(alloc.clone()?, sizes.waiters)?;
-        let count = u32::from(sizes.waiters) + u32::from(sizes.notifiers);
-        let mut seats = Vec::with_capacity(alloc.clone()?, count as usize)?;
+        let words = opening_words(&alloc, sizes.waiters)?;
+        let mut seats = room_for_seats(&alloc, sizes)?;
         let (table, mut keeper) = Table::of_words(alloc, &words, sizes)?;
-        for number in 0..count {
-            seats.push_reserved(deal(&table.shared, &mut keeper, sizes, number));
-        }
+        deal_all(&table.shared, &mut keeper, sizes, &mut seats);
         Ok((EventCount { table }, seats))
     }
 

@@ -1,8 +1,8 @@
 //! What a count begins with: its words, and its seats.
-ghost use Rattle.std.specs.Prelude.{◌≡◌, ◌<◌, length, IfOk};
+ghost use Rattle.std.specs.Prelude.{◌≡◌, ◌+◌, ◌<◌, [], length, map, vec_capacity, All, IfOk};
 ghost use Rattle.event_count.specs.Limits.{epoch_limit};
 ghost use Rattle.event_count.specs.Places.{words_at_first, words_for};
-ghost use Rattle.event_count.specs.Cards.{card_in, fresh, after_deal};
+ghost use Rattle.event_count.specs.Cards.{card_in, fresh, fresh_cards, undealt, after_deal};
 ghost use Rattle.event_count.specs.Seats.{card_of, seat_id, HasNoLook};
 
 use crate::rule::{Deals, LINE, Law, STATE, Sizes};
@@ -51,12 +51,56 @@ pub(crate) fn deal(
     }
 }
 
+// How many seats a count of these sizes has.
+fn seat_count(sizes: &Sizes) -> u32
+    ensures { result ≡ sizes.now.waiters + sizes.now.notifiers }
+{
+    u32::from(sizes.waiters) + u32::from(sizes.notifiers)
+}
+
+// An empty list with room for all seats.
+pub(crate) fn room_for_seats<A: Allocator + Clone>(
+    alloc: &A,
+    sizes: &Sizes,
+) -> Result<Vec<Seat, A>, AllocError>
+    ensures items { IfOk result (λ seats. seats.items ≡ []) }
+    ensures room { IfOk result (λ seats.
+        vec_capacity seats ≡ sizes.now.waiters + sizes.now.notifiers) }
+{
+    Vec::with_capacity(alloc.clone()?, seat_count(sizes) as usize)
+}
+
+// The seats of all the keeper's cards, by number, into an empty list that has room for them.
+pub(crate) fn deal_all<A: Allocator>(
+    shared: &Shared<(), View, Sizes, Law>,
+    keeper: &mut atomic_table::Seat<(), View>,
+    sizes: &Sizes,
+    seats: &mut Vec<Seat, A>,
+)
+    requires of { keeper.old.table_id ≡ shared.now.table_id }
+    requires words { shared.now.table_id.words ≡ words_for sizes.now.waiters }
+    requires first { sizes.now.first < epoch_limit }
+    requires undealt { keeper.old.me ≡ (undealt sizes.now, []) }
+    requires items { seats.old.items ≡ [] }
+    requires room { vec_capacity seats.old ≡ sizes.now.waiters + sizes.now.notifiers }
+    ensures cards { map card_of seats.new.items ≡ fresh_cards sizes.now }
+    ensures ours { All (λ seat. seat_id seat ≡ shared.now.table_id) seats.new.items }
+    ensures unlooked { All HasNoLook seats.new.items }
+{
+    for number in 0..seat_count(sizes) {
+        seats.push_reserved(deal(shared, keeper, sizes, number));
+    }
+}
+
 // The words of a table in which nobody waits.
-pub(crate) fn opening_words<A: Allocator>(alloc: A, waiters: u16) -> Result<Vec<u64, A>, AllocError>
+pub(crate) fn opening_words<A: Allocator + Clone>(
+    alloc: &A,
+    waiters: u16,
+) -> Result<Vec<u64, A>, AllocError>
     ensures { IfOk result (λ words. words.items ≡ words_at_first waiters) }
 {
     let count = LINE * (2 + usize::from(waiters));
-    let mut words = Vec::with_capacity(alloc, count)?;
+    let mut words = Vec::with_capacity(alloc.clone()?, count)?;
     words.resize(count, 0)?;
     words[STATE] = pack(OPENING);
     Ok(words)

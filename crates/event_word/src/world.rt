@@ -1,4 +1,4 @@
-ghost use Rattle.std.specs.Prelude.{◌≡◌, false, ◌+◌, ◌<◌, ◌≤◌, IfOk, length, map, replicate};
+ghost use Rattle.std.specs.Prelude.{◌≡◌, [], false, ◌+◌, ◌<◌, ◌≤◌, IfOk, length, map, replicate};
 ghost use Rattle.std.specs.Prelude.{slice_get};
 ghost use Rattle.std.specs.Prelude.{slice_index, vec_len, vec_capacity};
 ghost use Rattle.event_word.specs.Limits.{most_workers};
@@ -62,16 +62,16 @@ impl<A: Allocator> World<A> {
         let actors = seats + usize::from(notifiers);
         let rows = usize::from(rows);
         Ok(World {
-            phases: filled(alloc.clone()?, seats, Phase::Running)?,
-            flags: filled(alloc.clone()?, seats, false)?,
-            passed: filled_rows(alloc.clone()?, seats, rows)?,
-            tokens: filled(alloc.clone()?, seats, false)?,
-            pre: Vec::with_capacity(alloc.clone()?, seats)?,
+            phases: filled(&alloc, seats, Phase::Running)?,
+            flags: filled(&alloc, seats, false)?,
+            passed: filled_rows(&alloc, seats, rows)?,
+            tokens: filled(&alloc, seats, false)?,
+            pre: room_for(&alloc, seats)?,
             signals: 0,
-            stack: Vec::with_capacity(alloc.clone()?, seats)?,
-            owed: Vec::with_capacity(alloc.clone()?, seats)?,
-            announcing: filled(alloc.clone()?, actors, false)?,
-            lengths: filled(alloc, rows, 0)?,
+            stack: room_for(&alloc, seats)?,
+            owed: room_for(&alloc, seats)?,
+            announcing: filled(&alloc, actors, false)?,
+            lengths: filled(&alloc, rows, 0)?,
             notifiers,
             stop: 0,
         })
@@ -139,27 +139,39 @@ impl<A: Allocator> World<A> {
     }
 }
 
+/// An empty list with room for so many.
+fn room_for<T, A: Allocator + Clone>(alloc: &A, len: usize) -> Result<Vec<T, A>, AllocError>
+    ensures items { IfOk result (λ list. list.items ≡ []) }
+    ensures exact { IfOk result (λ list. vec_capacity list ≡ len) }
+{
+    Vec::with_capacity(alloc.clone()?, len)
+}
+
 /// A list of so many copies of the value.
-fn filled<T: Copy, A: Allocator>(alloc: A, len: usize, value: T) -> Result<Vec<T, A>, AllocError>
+fn filled<T: Copy, A: Allocator + Clone>(
+    alloc: &A,
+    len: usize,
+    value: T,
+) -> Result<Vec<T, A>, AllocError>
     ensures { IfOk result (λ list. list.items ≡ replicate len value) }
 {
-    let mut list = Vec::with_capacity(alloc, len)?;
+    let mut list = room_for(alloc, len)?;
     list.resize(len, value)?;
     Ok(list)
 }
 
 /// So many lists of so many times false.
 fn filled_rows<A: Allocator + Clone>(
-    alloc: A,
+    alloc: &A,
     len: usize,
     rows: usize,
 ) -> Result<Vec<Vec<bool, A>, A>, AllocError>
     ensures { IfOk result
         (λ list. map (λ row. row.items) list.items ≡ replicate len (replicate rows false)) }
 {
-    let mut list = Vec::with_capacity(alloc.clone()?, len)?;
+    let mut list = room_for(alloc, len)?;
     for _ in 0..len {
-        list.push(filled(alloc.clone()?, rows, false)?)?;
+        list.push(filled(alloc, rows, false)?)?;
     }
     Ok(list)
 }

@@ -13,8 +13,8 @@ invariant_of-result g c = opening_stored _ c.args.workers c.args.notifiers c.arg
     c.from-seats.ensures ∙ ap (λ n. replicate c.args.workers (replicate n false))
     c.from-rows.ensures))
     (c.in_ok-filled-3.ensures ∙ ap (λ n. replicate n false) c.from-seats.ensures)
-    c.in_ok-with_capacity.ensures.items c.in_ok-with_capacity-2.ensures.items
-    c.in_ok-with_capacity-3.ensures.items
+    c.in_ok-room_for.ensures.items c.in_ok-room_for-2.ensures.items
+    c.in_ok-room_for-3.ensures.items
     (c.in_ok-filled-4.ensures ∙ ap (λ n. replicate n false) (omega (
       arith,
       c.from.ensures,
@@ -25,10 +25,10 @@ invariant_of-result g c = opening_stored _ c.args.workers c.args.notifiers c.arg
     ∙ (length-replicate c.from-seats.result Running ∙ c.from-seats.ensures)) refl
     (ap length c.in_ok-filled-5.ensures
     ∙ (length-replicate c.from-rows.result 0 ∙ c.from-rows.ensures)) c.requires.few
-    c.in_ok-with_capacity-3.ensures.items
-    (c.in_ok-with_capacity.ensures.exact ∙ c.from-seats.ensures)
-    (c.in_ok-with_capacity-2.ensures.exact ∙ c.from-seats.ensures)
-    (c.in_ok-with_capacity-3.ensures.exact ∙ c.from-seats.ensures)
+    c.in_ok-room_for-3.ensures.items
+    (c.in_ok-room_for.ensures.exact ∙ c.from-seats.ensures)
+    (c.in_ok-room_for-2.ensures.exact ∙ c.from-seats.ensures)
+    (c.in_ok-room_for-3.ensures.exact ∙ c.from-seats.ensures)
 
 pub returns : goal.returns
 returns g c = opening_view c.args.workers c.args.notifiers c.args.rows _ _ _ _ _ _ _ _ _
@@ -38,8 +38,8 @@ returns g c = opening_view c.args.workers c.args.notifiers c.args.rows _ _ _ _ _
     c.from-seats.ensures ∙ ap (λ n. replicate c.args.workers (replicate n false))
     c.from-rows.ensures))
     (c.in_ok-filled-3.ensures ∙ ap (λ n. replicate n false) c.from-seats.ensures)
-    c.in_ok-with_capacity.ensures.items c.in_ok-with_capacity-2.ensures.items
-    c.in_ok-with_capacity-3.ensures.items
+    c.in_ok-room_for.ensures.items c.in_ok-room_for-2.ensures.items
+    c.in_ok-room_for-3.ensures.items
     (c.in_ok-filled-4.ensures ∙ ap (λ n. replicate n false) (omega (
       arith,
       c.from.ensures,
