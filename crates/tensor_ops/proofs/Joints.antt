@@ -230,6 +230,15 @@ first_step-most b low high order below =
       | inr rises ↦ rw rises (omega arith)
     ]
 
+-- which stays within the span
+pub begins-within : (b : Axis) (rest : List Axis) (low extent place step limit : ℕ)
+    → step ≡ first_step b low (low + extent)
+    → low + extent < b.size → place + span (b ∷ rest) < limit → place + step * b.step < limit
+begins-within b rest low extent place step limit is below within =
+    let most = first_step-most b low (low + extent) (omega arith) below in
+    let product : step * b.step ≤ (b.size - 1) * b.step = rw is (mul-le-mul_right b.step most) in
+    omega (arith, within, product)
+
 module _ (b : Axis) (rest : List Axis) (strands : List Strand) (left : ℕ) where
   -- the place that is reached, by its index along the first axis and its row
   row-passed : (p : ℕ) → p < walk_size (map led_axis strands)

@@ -12,6 +12,14 @@ use Rattle.tensor_ops.proofs.HalfLanes.{joined-bits}
 use Rattle.tensor_ops.proofs.ProductSums.{wrap-next}
 use Rattle.tensor_ops.proofs.SimdLanes.{value_in-lanes}
 
+-- a place of a row k rows after the first, with the offset before the row's number or after it
+pub turned : (x offset k r : ℕ) → x + offset + k + r ≡ x + k + r + offset
+turned x offset k r = omega arith
+
+-- a product of the same factors
+pub same-factors : {x y x' y' : ℤ} → x ≡ x' → y ≡ y' → x *ℤ y ≡ x' *ℤ y'
+same-factors left right = cc
+
 -- one product more in a lane
 pub next_lane : (f : ℕ → ℤ) (sums x y out : List ℤ) (r q : ℕ) → r < 4 → AreLanes x → AreLanes y
     → AreLanes out → value_in sums r ≡ wrap (sum_to f q)

@@ -19,6 +19,7 @@ pub mod Known
 pub mod LaneSums
 pub mod Legality
 pub mod ListWrites
+pub mod Mapped
 pub mod Moved
 pub mod Moves
 pub mod Operands

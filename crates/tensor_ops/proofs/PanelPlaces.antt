@@ -2,6 +2,7 @@
 use Rattle.std.proofs.Common.{◌≡◌, ℕ, ◌+◌, ◌*◌, ◌-◌, ◌/◌, ◌%◌, ◌<◌, ℤ, List, length, take, drop}
 use Rattle.std.proofs.Common.{refl, ap, sym, ◌∙◌, arith, inl, inr, pos, ◌++◌, map, min, slice_index}
 use Rattle.std.proofs.Common.{length-append}
+use Rattle.std.specs.Int.{div_ceil}
 use Rattle.std.proofs.lemmas.Bool.{cases_lt}
 use Rattle.std.proofs.lemmas.List.{get_or-map, length-map, get_or_append_left}
 use Rattle.std.proofs.lemmas.List.{get_or-append_right}
@@ -11,6 +12,10 @@ use Rattle.tensor_ops.specs.Panels.{panel_place, panel_product, rows_product}
 use Rattle.tensor_ops.specs.Panels.{AreCells, cell_number}
 use Rattle.tensor_ops.proofs.ProductSums.{sum_to-ext}
 use Rattle.tensor_ops.proofs.ListWrites.{value_in-from}
+
+-- how many panels so many rows have
+pub panels_of : (panels m : ℕ) → panels ≡ div_ceil m 4 → panels ≡ (m + 3) / 4
+panels_of panels m is = omega arith
 
 -- row j of panel p is row p * 4 + j
 pub panel_place-row : (n p j q : ℕ) → j < 4

@@ -8,6 +8,7 @@ use Rattle.tensor_ops.specs.Axes.{rising}
 use Rattle.tensor_ops.specs.Joining.{span, is_parted, parted, IsSameWalk}
 use Rattle.tensor_ops.specs.Walk.{walk_size, reached, steps_to}
 use Rattle.tensor_ops.specs.declared.walk.Axis.{Axis}
+use Rattle.tensor_ops.proofs.Walks.{some_size}
 
 -- one axis of a list of them
 pub parted-at : (stride : ℕ) (axes : List Axis) (i : ℕ) (d : Axis) → i < length axes
@@ -140,6 +141,13 @@ parted-same stride (a ∷ rest) =
           (same-two a rest m (a.size / m) stride size_is stride_is (omega (arith, more)) some_k))
       | inr whole ↦ rw whole (same-cons a _ _ slower)
     ]
+
+-- an axis that is left has places where all of them have
+pub some-at : (axes : List Axis) (i : ℕ) (d : Axis) → i < length axes → 0 < walk_size (drop i axes)
+    → 0 < (get_or axes i d).size
+some-at axes i d within some =
+    some_size (get_or axes i d).size (walk_size (drop (i + 1) axes)) 0
+    (omega (arith, some, walk_size-at axes i d within))
 
 -- axes that are left have places where all have, and a stride times their places is within bounds
 pub some-after : (axes : List Axis) (i : ℕ) → i < length axes → 0 < walk_size (drop i axes) → 0 < walk_size (drop (i + 1) axes)

@@ -1,6 +1,8 @@
 -- Values of a list of which a part was written.
 use Rattle.std.proofs.Common.{◌≡◌, ℕ, ℤ, pos, ◌+◌, ◌-◌, ◌<◌, ◌≤◌, List, ◌++◌, length, take, drop}
-use Rattle.std.proofs.Common.{get_or, ap, ◌∙◌, arith}
+use Rattle.std.proofs.Common.{get_or, ap, sym, subst, ◌∙◌, arith, inl, inr, ◌*◌, ◌/◌, ◌%◌, min}
+use Rattle.std.proofs.Common.{add_assoc, div-add-mod'}
+use Rattle.std.proofs.lemmas.Bool.{cases_lt}
 use Rattle.std.proofs.lemmas.List.{get_or-drop, get_or_append_left, get_or-append_right}
 use Rattle.std.proofs.lemmas.List.{get_or-take, length-take-le, length-append}
 use Rattle.std.proofs.Common.{length-drop}
@@ -54,3 +56,55 @@ module _ (a n : ℕ) (xs ys : List ℤ) (room : a ≤ length xs) where
             (drop a xs),
         length-drop a xs,
       ))
+
+-- a list whose part from a place on, of so many values, was written
+module _ (first place count : ℕ) (xs ys : List ℤ) (above : first ≤ place)
+    (within : place + count ≤ first + length xs)
+    (same : length ys
+    ≡ length (take (place - first + count - (place - first)) (drop (place - first) xs))) where
+  room : place - first + count ≤ length xs
+  room = omega arith
+
+  written : length ys ≡ count
+  written = same ∙ length-part (place - first) count xs room
+
+  pub length-written : length (put_mid (place - first) (place - first + count - (place - first))
+      xs ys) ≡ length xs
+  length-written =
+      length-put_mid (place - first) (place - first + count - (place - first)) xs ys
+      (omega (arith, room)) (omega (arith, written)) (omega (arith, room))
+
+  -- its values, where those before the place are known, too
+  pub get_or-written : (f : ℕ → ℤ)
+      → ((k : ℕ) → k < place - first → get_or xs k (pos 0) ≡ f (first + k))
+      → ((k : ℕ)
+      → k < length (take (place - first + count - (place - first)) (drop (place - first) xs))
+      → get_or ys k (pos 0) ≡ f (place + k))
+      → (k : ℕ) → k < place + count - first
+      → get_or (put_mid (place - first) (place - first + count - (place - first)) xs ys) k (pos 0)
+      ≡ f (first + k)
+  get_or-written f before part k below =
+      let a = place - first in
+      let n = a + count - a in
+      let start : a ≤ length xs = omega (arith, room) in
+      elim (cases_lt k a) [
+        | inl earlier ↦ get_or-before a n xs ys start k earlier ∙ before k earlier
+        | inr later ↦
+            let j = k - a in
+            let inside : j < length ys = omega (arith, written) in
+            let here : a + j ≡ k = omega arith in
+            let place_j : place + j ≡ first + k = omega arith in
+            ap (λ i. get_or (put_mid a n xs ys) i (pos 0)) (sym here)
+            ∙ get_or-within a n xs ys start j inside ∙ part j (subst (λ n. j < n) same inside)
+            ∙ ap f place_j
+      ]
+
+-- the places from one on that are in its line of so many, and before the last
+pub line-below : (width place last count : ℕ) → count ≡ min (width - place % width) (last - place)
+    → place < last → place + count ≤ last
+line-below width place last count is below = omega arith
+
+pub line-place : (width place k : ℕ) → place / width * width + (place % width + k) ≡ place + k
+line-place width place k =
+    sym (add_assoc (place / width * width) (place % width) k)
+    ∙ ap (λ p. p + k) (div-add-mod' place width)

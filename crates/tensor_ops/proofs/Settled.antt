@@ -127,13 +127,6 @@ lead-beside a b start axes same sound can = (
   (rw same can.1.0, (can.1.1.0, (can.1.1.1.0, λ p below. rw same (can.1.1.1.1 p below)))),
 )
 
--- the same along a copy of the axes
-pub lead-copied : (a inner : Placed) (start from : ℕ) (axes along : List Axis) → inner ≡ a → from ≡ start → along ≡ axes
-    → CanLead a start axes → CanLead inner from along
-lead-copied a inner start from axes along same same_start same_axes can =
-    subst (λ z. CanLead z from along) (sym same)
-    (subst (λ l. CanLead a from l) (sym same_axes) (subst (λ s. CanLead a s axes) (sym same_start) can))
-
 -- what a walk in a walk reads can be settled, and led along both as one
 pub settle-walked : (a : Placed) (start from : ℕ) (axes along : List Axis) → IsSound a → count_of a ≤ most_elements
     → ((p : ℕ) → p < walk_size axes → reached start axes p < count_of a) → 0 < walk_size along
@@ -166,13 +159,6 @@ lead-joined a start from joint axes along both sound few reaches some short insi
 -- what follows an expression that is the same, or along the same axes
 pub follows-same : (r inner a : Placed) → inner ≡ a → Follows r (count_of inner) (meaning inner) → Follows r (count_of a) (meaning a)
 follows-same r inner a same follows = subst (λ z. Follows r (count_of z) (meaning z)) same follows
-
-pub follows-copied : (r inner a : Placed) (start from : ℕ) (axes along : List Axis) → inner ≡ a → from ≡ start → along ≡ axes
-    → Follows r (walk_size along) (meaning_along inner from along) → Follows r (walk_size axes) (meaning_along a start axes)
-follows-copied r inner a start from axes along same same_start same_axes follows =
-    subst (λ z. Follows r (walk_size axes) (meaning_along z start axes)) same
-    (subst (λ l. Follows r (walk_size l) (meaning_along inner start l)) same_axes
-    (subst (λ s. Follows r (walk_size along) (meaning_along inner s along)) same_start follows))
 
 -- or of as many places
 pub follows-beside : (r : Placed) (places others : ℕ) (at : ℕ → ℤ) → places ≡ others → Follows r places at → Follows r others at

@@ -11,7 +11,6 @@ use std::alloc::Global;
 
 /// A tree of operations over inputs, a variant an operation. Values are of the `i64` range, and
 /// operations on them are modulo 2^64. A value is true where it isn't 0; true is written as 1.
-#[derive(Drop)]
 pub enum Expr {
     /// The input of this number.
     Input(u32),
@@ -89,6 +88,51 @@ pub enum Expr {
     /// The sums of products of a kernel, the second, and what lies under it at each place where it
     /// stays within the first. These axes of the first are those of the kernel, in their order.
     Convolve(Box<Expr>, Box<Expr>, Vec<u64>),
+}
+
+// Said once, where a derived drop is unfolded wherever one may be dropped.
+impl Drop for Expr {
+    fn drop(self) {
+        match self {
+            Expr::Input(_)
+            | Expr::Neg(_)
+            | Expr::Abs(_)
+            | Expr::Square(_)
+            | Expr::Not(_)
+            | Expr::Add(_, _)
+            | Expr::Sub(_, _)
+            | Expr::Mul(_, _)
+            | Expr::CwiseMax(_, _)
+            | Expr::CwiseMin(_, _)
+            | Expr::Lt(_, _)
+            | Expr::Le(_, _)
+            | Expr::Eq(_, _)
+            | Expr::Ne(_, _)
+            | Expr::Gt(_, _)
+            | Expr::Ge(_, _)
+            | Expr::And(_, _)
+            | Expr::Or(_, _)
+            | Expr::Select(_, _, _)
+            | Expr::Constant(_, _)
+            | Expr::Broadcast(_, _)
+            | Expr::Slice(_, _, _)
+            | Expr::Shuffle(_, _)
+            | Expr::Reshape(_, _)
+            | Expr::Chip(_, _, _)
+            | Expr::Reverse(_, _)
+            | Expr::Stride(_, _)
+            | Expr::Pad(_, _)
+            | Expr::Concat(_, _, _)
+            | Expr::Sum(_, _)
+            | Expr::Prod(_, _)
+            | Expr::Maximum(_, _)
+            | Expr::Minimum(_, _)
+            | Expr::All(_, _)
+            | Expr::Any(_, _)
+            | Expr::Contract(_, _, _)
+            | Expr::Convolve(_, _, _) => {}
+        }
+    }
 }
 
 impl Expr {

@@ -68,7 +68,23 @@ pub(crate) fn combine_row(
         values.new.items }
 {
     // As a slice: of a list the compiler would look up at each value where its values lie.
-    let values = values.as_mut_slice();
+    combine_slice(operation, turned, values.as_mut_slice(), at, list, row);
+}
+
+/// The same of the values of a slice.
+fn combine_slice(
+    operation: BinaryScalar,
+    turned: bool,
+    values: &mut [i64],
+    at: usize,
+    list: &[i64],
+    row: Row,
+)
+    requires row { IsRowIn row (length list.now) }
+    requires room { at + row.count ≤ length values.old }
+    ensures { CombinesRow operation turned values.old list.now row at row.count
+        values.new }
+{
     match operation {
         BinaryScalar::Add => combine_by_steps(BinaryScalar::Add, turned, values, at, list, row),
         BinaryScalar::Sub => combine_by_steps(BinaryScalar::Sub, turned, values, at, list, row),

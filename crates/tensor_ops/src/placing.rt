@@ -25,7 +25,7 @@ use crate::node::{Binary, Movement, Node, Ternary, Unary};
 use crate::operations::BinaryScalar;
 use crate::part::Part;
 use crate::placed::Placed;
-use crate::placed::settling::settled_over;
+use crate::placed::settling::{all, both, settled_over};
 use crate::splicing::{place_concatenation, place_pad};
 use crate::tensors::Tensors;
 use crate::walk::Axis;
@@ -215,10 +215,9 @@ fn pair<'a>(
 {
     let pieces = first.pieces.max(second.pieces.saturating_add(1));
     let dims = first.dims;
-    let first = Box::new(alloc, first.placed)?;
-    let second = Box::new(alloc, second.placed)?;
+    let placed = both(alloc, operation, turned, first.placed, second.placed)?;
     Ok(Part {
-        placed: Placed::Binary(operation, turned, first, second),
+        placed,
         dims,
         pieces,
     })
@@ -274,11 +273,9 @@ fn three<'a>(
     let after = second.pieces.max(third.pieces.saturating_add(1));
     let pieces = first.pieces.max(after.saturating_add(1));
     let dims = first.dims;
-    let first = Box::new(alloc, first.placed)?;
-    let second = Box::new(alloc, second.placed)?;
-    let third = Box::new(alloc, third.placed)?;
+    let placed = all(alloc, order, first.placed, second.placed, third.placed)?;
     Ok(Part {
-        placed: Placed::Select(order, first, second, third),
+        placed,
         dims,
         pieces,
     })

@@ -64,7 +64,7 @@ impl<'a> Placed<'a> {
                 all(alloc, order, first, second, third)
             }
             Placed::Walk(start, axes, operand) => {
-                Box::into_inner(operand).led(alloc, Route { start, axes })
+                Box::into_inner(operand).led(alloc, &Route { start, axes })
             }
             Placed::Spliced(turns, first, second) => {
                 let first = Box::into_inner(first).settled(alloc)?;
@@ -77,15 +77,15 @@ impl<'a> Placed<'a> {
 
     /// The same at the places of a route, which goes down to what is read by places.
     #[cycle(settled)]
-    fn led(self, alloc: Global, route: Route) -> Result<Placed<'a>, AllocError>
+    fn led(self, alloc: Global, route: &Route) -> Result<Placed<'a>, AllocError>
         requires sound { IsSound self }
         requires few { count_of self ≤ most_elements }
-        requires some { 0 < walk_size route.axes.items }
-        requires short { walk_size route.axes.items ≤ most_elements }
-        requires inside { (p : ℕ) → p < walk_size route.axes.items
-            → reached route.start route.axes.items p < count_of self }
-        ensures { IfOk result (λ r. Follows r (walk_size route.axes.items)
-            (meaning_along self.entry route.start route.axes.items)) }
+        requires some { 0 < walk_size route.now.axes.items }
+        requires short { walk_size route.now.axes.items ≤ most_elements }
+        requires inside { (p : ℕ) → p < walk_size route.now.axes.items
+            → reached route.now.start route.now.axes.items p < count_of self }
+        ensures { IfOk result (λ r. Follows r (walk_size route.now.axes.items)
+            (meaning_along self.entry route.now.start route.now.axes.items)) }
     {
         match self {
             Placed::Same(value, _) => Ok(Placed::Same(value, places_along(&route.axes))),
@@ -94,33 +94,50 @@ impl<'a> Placed<'a> {
                 each(alloc, operation, operand)
             }
             Placed::Binary(operation, turned, first, second) => {
-                let first = Box::into_inner(first).led(alloc, route.copied(alloc)?)?;
+                let first = Box::into_inner(first).led(alloc, route)?;
                 let second = Box::into_inner(second).led(alloc, route)?;
                 both(alloc, operation, turned, first, second)
             }
             Placed::Select(order, first, second, third) => {
-                let first = Box::into_inner(first).led(alloc, route.copied(alloc)?)?;
-                let second = Box::into_inner(second).led(alloc, route.copied(alloc)?)?;
+                let first = Box::into_inner(first).led(alloc, route)?;
+                let second = Box::into_inner(second).led(alloc, route)?;
                 let third = Box::into_inner(third).led(alloc, route)?;
                 all(alloc, order, first, second, third)
             }
             Placed::Walk(start, axes, operand) => {
-                if let Some(joint) = joined(alloc, &route, start, &axes)? {
-                    return Box::into_inner(operand).led(alloc, joint);
+                if let Some(joint) = joined(alloc, route, start, &axes)? {
+                    return Box::into_inner(operand).led(alloc, &joint);
                 }
                 let operand = Box::into_inner(operand).settled(alloc)?;
                 let inner = walk_over(alloc, operand, Route { start, axes })?;
-                walk_over(alloc, inner, route)
+                walk_along(alloc, inner, route)
             }
             Placed::Spliced(turns, first, second) => {
                 let first = Box::into_inner(first).settled(alloc)?;
                 let second = Box::into_inner(second).settled(alloc)?;
                 let splice = in_turns(alloc, turns, first, second)?;
-                walk_over(alloc, splice, route)
+                walk_along(alloc, splice, route)
             }
-            list => walk_over(alloc, list, route),
+            list => walk_along(alloc, list, route),
         }
     }
+}
+
+/// A walk along a route over a placed expression.
+fn walk_along<'a>(
+    alloc: Global,
+    placed: Placed<'a>,
+    route: &Route,
+) -> Result<Placed<'a>, AllocError>
+    requires sound { IsSound placed }
+    requires few { count_of placed ≤ most_elements }
+    requires inside { (p : ℕ) → p < walk_size route.now.axes.items
+        → reached route.now.start route.now.axes.items p < count_of placed }
+    ensures { IfOk result (λ r. Follows r (walk_size route.now.axes.items)
+        (meaning_along placed.entry route.now.start route.now.axes.items)) }
+{
+    let route = route.copied(alloc)?;
+    walk_over(alloc, placed, route)
 }
 
 /// A walk over a placed expression.
@@ -151,7 +168,7 @@ fn each<'a>(
 }
 
 /// An operation on each two values.
-fn both<'a>(
+pub(crate) fn both<'a>(
     alloc: Global,
     operation: BinaryScalar,
     turned: bool,
@@ -170,7 +187,7 @@ fn both<'a>(
 }
 
 /// Select on each three values.
-fn all<'a>(
+pub(crate) fn all<'a>(
     alloc: Global,
     order: SelectOrder,
     first: Placed<'a>,

@@ -2,6 +2,7 @@ use Rattle.std.proofs.Common.{true, false, List, ℕ, ◌+◌, take}
 use Rattle.std.proofs.Common.{◌≡◌, ◌<◌, pos, get_or, length, ◌+ℤ◌, IsOk, ap, subst}
 use Rattle.std.proofs.Common.{sym, ◌∙◌, rules, arith}
 use Rattle.std.proofs.lemmas.Int.{to_z-of_z}
+use Rattle.std.proofs.lemmas.Bool.{and_parts}
 use Rattle.std.specs.Int.{w64}
 use Rattle.std.specs.Prelude.{FitsSigned}
 use mir.Val.{SFits, to_z}
@@ -13,7 +14,7 @@ use Rattle.tensor_ops.specs.Splicing.{is_of_first}
 use Rattle.tensor_shape.specs.Wrap.{wrap}
 use Rattle.tensor_ops.specs.Result.{dims_of, shape_of}
 use Rattle.tensor_ops.specs.Term.{Term, unary, binary, Movement, movement, pad, concat}
-use Rattle.tensor_ops.specs.Term.{contract, convolve}
+use Rattle.tensor_ops.specs.Term.{contract, convolve, reduce, has_inputs, nodes_of}
 use Rattle.tensor_ops.specs.Tree.{term_of, movement_at, unary_at, binary_at}
 use Rattle.tensor_ops.specs.Value.{value_of_place}
 use Rattle.tensor_ops.specs.Woven.{other_dims}
@@ -28,6 +29,88 @@ use Rattle.tensor_ops.proofs.Terms.{reduced-known, ReducedOver, reduced-init, re
 use Rattle.tensor_ops.proofs.Terms.{reduced-last}
 use Rattle.tensor_ops.proofs.Terms.{summed-inside, summed-init, summed-next, summed-last}
 use Rattle.tensor_ops.proofs.cursor.+value.Goals as goal
+
+pub value_at-reduced_at-requires : goal.value_at-reduced_at-requires
+value_at-reduced_at-requires t c =
+    let arm = c.in-Unary-Reduce-default in
+    let node : unary (reduce arm.reducer arm.axes.now) (term_of arm.a.now) ≡ term_of c.args.expr.now
+    =
+    ap (λ o. unary (unary_at o) (term_of arm.a.now)) (sym arm.field-0-is) ∙ arm.ensures in (
+      omega (arith, c.decreases, ap nodes_of node),
+      (
+        rw (← node) at c.requires.inputs,
+        (rw (← node) at c.requires.dims, rw (← node) at c.requires.below),
+      ),
+    )
+
+pub value_at-padded_at-requires : goal.value_at-padded_at-requires
+value_at-padded_at-requires t c =
+    let arm = c.in-Unary-Pad-default in
+    let node : unary (pad arm.pairs.now) (term_of arm.a.now) ≡ term_of c.args.expr.now =
+    ap (λ o. unary (unary_at o) (term_of arm.a.now)) (sym arm.field-0-is) ∙ arm.ensures in (
+      omega (arith, c.decreases, ap nodes_of node),
+      (
+        rw (← node) at c.requires.inputs,
+        (rw (← node) at c.requires.dims, rw (← node) at c.requires.below),
+      ),
+    )
+
+pub value_at-concatenated_at-requires : goal.value_at-concatenated_at-requires
+value_at-concatenated_at-requires t c =
+    let arm = c.in-Binary-Concat-default-default in
+    let node : binary (concat arm.axis) (term_of arm.a.now) (term_of arm.b.now)
+    ≡ term_of c.args.expr.now =
+    ap (λ o. binary (binary_at o) (term_of arm.a.now) (term_of arm.b.now)) (sym arm.field-0-is)
+    ∙ arm.ensures in
+    let inputs = and_parts (has_inputs (term_of arm.a.now) (length c.args.inputs.now.tensors)) _
+    (rw (← node) at c.requires.inputs) in (
+      omega (arith, c.decreases, ap nodes_of node),
+      (
+        inputs.0,
+        (inputs.1, (rw (← node) at c.requires.dims, rw (← node) at c.requires.below)),
+      ),
+    )
+
+pub value_at-contracted_at-requires : goal.value_at-contracted_at-requires
+value_at-contracted_at-requires t c =
+    let arm = c.in-Binary-Contract-default-default in
+    let node : binary (contract arm.pairs.now) (term_of arm.a.now) (term_of arm.b.now)
+    ≡ term_of c.args.expr.now =
+    ap (λ o. binary (binary_at o) (term_of arm.a.now) (term_of arm.b.now)) (sym arm.field-0-is)
+    ∙ arm.ensures in
+    let inputs = and_parts (has_inputs (term_of arm.a.now) (length c.args.inputs.now.tensors)) _
+    (rw (← node) at c.requires.inputs) in (
+      omega (arith, c.decreases, ap nodes_of node),
+      (
+        inputs.0,
+        (inputs.1, (rw (← node) at c.requires.dims, rw (← node) at c.requires.below)),
+      ),
+    )
+
+pub value_at-convolved_at-requires : goal.value_at-convolved_at-requires
+value_at-convolved_at-requires t c =
+    let arm = c.in-Binary-Convolve-default-default in
+    let node : binary (convolve arm.axes.now) (term_of arm.a.now) (term_of arm.b.now)
+    ≡ term_of c.args.expr.now =
+    ap (λ o. binary (binary_at o) (term_of arm.a.now) (term_of arm.b.now)) (sym arm.field-0-is)
+    ∙ arm.ensures in
+    let inputs = and_parts (has_inputs (term_of arm.a.now) (length c.args.inputs.now.tensors)) _
+    (rw (← node) at c.requires.inputs) in (
+      omega (arith, c.decreases, ap nodes_of node),
+      (
+        inputs.0,
+        (inputs.1, (rw (← node) at c.requires.dims, rw (← node) at c.requires.below)),
+      ),
+    )
+
+pub value_at-returns-in-Unary-Reduce-default : goal.value_at-returns-in-Unary-Reduce-default
+value_at-returns-in-Unary-Reduce-default t c =
+    let arm = c.in-Unary-Reduce-default in
+    let node : unary (reduce arm.reducer arm.axes.now) (term_of arm.a.now) ≡ term_of c.args.expr.now
+    =
+    ap (λ o. unary (unary_at o) (term_of arm.a.now)) (sym arm.field-0-is) ∙ arm.ensures in
+    let fits : SFits w64 c.reduced_at.result = search rules in
+    rw (← node) (to_z-of_z w64 c.reduced_at.result fits ∙ c.reduced_at.ensures)
 
 pub value_at-returns-in-Input : goal.value_at-returns-in-Input
 value_at-returns-in-Input t c =

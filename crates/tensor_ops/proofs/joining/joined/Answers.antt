@@ -1,11 +1,14 @@
-use Rattle.std.proofs.Common.{◌≡◌, ◌+◌, ◌<◌, ◌%◌, ℕ, map, drop, get_or, [], ap, subst, sym, ◌∙◌, arith}
-use Rattle.std.proofs.Math.Nat.{mod-le}
+use Rattle.std.proofs.Common.{◌≡◌, ◌+◌, ◌-◌, ◌<◌, ◌≤◌, ◌%◌, ℕ, map, drop, get_or, [], ap, subst}
+use Rattle.std.proofs.Common.{sym, ◌∙◌, arith}
+use Rattle.std.proofs.Math.Nat.{mod-le, mul-le-mul_right}
 use Rattle.std.proofs.lemmas.List.{drop_all}
 use Rattle.tensor_ops.specs.Axes.{no_axis}
 use Rattle.tensor_ops.specs.Joining.{span, IsSameWalk, left_axis, led_axis, opened, extent_along, passed}
 use Rattle.tensor_ops.specs.Walk.{reached}
-use Rattle.tensor_ops.proofs.Joints.{left-opened, size-opened, joined-begins, joined-goes, left-within, step-within, first_step, first_step-most, walk_size-passed, extent_along-span}
-use Rattle.tensor_ops.proofs.Parting.{span-at, reached-at, some-after}
+use Rattle.tensor_ops.proofs.Joints.{left-opened, size-opened, joined-begins, joined-goes}
+use Rattle.tensor_ops.proofs.Joints.{left-within, step-within, first_step, first_step-most}
+use Rattle.tensor_ops.proofs.Joints.{begins-within, walk_size-passed, extent_along-span}
+use Rattle.tensor_ops.proofs.Parting.{span-at, reached-at, some-at, some-after}
 use Rattle.tensor_ops.proofs.Walks.{reached-start}
 use Rattle.tensor_ops.proofs.joining.joined.Goals as goal
 
@@ -27,12 +30,73 @@ extent_along-extent-requires-clause-fits c =
     let b = get_or c.args.second.now c.loop-axis.axis-index no_axis in
     rw c.deref-in-loop-axis.ensures.value (omega (arith, extent_along-span b c.loop-axis.strands.items, c.loop-axis.invariant.first))
 
+pub nonzero_rem-low : goal.nonzero_rem-low
+nonzero_rem-low c =
+    omega (
+      arith,
+      some-at c.args.second.now c.loop-axis.axis-index no_axis c.loop-axis-test.true
+          c.loop-axis.invariant.some,
+    )
+
+pub extent_along-extent-requires-clause-size : goal.extent_along-extent-requires-clause-size
+extent_along-extent-requires-clause-size c =
+    some-at c.args.second.now c.loop-axis.axis-index no_axis c.loop-axis-test.true
+    c.loop-axis.invariant.some
+
 pub overflow_add-low : goal.overflow_add-low
 overflow_add-low c =
     let b = get_or c.args.second.now c.loop-axis.axis-index no_axis in
     let extent : c.extent_along-extent.result ≡ extent_along b c.loop-axis.strands.items =
     c.extent_along-extent.ensures ∙ ap (extent_along b) c.deref-in-loop-axis.ensures.value in
     omega (arith, extent, extent_along-span b c.loop-axis.strands.items, c.loop-axis.invariant.first, mod-le c.loop-axis.left b.size)
+
+-- the place is within bounds along one axis more
+pub overflow_mul-place : goal.overflow_mul-place
+overflow_mul-place c =
+    let b = get_or c.args.second.now c.loop-axis.axis-index no_axis in
+    let second = rw (span-at c.args.second.now c.loop-axis.axis-index no_axis c.loop-axis-test.true)
+    at c.loop-axis.invariant.second in
+    omega (
+      arith,
+      begins-within b (drop (c.loop-axis.axis-index + 1) c.args.second.now)
+          (c.loop-axis.left % b.size) c.extent_along-extent.result
+          c.loop-axis.place c.first_step.result _ c.first_step.ensures c.if-axis-low.false second,
+    )
+
+pub overflow_add-place : goal.overflow_add-place
+overflow_add-place c =
+    let b = get_or c.args.second.now c.loop-axis.axis-index no_axis in
+    let second = rw (span-at c.args.second.now c.loop-axis.axis-index no_axis c.loop-axis-test.true)
+    at c.loop-axis.invariant.second in
+    omega (
+      arith,
+      begins-within b (drop (c.loop-axis.axis-index + 1) c.args.second.now)
+          (c.loop-axis.left % b.size) c.extent_along-extent.result
+          c.loop-axis.place c.first_step.result _ c.first_step.ensures c.if-axis-low.false second,
+    )
+
+pub all_passed-requires-clause-size : goal.all_passed-requires-clause-size
+all_passed-requires-clause-size c =
+    some-at c.args.second.now c.loop-axis.axis-index no_axis c.loop-axis-test.true
+    c.loop-axis.invariant.some
+
+pub all_passed-requires-clause-fits : goal.all_passed-requires-clause-fits
+all_passed-requires-clause-fits c =
+    let b = get_or c.args.second.now c.loop-axis.axis-index no_axis in
+    let span = span-at c.args.second.now c.loop-axis.axis-index no_axis c.loop-axis-test.true in
+    let extent : c.extent_along-extent.result ≡ extent_along b c.loop-axis.strands.items =
+    c.extent_along-extent.ensures ∙ ap (extent_along b) c.deref-in-loop-axis.ensures.value in
+    let most : extent_along b c.loop-axis.strands.items ≤ b.size - 1 = omega (arith, extent) in
+    rw c.deref-in-loop-axis-2.ensures.value
+    (omega (arith, c.loop-axis.invariant.second, span, mul-le-mul_right b.step most))
+
+pub nonzero_div-left : goal.nonzero_div-left
+nonzero_div-left c =
+    omega (
+      arith,
+      some-at c.args.second.now c.loop-axis.axis-index no_axis c.loop-axis-test.true
+          c.loop-axis.invariant.some,
+    )
 
 pub loop-axis-preserved : goal.loop-axis-preserved
 loop-axis-preserved c =
@@ -56,11 +120,12 @@ loop-axis-preserved c =
       first = left-within b rest strands left _ inv.first;
       second =
           step-within b rest c.loop-axis.place (first_step b (left % b.size) (left % b.size + extent_along b strands)) _ most
-          (omega (arith, inv.second, span-at c.args.second.now k no_axis (omega arith)));
+          (omega (arith, inv.second, span-at c.args.second.now k no_axis c.loop-axis-test.true));
       reaches = λ p below.
           let q : ℕ = left + reached 0 (map left_axis strands) p in
           joined-goes b rest strands left c.loop-axis.place p within (omega (arith, inv.size))
-          ∙ ap (λ n. c.loop-axis.place + reached 0 (map led_axis strands) p + n) (sym (reached-at c.args.second.now k q no_axis (omega arith)))
+          ∙ ap (λ n. c.loop-axis.place + reached 0 (map led_axis strands) p + n)
+          (sym (reached-at c.args.second.now k q no_axis c.loop-axis-test.true))
           ∙ inv.reaches p below;
     })
 

@@ -1,5 +1,5 @@
 use Rattle.std.proofs.Common.{◌≡◌, ℕ, ◌+◌, ◌*◌, ◌/◌, ◌%◌, ◌<◌, List, [], ◌∷◌, ◌++◌, length}
-use Rattle.std.proofs.Common.{slice_index, ◌∙◌, arith, inl, inr}
+use Rattle.std.proofs.Common.{slice_index, ap, ◌∙◌, arith, inl, inr}
 use Rattle.std.proofs.lemmas.Bool.{cases_lt}
 use Rattle.std.proofs.lemmas.Grind.{common_steps}
 use Rattle.std.proofs.lemmas.List.{get_or_append_left, get_or_at}
@@ -23,6 +23,26 @@ next_place moved places k size i step long inside before p below =
           (get_or_at moved (slice_index places k + i * step) [] 0 (k * size + i) long))
     ]
 
+-- one row more
+next_row : (k size : ℕ) → (k + 1) * size ≡ k * size + size
+next_row k size = grind arith
+
+pub loop-place-init : goal.loop-place-init
+loop-place-init c = record {
+  long = omega (arith, ap length c.in_ok-moved.ensures.items);
+  room = c.in_ok-moved.ensures.exact;
+  each = λ p below. absurd (omega (arith, below));
+}
+
+pub loop-index-init : goal.loop-index-init
+loop-index-init c =
+    let inv = c.loop-place.invariant in
+    record {
+      long = omega (arith, inv.long);
+      room = inv.room;
+      each = λ p below. inv.each p (omega (arith, below));
+    }
+
 pub loop-index-preserved : goal.loop-index-preserved
 loop-index-preserved c = record {
   long = grind (arith, common_steps);
@@ -42,3 +62,22 @@ push_reserved-requires c =
       mul-add-lt c.loop-place.place-index c.args.size c.loop-index.index (length c.args.places.now)
           (omega arith) c.loop-index-test.true,
     )
+
+pub loop-place-preserved : goal.loop-place-preserved
+loop-place-preserved c =
+    let inv = c.loop-index.invariant in
+    let end : c.loop-index.index ≡ c.args.size = omega arith in
+    let row = next_row c.loop-place.place-index c.args.size in
+    record {
+      long = omega (arith, inv.long, end, row);
+      room = inv.room;
+      each = λ p below. inv.each p (omega (arith, below, end, row));
+    }
+
+pub returns : goal.returns
+returns c =
+    let end : c.loop-place.place-index ≡ length c.args.places.now = omega arith in
+    record {
+      len = c.loop-place.invariant.long ∙ ap (λ n. n * c.args.size) end;
+      each = rw end at c.loop-place.invariant.each;
+    }

@@ -1,7 +1,7 @@
 use Rattle.std.proofs.Common.{◌≡◌, ◌<◌, ℕ, ℤ, pos, ◌+◌, ◌-◌, [], ◌∷◌, get_or, length, map, IfOk, refl, ap, sym, subst, ◌∙◌, rules, arith}
 use Rattle.std.specs.List.{range_with_len}
 use Rattle.std.proofs.lemmas.List.FromFn.{length-range_with_len, get_or-range_with_len, length-map-range_with_len}
-use Rattle.std.proofs.lemmas.List.{length-map}
+use Rattle.std.proofs.lemmas.List.{length-map, get_or-map}
 use Rattle.std.proofs.lemmas.Result.{on_ok_weaker}
 use Rattle.std.proofs.lemmas.Int.{to_z-of_z}
 use Rattle.std.specs.Int.{w64}
@@ -18,6 +18,42 @@ use Rattle.tensor_ops.proofs.InTurns.{firsts-run, seconds-run, first_places-belo
 use Rattle.tensor_ops.proofs.Runs.{places-applied, places-paired, places-selected, places-moved, map-constant}
 use Rattle.tensor_ops.proofs.Soundness.{reached-within}
 use Rattle.tensor_ops.proofs.placed.+values_at.Goals as goal
+
+-- combined with what is read along a walk, or with values
+pub combine_at-combine_row-requires-clause-room : goal.combine_at-combine_row-requires-clause-room
+combine_at-combine_row-requires-clause-room t c =
+    omega (arith, c.repeated.ensures.count, c.len.ensures, c.requires.same)
+
+pub combine_at-combine_along-requires-clause-within :
+    goal.combine_at-combine_along-requires-clause-within
+combine_at-combine_along-requires-clause-within t c =
+    let below = rw c.in-Run.is at c.requires.places in
+    omega (arith, below.1, c.in-Some.ensures.count)
+
+pub combine_at-combine_along-requires-clause-inside :
+    goal.combine_at-combine_along-requires-clause-inside
+combine_at-combine_along-requires-clause-inside t c = c.in-Some.ensures.inside
+
+pub combine_at-combine-requires : goal.combine_at-combine-requires
+combine_at-combine-requires t c =
+    c.requires.same
+    ∙ sym (ap length (c.as_slice.ensures.value ∙ c.in_ok-others.ensures)
+    ∙ length-map (places_of c.args.places.now) (meaning c.args.operand.now))
+
+pub combine_at-returns : goal.combine_at-returns
+combine_at-returns t c =
+    let o = either_way c.args.operation c.args.turned in
+    let places = places_of c.args.places.now in
+    let others = c.as_slice.ensures.value ∙ c.in_ok-others.ensures in
+    let long = ap length others ∙ length-map places (meaning c.args.operand.now) in
+    record {
+      len = c.combine.ensures.len ∙ long;
+      each = λ k below.
+          c.combine.ensures.each k (rw long below)
+          ∙ ap (o (get_or c.args.values.now.items k (pos 0)))
+          (ap (λ l. get_or l k (pos 0)) others
+          ∙ get_or-map (meaning c.args.operand.now) places k 0 (pos 0) below);
+    }
 
 pub values_at-sources-requires-clause-fits : goal.values_at-sources-requires-clause-fits
 values_at-sources-requires-clause-fits t c =

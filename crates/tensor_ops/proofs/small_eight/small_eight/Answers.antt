@@ -1,9 +1,9 @@
-use Rattle.std.proofs.Common.{◌≡◌, ℕ, ◌+◌, ℤ, slice_index, map}
-use Rattle.std.proofs.Common.{to_z, ap, ◌∙◌, arith}
+use Rattle.std.proofs.Common.{ℕ, ◌+◌, ℤ, slice_index, map, to_z, ap, ◌∙◌}
+use Rattle.std.proofs.Math.Nat.{add_right_comm}
 use Rattle.std.specs.Int.{w64}
 use Rattle.tensor_ops.specs.Places.{value_in}
 use Rattle.tensor_ops.specs.Products.{product_of}
-use Rattle.tensor_ops.proofs.LaneSums.{next_lane}
+use Rattle.tensor_ops.proofs.LaneSums.{turned, same-factors, next_lane}
 use Rattle.tensor_ops.proofs.SimdLanes.{lanes-bits}
 use Rattle.tensor_ops.proofs.small_eight.small_eight.Goals as goal
 
@@ -31,19 +31,19 @@ loop-q-preserved c =
       lanes_low = lanes-bits _ c.add_column-low.ensures.lanes;
       lanes_high = lanes-bits _ c.add_column-high.ensures.lanes;
       low = λ r h.
-          let here : c.args.x + offset + r ≡ c.args.x + r + offset = omega arith in
+          let here = add_right_comm c.args.x offset r in
           let left = c.four_from.ensures.each r h ∙ ap (value_in a) here in
           let right = factor.each r h in
           next_lane (f (c.args.x + r)) (map (to_z w64) c.loop-q.low) c.four_from.result
           c.spread_from-factor.result c.add_column-low.result r q h c.four_from.ensures.lanes
-          factor.lanes c.add_column-low.ensures.lanes (c.loop-q.invariant.low r h) (cc (left, right))
+          factor.lanes c.add_column-low.ensures.lanes (c.loop-q.invariant.low r h) (same-factors left right)
           (c.add_column-low.ensures.each r h);
       high = λ r h.
-          let here : c.args.x + offset + 4 + r ≡ c.args.x + 4 + r + offset = omega arith in
+          let here = turned c.args.x offset 4 r in
           let left = c.four_from-in-loop-q.ensures.each r h ∙ ap (value_in a) here in
           let right = factor.each r h in
           next_lane (f (c.args.x + 4 + r)) (map (to_z w64) c.loop-q.high)
           c.four_from-in-loop-q.result c.spread_from-factor.result c.add_column-high.result r q h
           c.four_from-in-loop-q.ensures.lanes factor.lanes c.add_column-high.ensures.lanes
-          (c.loop-q.invariant.high r h) (cc (left, right)) (c.add_column-high.ensures.each r h);
+          (c.loop-q.invariant.high r h) (same-factors left right) (c.add_column-high.ensures.each r h);
     }

@@ -1,5 +1,7 @@
-use Rattle.std.proofs.Common.{◌≡◌, ℕ, pos, ◌+◌, ◌<◌, length, true, false, not, get_or, vec_len, vec_capacity, ap, sym, ◌∙◌, rules, arith}
+use Rattle.std.proofs.Common.{◌≡◌, ℕ, pos, ◌+◌, ◌<◌, length, true, false, not, map, get_or, vec_len}
+use Rattle.std.proofs.Common.{vec_capacity, ap, sym, ◌∙◌, rules, arith}
 use Rattle.std.proofs.lemmas.Int.{to_z-of_z}
+use Rattle.std.proofs.lemmas.List.{take_all}
 use Rattle.std.specs.Int.{w64}
 use mir.Val.{SFits}
 use Rattle.tensor_ops.specs.Splicing.{is_of_first, firsts_before, seconds_before, spliced}
@@ -66,6 +68,14 @@ overflow_add-second c =
     let within : c.loop-place.second < length c.args.seconds.now = omega (arith, at.0, c.requires.seconds, c.loop-place.invariant.second) in
     search rules
 
+pub push_reserved-requires : goal.push_reserved-requires
+push_reserved-requires c =
+    omega (arith, c.loop-place.invariant.len, c.loop-place.invariant.room, c.loop-place-test.true)
+
+pub push_reserved-requires-else-is_of_first : goal.push_reserved-requires-else-is_of_first
+push_reserved-requires-else-is_of_first c =
+    omega (arith, c.loop-place.invariant.len, c.loop-place.invariant.room, c.loop-place-test.true)
+
 pub loop-place-preserved : goal.loop-place-preserved
 loop-place-preserved c =
     let t = c.args.turns in
@@ -113,3 +123,9 @@ loop-place-preserved c =
             room = ap vec_capacity w.values-is ∙ w.push_reserved-else-is_of_first.ensures.capacity ∙ inv.room;
           }
     ]
+
+pub returns : goal.returns
+returns c = λ f g firsts seconds.
+    c.loop-place.invariant.items f g firsts seconds
+    ∙ ap (map (spliced c.args.turns.first c.args.turns.second f g))
+    (take_all c.loop-place.place-index c.args.places.now c.loop-place-test.false)

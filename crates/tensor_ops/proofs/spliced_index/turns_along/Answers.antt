@@ -1,8 +1,18 @@
-use Rattle.std.proofs.Common.{◌≡◌, ℕ, List, suc, take, ap, ◌∙◌, arith, add-one}
+use Rattle.std.proofs.Common.{◌≡◌, ℕ, ◌<◌, List, suc, take, ap, subst, ◌∙◌, arith, add-one}
 use Rattle.tensor_shape.specs.Index.{size_of}
 use Rattle.tensor_ops.specs.Concatenation.{joined_dims}
 use Rattle.tensor_ops.proofs.Splices.{concatenation-known, widths-some, size_of-joined, size_of-take-le}
 use Rattle.tensor_ops.proofs.spliced_index.turns_along.Goals as goal
+
+pub width_along-requires : goal.width_along-requires
+width_along-requires c =
+    (concatenation-known c.args.axis c.args.first.now c.args.second.now c.requires.dims).in_rank
+
+pub width_along-requires-2 : goal.width_along-requires-2
+width_along-requires-2 c =
+    let known = concatenation-known c.args.axis c.args.first.now c.args.second.now c.requires.dims
+    in
+    subst (λ n. c.args.axis < n) known.same known.in_rank
 
 pub invariant_of-result : goal.invariant_of-result
 invariant_of-result c =

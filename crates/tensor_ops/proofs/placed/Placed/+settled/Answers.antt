@@ -8,8 +8,8 @@ use Rattle.tensor_ops.specs.Splicing.{spliced, HaveTurns}
 use Rattle.tensor_ops.specs.Walk.{walk_size, reached}
 use Rattle.tensor_ops.proofs.InTurns.{turns-some}
 use Rattle.tensor_ops.proofs.Settled.{joined-takes, some-below, follows-spliced, follows-along}
-use Rattle.tensor_ops.proofs.Settled.{CanSettle, CanLead, settle-beside, lead-beside, lead-copied, settle-walked, lead-joined}
-use Rattle.tensor_ops.proofs.Settled.{follows-same, follows-copied, follows-beside, follows-joined}
+use Rattle.tensor_ops.proofs.Settled.{CanSettle, CanLead, settle-beside, lead-beside, settle-walked, lead-joined}
+use Rattle.tensor_ops.proofs.Settled.{follows-same, follows-beside, follows-joined}
 use Rattle.tensor_ops.proofs.Settled.{each-follows, both-follow, all-follow, first-few, second-few}
 use Rattle.tensor_ops.proofs.placed.Placed.+settled.Goals as goal
 
@@ -225,8 +225,8 @@ settled-returns-in_ok-second-in-Spliced t c =
 -- led: what is asked of each operand
 pub led-led-requires : goal.led-led-requires
 led-led-requires t c =
-    let start = c.args.route.start in
-    let axes = c.args.route.axes.items in
+    let start = c.args.route.now.start in
+    let axes = c.args.route.now.axes.items in
     let can : CanLead c.args.self start axes =
     (c.requires.sound, (c.requires.few, (c.requires.some, (c.requires.short, c.requires.inside)))) in
     let same : c.into_inner.result ≡ c.in-Unary.operand.value = c.into_inner.ensures in (
@@ -236,22 +236,20 @@ led-led-requires t c =
 
 pub led-led-requires-in-Binary : goal.led-led-requires-in-Binary
 led-led-requires-in-Binary t c =
-    let start = c.args.route.start in
-    let axes = c.args.route.axes.items in
+    let start = c.args.route.now.start in
+    let axes = c.args.route.now.axes.items in
     let whole : CanLead c.args.self start axes =
     (c.requires.sound, (c.requires.few, (c.requires.some, (c.requires.short, c.requires.inside)))) in
     let can = rw c.in-Binary.is at whole in
-    let same : c.into_inner-in-Binary.result ≡ c.in-Binary.first.value = c.into_inner-in-Binary.ensures in
-    let copy = c.in_ok-copied-in-Binary in (
+    let same : c.into_inner-in-Binary.result ≡ c.in-Binary.first.value = c.into_inner-in-Binary.ensures in (
       omega (arith, c.decreases, ap depth_of c.in-Binary.is, ap depth_of same),
-      lead-copied c.in-Binary.first.value c.into_inner-in-Binary.result start copy.field-0.start axes copy.field-0.axes.items
-          same copy.ensures.start copy.ensures.axes (can.0.0, can.1),
+      subst (λ z. CanLead z start axes) (sym same) (can.0.0, can.1),
     )
 
 pub led-led-requires-in-Binary-2 : goal.led-led-requires-in-Binary-2
 led-led-requires-in-Binary-2 t c =
-    let start = c.args.route.start in
-    let axes = c.args.route.axes.items in
+    let start = c.args.route.now.start in
+    let axes = c.args.route.now.axes.items in
     let a = c.in-Binary.first.value in
     let b = c.in-Binary.second.value in
     let whole : CanLead c.args.self start axes =
@@ -264,38 +262,34 @@ led-led-requires-in-Binary-2 t c =
 
 pub led-led-requires-in-Select : goal.led-led-requires-in-Select
 led-led-requires-in-Select t c =
-    let start = c.args.route.start in
-    let axes = c.args.route.axes.items in
+    let start = c.args.route.now.start in
+    let axes = c.args.route.now.axes.items in
     let whole : CanLead c.args.self start axes =
     (c.requires.sound, (c.requires.few, (c.requires.some, (c.requires.short, c.requires.inside)))) in
     let can = rw c.in-Select.is at whole in
-    let same : c.into_inner-in-Select.result ≡ c.in-Select.first.value = c.into_inner-in-Select.ensures in
-    let copy = c.in_ok-copied-in-Select in (
+    let same : c.into_inner-in-Select.result ≡ c.in-Select.first.value = c.into_inner-in-Select.ensures in (
       omega (arith, c.decreases, ap depth_of c.in-Select.is, ap depth_of same),
-      lead-copied c.in-Select.first.value c.into_inner-in-Select.result start copy.field-0.start axes copy.field-0.axes.items
-          same copy.ensures.start copy.ensures.axes (can.0.0, can.1),
+      subst (λ z. CanLead z start axes) (sym same) (can.0.0, can.1),
     )
 
 pub led-led-requires-in-Select-2 : goal.led-led-requires-in-Select-2
 led-led-requires-in-Select-2 t c =
-    let start = c.args.route.start in
-    let axes = c.args.route.axes.items in
+    let start = c.args.route.now.start in
+    let axes = c.args.route.now.axes.items in
     let a = c.in-Select.first.value in
     let b = c.in-Select.second.value in
     let whole : CanLead c.args.self start axes =
     (c.requires.sound, (c.requires.few, (c.requires.some, (c.requires.short, c.requires.inside)))) in
     let can = rw c.in-Select.is at whole in
-    let same : c.into_inner-in-Select-2.result ≡ b = c.into_inner-in-Select-2.ensures in
-    let copy = c.in_ok-copied-in-Select-2 in (
+    let same : c.into_inner-in-Select-2.result ≡ b = c.into_inner-in-Select-2.ensures in (
       omega (arith, c.decreases, ap depth_of c.in-Select.is, ap depth_of same),
-      lead-copied b c.into_inner-in-Select-2.result start copy.field-0.start axes copy.field-0.axes.items
-          same copy.ensures.start copy.ensures.axes (lead-beside a b start axes can.0.1.0.1 can.0.1.0.0 (can.0.0, can.1)),
+      subst (λ z. CanLead z start axes) (sym same) (lead-beside a b start axes can.0.1.0.1 can.0.1.0.0 (can.0.0, can.1)),
     )
 
 pub led-led-requires-in-Select-3 : goal.led-led-requires-in-Select-3
 led-led-requires-in-Select-3 t c =
-    let start = c.args.route.start in
-    let axes = c.args.route.axes.items in
+    let start = c.args.route.now.start in
+    let axes = c.args.route.now.axes.items in
     let a = c.in-Select.first.value in
     let d = c.in-Select.third.value in
     let whole : CanLead c.args.self start axes =
@@ -311,78 +305,67 @@ pub led-both-requires : goal.led-both-requires
 led-both-requires t c =
     let x = c.in_ok-first-in-Binary.ensures in
     let y = c.in_ok-second-in-Binary.ensures in
-    record {
-      first = x.sound;
-      second = y.sound;
-      same = y.count ∙ sym (x.count ∙ ap walk_size c.in_ok-copied-in-Binary.ensures.axes);
-    }
+    record { first = x.sound; second = y.sound; same = y.count ∙ sym x.count }
 
 pub led-all-requires : goal.led-all-requires
 led-all-requires t c =
     let x = c.in_ok-first-in-Select.ensures in
     let y = c.in_ok-second-in-Select.ensures in
     let z = c.in_ok-third-in-Select.ensures in
-    let whole = sym (x.count ∙ ap walk_size c.in_ok-copied-in-Select.ensures.axes) in
     record {
       first = x.sound;
       second = y.sound;
       third = z.sound;
-      same_second = y.count ∙ ap walk_size c.in_ok-copied-in-Select-2.ensures.axes ∙ whole;
-      same_third = z.count ∙ whole;
+      same_second = y.count ∙ sym x.count;
+      same_third = z.count ∙ sym x.count;
     }
 
-pub led-returns-in-Unary : goal.led-returns-in-Unary
-led-returns-in-Unary t c =
-    let start = c.args.route.start in
-    let axes = c.args.route.axes.items in
+pub led-returns-in_ok-operand-in-Unary : goal.led-returns-in_ok-operand-in-Unary
+led-returns-in_ok-operand-in-Unary t c =
+    let start = c.args.route.now.start in
+    let axes = c.args.route.now.axes.items in
     let a = c.in-Unary.operand.value in
     let x = c.in_ok-operand-in-Unary.operand in
     rw c.in-Unary.is
     (each-follows c.each.result c.in-Unary.operation x (walk_size axes) (meaning_along a start axes)
     (subst (λ z. Follows x (walk_size axes) (meaning_along z start axes)) c.into_inner.ensures c.in_ok-operand-in-Unary.ensures) c.each.ensures)
 
-pub led-returns-in-Binary : goal.led-returns-in-Binary
-led-returns-in-Binary t c =
-    let start = c.args.route.start in
-    let axes = c.args.route.axes.items in
+pub led-returns-in_ok-second-in-Binary : goal.led-returns-in_ok-second-in-Binary
+led-returns-in_ok-second-in-Binary t c =
+    let start = c.args.route.now.start in
+    let axes = c.args.route.now.axes.items in
     let a = c.in-Binary.first.value in
     let b = c.in-Binary.second.value in
     let x = c.in_ok-first-in-Binary.first in
     let y = c.in_ok-second-in-Binary.second in
-    let copy = c.in_ok-copied-in-Binary in
     rw c.in-Binary.is
     (both-follow c.both.result c.in-Binary.operation c.in-Binary.turned x y (walk_size axes) (meaning_along a start axes) (meaning_along b start axes)
-    (follows-copied x c.into_inner-in-Binary.result a start copy.field-0.start axes copy.field-0.axes.items
-    c.into_inner-in-Binary.ensures copy.ensures.start copy.ensures.axes c.in_ok-first-in-Binary.ensures)
+    (subst (λ z. Follows x (walk_size axes) (meaning_along z start axes)) c.into_inner-in-Binary.ensures c.in_ok-first-in-Binary.ensures)
     (subst (λ z. Follows y (walk_size axes) (meaning_along z start axes)) c.into_inner-in-Binary-2.ensures c.in_ok-second-in-Binary.ensures)
     c.both.ensures)
 
-pub led-returns-in-Select : goal.led-returns-in-Select
-led-returns-in-Select t c =
-    let start = c.args.route.start in
-    let axes = c.args.route.axes.items in
+pub led-returns-in_ok-third-in-Select : goal.led-returns-in_ok-third-in-Select
+led-returns-in_ok-third-in-Select t c =
+    let start = c.args.route.now.start in
+    let axes = c.args.route.now.axes.items in
     let a = c.in-Select.first.value in
     let b = c.in-Select.second.value in
     let d = c.in-Select.third.value in
     let x = c.in_ok-first-in-Select.first in
     let y = c.in_ok-second-in-Select.second in
     let z = c.in_ok-third-in-Select.third in
-    let copy = c.in_ok-copied-in-Select in
-    let too = c.in_ok-copied-in-Select-2 in
     rw c.in-Select.is
     (all-follow c.all.result c.in-Select.order x y z (walk_size axes) (meaning_along a start axes) (meaning_along b start axes) (meaning_along d start axes)
-    (follows-copied x c.into_inner-in-Select.result a start copy.field-0.start axes copy.field-0.axes.items
-    c.into_inner-in-Select.ensures copy.ensures.start copy.ensures.axes c.in_ok-first-in-Select.ensures)
-    (follows-copied y c.into_inner-in-Select-2.result b start too.field-0.start axes too.field-0.axes.items
-    c.into_inner-in-Select-2.ensures too.ensures.start too.ensures.axes c.in_ok-second-in-Select.ensures)
+    (subst (λ w. Follows x (walk_size axes) (meaning_along w start axes)) c.into_inner-in-Select.ensures c.in_ok-first-in-Select.ensures)
+    (subst (λ w. Follows y (walk_size axes) (meaning_along w start axes)) c.into_inner-in-Select-2.ensures c.in_ok-second-in-Select.ensures)
     (subst (λ w. Follows z (walk_size axes) (meaning_along w start axes)) c.into_inner-in-Select-3.ensures c.in_ok-third-in-Select.ensures)
     c.all.ensures)
 
 -- led over a walk
 pub led-joined-requires : goal.led-joined-requires
 led-joined-requires t c =
-    let start = c.args.route.start in
-    let axes = c.args.route.axes.items in
+    let start = c.args.route.now.start in
+    let axes = c.args.route.now.axes.items in
     let sound = rw c.in-Walk.is at c.requires.sound in
     let inside = rw c.in-Walk.is at c.requires.inside in
     let few = rw c.in-Walk.is at c.requires.few in
@@ -392,8 +375,8 @@ led-joined-requires t c =
 
 pub led-led-requires-in-Some : goal.led-led-requires-in-Some
 led-led-requires-in-Some t c =
-    let start = c.args.route.start in
-    let axes = c.args.route.axes.items in
+    let start = c.args.route.now.start in
+    let axes = c.args.route.now.axes.items in
     let joint = c.in-Some.joint in
     let sound = rw c.in-Walk.is at c.requires.sound in
     let inside = rw c.in-Walk.is at c.requires.inside in
@@ -408,8 +391,8 @@ led-led-requires-in-Some t c =
 
 pub led-returns-in-Some : goal.led-returns-in-Some
 led-returns-in-Some t c =
-    let start = c.args.route.start in
-    let axes = c.args.route.axes.items in
+    let start = c.args.route.now.start in
+    let axes = c.args.route.now.axes.items in
     let joint = c.in-Some.joint in
     let a = c.in-Walk.operand.value in
     let some = rw c.in-Some.is at c.in_ok-joint-in-Walk.ensures in
@@ -429,7 +412,7 @@ led-settled-requires t c =
     let same : c.into_inner-in-Walk.result ≡ c.in-Walk.operand.value = c.into_inner-in-Walk.ensures in (
       omega (arith, c.decreases, ap depth_of c.in-Walk.is, ap depth_of same),
       subst CanSettle (sym same)
-          (settle-walked c.in-Walk.operand.value c.in-Walk.start c.args.route.start c.in-Walk.axes.items c.args.route.axes.items
+          (settle-walked c.in-Walk.operand.value c.in-Walk.start c.args.route.now.start c.in-Walk.axes.items c.args.route.now.axes.items
           sound.0 sound.1.0 sound.1.1 c.requires.some inside),
     )
 
@@ -444,21 +427,21 @@ led-walk_over-requires t c =
       inside = λ p below. subst (λ n. reached c.in-Walk.start c.in-Walk.axes.items p < n) (sym count) (sound.1.1 p below);
     }
 
-pub led-walk_over-requires-in-Walk : goal.led-walk_over-requires-in-Walk
-led-walk_over-requires-in-Walk t c =
+pub led-walk_along-requires : goal.led-walk_along-requires
+led-walk_along-requires t c =
     let inner = c.in_ok-inner-in-Walk.ensures in
     let few = rw c.in-Walk.is at c.requires.few in
     let inside = rw c.in-Walk.is at c.requires.inside in
     record {
       sound = inner.sound;
       few = subst (λ n. n ≤ most_elements) (sym inner.count) few;
-      inside = λ p below. subst (λ n. reached c.args.route.start c.args.route.axes.items p < n) (sym inner.count) (inside p below);
+      inside = λ p below. subst (λ n. reached c.args.route.now.start c.args.route.now.axes.items p < n) (sym inner.count) (inside p below);
     }
 
-pub led-returns-in-Walk : goal.led-returns-in-Walk
-led-returns-in-Walk t c =
-    let start = c.args.route.start in
-    let axes = c.args.route.axes.items in
+pub led-returns-in_ok-inner-in-Walk : goal.led-returns-in_ok-inner-in-Walk
+led-returns-in_ok-inner-in-Walk t c =
+    let start = c.args.route.now.start in
+    let axes = c.args.route.now.axes.items in
     let from = c.in-Walk.start in
     let along = c.in-Walk.axes.items in
     let a = c.in-Walk.operand.value in
@@ -469,11 +452,11 @@ led-returns-in-Walk t c =
     let whole = follows-along w x (count_of a) (meaning a) from along c.in_ok-inner-in-Walk.ensures
     (follows-same x c.into_inner-in-Walk.result a c.into_inner-in-Walk.ensures c.in_ok-operand-in-Walk.ensures) sound.1.1 in
     rw c.in-Walk.is
-    (IfOk-weaker c.walk_over-in-Walk.result
+    (IfOk-weaker c.walk_along.result
     (λ r. Follows r (walk_size axes) (meaning_along w start axes))
     (λ r. Follows r (walk_size axes) (λ p. meaning a (reached from along (reached start axes p))))
     (λ r follows. follows-along r w (walk_size along) (meaning_along a from along) start axes follows whole inside)
-    c.walk_over-in-Walk.ensures)
+    c.walk_along.ensures)
 
 -- led over a splice
 pub led-settled-requires-in-Spliced : goal.led-settled-requires-in-Spliced
@@ -519,8 +502,8 @@ led-in_turns-requires t c =
           (sym (y.count ∙ ap count_of c.into_inner-in-Spliced-2.ensures)) sound.1.1);
     }
 
-pub led-walk_over-requires-in-Spliced : goal.led-walk_over-requires-in-Spliced
-led-walk_over-requires-in-Spliced t c =
+pub led-walk_along-requires-in-Spliced : goal.led-walk_along-requires-in-Spliced
+led-walk_along-requires-in-Spliced t c =
     let a = c.in-Spliced.first.value in
     let b = c.in-Spliced.second.value in
     let splice = c.in_ok-splice-in-Spliced.ensures in
@@ -533,16 +516,16 @@ led-walk_over-requires-in-Spliced t c =
     record {
       sound = splice.sound;
       few = subst (λ n. n ≤ most_elements) (sym count) few;
-      inside = λ p below. subst (λ n. reached c.args.route.start c.args.route.axes.items p < n) (sym count) (inside p below);
+      inside = λ p below. subst (λ n. reached c.args.route.now.start c.args.route.now.axes.items p < n) (sym count) (inside p below);
     }
 
-pub led-returns-in-Spliced : goal.led-returns-in-Spliced
-led-returns-in-Spliced t c =
+pub led-returns-in_ok-splice-in-Spliced : goal.led-returns-in_ok-splice-in-Spliced
+led-returns-in_ok-splice-in-Spliced t c =
     let turns = c.in-Spliced.turns in
     let a = c.in-Spliced.first.value in
     let b = c.in-Spliced.second.value in
-    let start = c.args.route.start in
-    let axes = c.args.route.axes.items in
+    let start = c.args.route.now.start in
+    let axes = c.args.route.now.axes.items in
     let w = c.in_ok-splice-in-Spliced.splice in
     let sound = rw c.in-Spliced.is at c.requires.sound in
     let inside = rw c.in-Spliced.is at c.requires.inside in
@@ -551,9 +534,9 @@ led-returns-in-Spliced t c =
     c.into_inner-in-Spliced.ensures c.into_inner-in-Spliced-2.ensures
     c.in_ok-first-in-Spliced.ensures c.in_ok-second-in-Spliced.ensures c.in_ok-splice-in-Spliced.ensures in
     rw c.in-Spliced.is
-    (IfOk-weaker c.walk_over-in-Spliced.result
+    (IfOk-weaker c.walk_along-in-Spliced.result
     (λ r. Follows r (walk_size axes) (meaning_along w start axes))
     (λ r. Follows r (walk_size axes) (λ p. spliced turns.first turns.second (meaning a) (meaning b) (reached start axes p)))
     (λ r follows.
     follows-along r w (count_of a + count_of b) (spliced turns.first turns.second (meaning a) (meaning b)) start axes follows splice inside)
-    c.walk_over-in-Spliced.ensures)
+    c.walk_along-in-Spliced.ensures)
