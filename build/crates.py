@@ -83,6 +83,12 @@ def free_memory():
         return 1024 * int(re.search(r"MemAvailable:\s+(\d+)", file.read())[1])
 
 
+def beside():
+    """The environment of `rt ci`: how many checks it runs side by side, where that isn't said."""
+    lanes = subprocess.run([os.path.join(TOP, "build", "lanes")], capture_output=True, text=True)
+    return {"RT_JOBS": lanes.stdout.strip(), **os.environ}
+
+
 def clock(seconds):
     return f"{int(seconds) // 60} min {int(seconds) % 60} s"
 
