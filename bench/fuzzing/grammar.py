@@ -26,7 +26,7 @@ BINARY += ["and", "or"]
 REDUCTIONS = ["sum", "prod", "maximum", "minimum", "all", "any"]
 # The calls of a grammar that make an operation, the more often the more operations they stand for.
 MAKERS = ["unary"] * 2 + ["binary"] * 5 + ["select", "constant", "broadcast", "slice", "shuffle"]
-MAKERS += ["reshape", "chip", "reverse"] + ["reduction"] * 4 + ["contraction"] * 3
+MAKERS += ["reshape", "chip", "reverse", "chain"] + ["reduction"] * 4 + ["contraction"] * 3
 MAKERS_OF = {1: MAKERS, 2: MAKERS + ["stride", "pad", "concat", "convolution"] * 2}
 
 
@@ -88,6 +88,15 @@ class Grammar:
 
     def binary(self, dims, depth):
         return [self.random.choice(BINARY), self.node(dims, depth), self.node(dims, depth)]
+
+    def chain(self, dims, depth):
+        """Operations one after the other, most of them with one and the same operand."""
+        expr, operand = self.node(dims, depth), self.node(dims, min(depth, 1))
+        for _ in range(self.random.randint(2, 5)):
+            sides = [expr, operand if self.random.random() < 0.9 else self.leaf(dims)]
+            self.random.shuffle(sides)
+            expr = [self.random.choice(BINARY), *sides]
+        return expr
 
     def select(self, dims, depth):
         return ["select", *(self.node(dims, depth) for _ in range(3))]

@@ -14,8 +14,9 @@ use crate::cases::Cases;
 use std::{fs, io};
 
 /// The files of cases.
-const FILES: [&str; 17] = [
+const FILES: [&str; 18] = [
     "arguments.cases",
+    "chains.cases",
     "check_order.cases",
     "contractions.cases",
     "fault_order.cases",

@@ -1,4 +1,5 @@
 pub mod AxisLists
+pub mod Chains
 pub mod Combined
 pub mod CombinedRows
 pub mod Contractions

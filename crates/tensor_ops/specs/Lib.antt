@@ -3,6 +3,7 @@ pub use Rattle.tensor_shape.specs.Legal
 pub use Rattle.tensor_shape.specs.Wrap
 pub mod Axes
 pub mod Cells
+pub mod Chain
 pub mod Concatenation
 pub mod Contents
 pub mod Contracting

@@ -3,6 +3,7 @@ use Rattle.std.specs.Prelude.{◌≡◌, ℕ, ℤ, ◌+◌, ◌<◌, ◌≤◌, 
 use Rattle.std.specs.Coded.{×_prop, Π_prop, Unit-prop, le_prop}
 use native.Mathlib.Nat.{ℕ_set}
 use Rattle.tensor_shape.specs.Legal.{most_elements}
+use Rattle.tensor_ops.specs.Chain.{chained}
 use Rattle.tensor_ops.specs.Loops.{either_way, selected}
 use Rattle.tensor_ops.specs.Places.{value_in}
 use Rattle.tensor_ops.specs.Scalars.{applied}
@@ -12,7 +13,7 @@ use Rattle.tensor_ops.specs.declared.placed.Placed.{Placed}
 use Rattle.tensor_ops.specs.declared.walk.Reading.{Reading}
 use Rattle.tensor_ops.specs.declared.placed.Placed.TheVariants.{Lent, Kept, Same}
 use Rattle.tensor_ops.specs.declared.placed.Placed.TheVariants.{Unary', Binary', Select', Walk'}
-use Rattle.tensor_ops.specs.declared.placed.Placed.TheVariants.{Spliced'}
+use Rattle.tensor_ops.specs.declared.placed.Placed.TheVariants.{Spliced', Chain'}
 
 -- the value at a place
 abbrev pub meaning : Placed → ℕ → ℤ
@@ -21,6 +22,7 @@ meaning (Kept values) p = value_in values.items p
 meaning (Same value count) p = value
 meaning (Unary' o k a) p = applied o (meaning a p)
 meaning (Binary' o turned k a l b) p = either_way o turned (meaning a p) (meaning b p)
+meaning (Chain' links k a l b) p = chained links.items (meaning a p) (meaning b p)
 meaning (Select' order k a l b m c) p = selected order (meaning a p) (meaning b p) (meaning c p)
 meaning (Walk' start axes k a) p = meaning a (reached start axes.items p)
 meaning (Spliced' turns k a l b) p = spliced turns.first turns.second (meaning a) (meaning b) p
@@ -32,6 +34,7 @@ count_of (Kept values) = length values.items
 count_of (Same value count) = count
 count_of (Unary' o k a) = count_of a
 count_of (Binary' o turned k a l b) = count_of a
+count_of (Chain' links k a l b) = count_of a
 count_of (Select' order k a l b m c) = count_of a
 count_of (Walk' start axes k a) = walk_size axes.items
 count_of (Spliced' turns k a l b) = count_of a + count_of b
@@ -43,6 +46,7 @@ depth_of (Kept values) = 0
 depth_of (Same value count) = 0
 depth_of (Unary' o k a) = depth_of a + 1
 depth_of (Binary' o turned k a l b) = depth_of a + depth_of b + 1
+depth_of (Chain' links k a l b) = depth_of a + depth_of b + 1
 depth_of (Select' order k a l b m c) = depth_of a + depth_of b + depth_of c + 1
 depth_of (Walk' start axes k a) = depth_of a + 1
 depth_of (Spliced' turns k a l b) = depth_of a + depth_of b + 1
@@ -54,6 +58,7 @@ IsSound (Kept values) = Unit {0}
 IsSound (Same value count) = Unit {0}
 IsSound (Unary' o k a) = IsSound a
 IsSound (Binary' o turned k a l b) = IsSound a × (IsSound b × (count_of b ≡ count_of a))
+IsSound (Chain' links k a l b) = IsSound a × (IsSound b × (count_of b ≡ count_of a))
 IsSound (Select' order k a l b m c) =
     IsSound a × ((IsSound b × (count_of b ≡ count_of a)) × (IsSound c × (count_of c ≡ count_of a)))
 IsSound (Walk' start axes k a) =
@@ -69,6 +74,8 @@ IsSound-prop (Kept values) = Unit-prop
 IsSound-prop (Same value count) = Unit-prop
 IsSound-prop (Unary' o k a) = IsSound-prop a
 IsSound-prop (Binary' o turned k a l b) =
+    ×_prop (IsSound-prop a) (×_prop (IsSound-prop b) (ℕ_set _ _))
+IsSound-prop (Chain' links k a l b) =
     ×_prop (IsSound-prop a) (×_prop (IsSound-prop b) (ℕ_set _ _))
 IsSound-prop (Select' order k a l b m c) =
     ×_prop (IsSound-prop a)

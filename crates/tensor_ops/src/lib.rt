@@ -4,6 +4,7 @@
 
 mod axes;
 mod cell;
+mod chain;
 mod combining;
 mod concatenation_dims;
 mod contraction;

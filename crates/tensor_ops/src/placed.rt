@@ -1,6 +1,7 @@
 //! Placed expressions: what is left of an expression once index lists are settled, a tree whose
 //! values are asked for by place. The values are worked out by loops over places.
 
+pub(crate) mod chaining;
 pub(crate) mod settling;
 
 ghost use Rattle.std.specs.Prelude.{◌≡◌, ◌<◌, ◌≤◌, ◌-◌, ◌+◌, ◌++◌, ℕ, pos, length, map, vec_len};
@@ -14,6 +15,7 @@ ghost use Rattle.tensor_ops.specs.Places.{places_of, value_in, AreBelow};
 ghost use Rattle.tensor_ops.specs.Placing.{HasValues, meaning_at};
 ghost use Rattle.tensor_ops.specs.Splicing.{spliced, HaveTurns};
 
+use crate::chain::{Link, combine_chain};
 use crate::combining::{combine_along, has_long_rows};
 use crate::gather::{picked, picked_along};
 use crate::loops::{SelectOrder, apply, combine, combine_row, select};
@@ -48,6 +50,9 @@ pub(crate) enum Placed<'a> {
     /// The operation on both values at the same place, of which the second comes first where they
     /// are turned.
     Binary(BinaryScalar, bool, Box<Placed<'a>>, Box<Placed<'a>>),
+    /// The operations, one after the other, on the first operand's value and the second's at the
+    /// same place.
+    Chain(Vec<Link>, Box<Placed<'a>>, Box<Placed<'a>>),
     /// Select on the three values at the same place.
     Select(SelectOrder, Box<Placed<'a>>, Box<Placed<'a>>, Box<Placed<'a>>),
     /// The operand's value at the place that the axes reach from a start.
@@ -65,6 +70,7 @@ impl Drop for Placed<'_> {
             | Placed::Same(_, _)
             | Placed::Unary(_, _)
             | Placed::Binary(_, _, _, _)
+            | Placed::Chain(_, _, _)
             | Placed::Select(_, _, _, _)
             | Placed::Walk(_, _, _)
             | Placed::Spliced(_, _, _) => {}
@@ -248,6 +254,12 @@ pub(crate) fn values_at<'t, 'a>(
         Placed::Binary(operation, turned, first, second) => {
             let mut values = owned(alloc, values_at(alloc, first, places)?)?;
             combine_at(alloc, *operation, *turned, &mut values, second, places)?;
+            Ok(CowSlice::Owned(values))
+        }
+        Placed::Chain(links, first, second) => {
+            let mut values = owned(alloc, values_at(alloc, first, places)?)?;
+            let operand = values_at(alloc, second, places)?;
+            combine_chain(links, &mut values, operand.as_slice());
             Ok(CowSlice::Owned(values))
         }
         Placed::Select(order, first, second, third) => {

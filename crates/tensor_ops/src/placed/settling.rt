@@ -55,7 +55,7 @@ impl<'a> Placed<'a> {
             Placed::Binary(operation, turned, first, second) => {
                 let first = Box::into_inner(first).settled(alloc)?;
                 let second = Box::into_inner(second).settled(alloc)?;
-                both(alloc, operation, turned, first, second)
+                first.chained(alloc, operation, turned, second)
             }
             Placed::Select(order, first, second, third) => {
                 let first = Box::into_inner(first).settled(alloc)?;
@@ -96,7 +96,7 @@ impl<'a> Placed<'a> {
             Placed::Binary(operation, turned, first, second) => {
                 let first = Box::into_inner(first).led(alloc, route)?;
                 let second = Box::into_inner(second).led(alloc, route)?;
-                both(alloc, operation, turned, first, second)
+                first.chained(alloc, operation, turned, second)
             }
             Placed::Select(order, first, second, third) => {
                 let first = Box::into_inner(first).led(alloc, route)?;

@@ -8,6 +8,7 @@ use Rattle.std.specs.Int.{w64}
 use mir.Val.{SFits, to_z, of_z}
 use Rattle.std.specs.Cow.{cow_slice_items}
 use Rattle.std.specs.Prelude.{replicate}
+use Rattle.tensor_ops.specs.Chain.{chained}
 use Rattle.tensor_ops.specs.Loops.{either_way, selected}
 use Rattle.tensor_ops.specs.Meaning.{meaning, count_of, depth_of}
 use Rattle.tensor_ops.specs.Places.{places_of}
@@ -182,6 +183,44 @@ values_at-returns-in_ok-sources-in-Walk t c =
     ∙ places-moved (places_of c.args.places.now) (meaning c.in-Walk.operand.value) (reached c.in-Walk.start c.in-Walk.axes.items) in
     rw c.in-Walk.is
     (subst (λ l. IfOk c.values_at-in-Walk.result (λ v. cow_slice_items v ≡ l)) whole c.values_at-in-Walk.ensures)
+
+pub values_at-values_at-requires-in-Chain : goal.values_at-values_at-requires-in-Chain
+values_at-values_at-requires-in-Chain t c =
+    let sound = rw c.in-Chain.is at c.requires.sound in (
+      omega (arith, c.decreases, ap depth_of c.in-Chain.is, ap depth_of c.deref-in-Chain.ensures),
+      (
+        rw (c.deref-in-Chain.ensures) sound.0,
+        rw (c.deref-in-Chain.ensures) (rw c.in-Chain.is at c.requires.places),
+      ),
+    )
+
+pub values_at-values_at-requires-in-Chain-2 : goal.values_at-values_at-requires-in-Chain-2
+values_at-values_at-requires-in-Chain-2 t c =
+    let sound = rw c.in-Chain.is at c.requires.sound in (
+      omega (arith, c.decreases, ap depth_of c.in-Chain.is, ap depth_of c.deref-in-Chain-2.ensures),
+      (
+        rw (c.deref-in-Chain-2.ensures) sound.1.0,
+        rw (c.deref-in-Chain-2.ensures, sound.1.1) (rw c.in-Chain.is at c.requires.places),
+      ),
+    )
+
+pub values_at-returns-in_ok-operand-in-Chain : goal.values_at-returns-in_ok-operand-in-Chain
+values_at-returns-in_ok-operand-in-Chain t c =
+    let places = places_of c.args.places.now in
+    let second : ℕ → ℤ = meaning c.in-Chain.second.value in
+    let operand = c.as_slice-in-Chain.ensures.value ∙ c.in_ok-operand-in-Chain.ensures
+    ∙ ap (λ a. map (meaning a) places) c.deref-in-Chain-2.ensures in
+    let links = c.deref-in-Chain-3.ensures.value in
+    rw c.in-Chain.is
+    (places-paired places (chained c.in-Chain.links.items) (meaning c.in-Chain.first.value) second
+    c.in_ok-values-in-Chain.values.items c.combine_chain.new.values.items
+    (c.in_ok-values-in-Chain.ensures ∙ c.in_ok-values_at-in-Chain.ensures
+    ∙ ap (λ a. map (meaning a) places) c.deref-in-Chain.ensures)
+    (c.combine_chain.ensures.len ∙ ap length operand ∙ length-map places second)
+    (λ k below. c.combine_chain.ensures.each k (rw (ap length operand ∙ length-map places second) below)
+    ∙ ap (λ ls. chained ls (get_or c.in_ok-values-in-Chain.values.items k (pos 0)) (get_or c.as_slice-in-Chain.result.now k (pos 0))) links
+    ∙ ap (λ l. chained c.in-Chain.links.items (get_or c.in_ok-values-in-Chain.values.items k (pos 0)) (get_or l k (pos 0))) operand
+    ∙ ap (λ y. chained c.in-Chain.links.items (get_or c.in_ok-values-in-Chain.values.items k (pos 0)) y) (get_or-map second places k 0 (pos 0) below)))
 
 pub values_at-values_at-requires-in-Select : goal.values_at-values_at-requires-in-Select
 values_at-values_at-requires-in-Select t c =

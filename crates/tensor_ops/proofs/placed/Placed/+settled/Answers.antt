@@ -115,14 +115,14 @@ settled-settled-requires-in-Spliced-2 t c =
     )
 
 -- and that what is made of the settled operands follows the whole
-pub settled-both-requires : goal.settled-both-requires
-settled-both-requires t c =
+pub settled-chained-requires : goal.settled-chained-requires
+settled-chained-requires t c =
     let x = c.in_ok-first-in-Binary.ensures in
     let y = c.in_ok-second-in-Binary.ensures in
     let sound = rw c.in-Binary.is at c.requires.sound in
     record {
-      first = x.sound;
-      second = y.sound;
+      sound = x.sound;
+      other = y.sound;
       same = y.count ∙ ap count_of c.into_inner-in-Binary-2.ensures ∙ sound.1.1
           ∙ sym (x.count ∙ ap count_of c.into_inner-in-Binary.ensures);
     }
@@ -158,11 +158,11 @@ settled-returns-in_ok-second-in-Binary t c =
     let y = c.in_ok-second-in-Binary.second in
     let sound = rw c.in-Binary.is at c.requires.sound in
     rw c.in-Binary.is
-    (both-follow c.both.result c.in-Binary.operation c.in-Binary.turned x y (count_of a) (meaning a) (meaning b)
+    (both-follow c.chained.result c.in-Binary.operation c.in-Binary.turned x y (count_of a) (meaning a) (meaning b)
     (follows-same x c.into_inner-in-Binary.result a c.into_inner-in-Binary.ensures c.in_ok-first-in-Binary.ensures)
     (follows-beside y (count_of b) (count_of a) (meaning b) sound.1.1
     (follows-same y c.into_inner-in-Binary-2.result b c.into_inner-in-Binary-2.ensures c.in_ok-second-in-Binary.ensures))
-    c.both.ensures)
+    c.chained.ensures)
 
 pub settled-returns-in_ok-third-in-Select : goal.settled-returns-in_ok-third-in-Select
 settled-returns-in_ok-third-in-Select t c =
@@ -301,11 +301,11 @@ led-led-requires-in-Select-3 t c =
     )
 
 -- and that what is made of the led operands follows the whole
-pub led-both-requires : goal.led-both-requires
-led-both-requires t c =
+pub led-chained-requires : goal.led-chained-requires
+led-chained-requires t c =
     let x = c.in_ok-first-in-Binary.ensures in
     let y = c.in_ok-second-in-Binary.ensures in
-    record { first = x.sound; second = y.sound; same = y.count ∙ sym x.count }
+    record { sound = x.sound; other = y.sound; same = y.count ∙ sym x.count }
 
 pub led-all-requires : goal.led-all-requires
 led-all-requires t c =
@@ -339,10 +339,10 @@ led-returns-in_ok-second-in-Binary t c =
     let x = c.in_ok-first-in-Binary.first in
     let y = c.in_ok-second-in-Binary.second in
     rw c.in-Binary.is
-    (both-follow c.both.result c.in-Binary.operation c.in-Binary.turned x y (walk_size axes) (meaning_along a start axes) (meaning_along b start axes)
+    (both-follow c.chained.result c.in-Binary.operation c.in-Binary.turned x y (walk_size axes) (meaning_along a start axes) (meaning_along b start axes)
     (subst (λ z. Follows x (walk_size axes) (meaning_along z start axes)) c.into_inner-in-Binary.ensures c.in_ok-first-in-Binary.ensures)
     (subst (λ z. Follows y (walk_size axes) (meaning_along z start axes)) c.into_inner-in-Binary-2.ensures c.in_ok-second-in-Binary.ensures)
-    c.both.ensures)
+    c.chained.ensures)
 
 pub led-returns-in_ok-third-in-Select : goal.led-returns-in_ok-third-in-Select
 led-returns-in_ok-third-in-Select t c =

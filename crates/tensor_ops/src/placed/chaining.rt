@@ -1,0 +1,55 @@
+//! Operations that read one operand again and again become a chain, for which it is read once.
+
+ghost use Rattle.std.specs.Prelude.{◌≡◌, ℕ, IfOk, IsTrue};
+ghost use Rattle.tensor_ops.specs.Loops.{either_way};
+ghost use Rattle.tensor_ops.specs.Meaning.{meaning, count_of, IsSound};
+ghost use Rattle.tensor_ops.specs.Placing.{IsJoined};
+
+use crate::chain::{Link, are_same};
+use crate::operations::BinaryScalar;
+use crate::placed::Placed;
+use crate::placed::settling::both;
+use std::alloc::{AllocError, Global};
+
+impl<'a> Placed<'a> {
+    /// An operation on each value and another one's. Where this is an operation that reads what the
+    /// other one reads, too, they become a chain.
+    pub(crate) fn chained(
+        self,
+        alloc: Global,
+        operation: BinaryScalar,
+        turned: bool,
+        other: Placed<'a>,
+    ) -> Result<Placed<'a>, AllocError>
+        requires sound { IsSound self }
+        requires other { IsSound other }
+        requires same { count_of other ≡ count_of self }
+        ensures { IfOk result (λ r. IsJoined r self.entry
+            (λ p. either_way operation turned (meaning self.entry p) (meaning other.entry p))) }
+    {
+        let link = Link { operation, turned };
+        match self {
+            Placed::Binary(operation, turned, a, b) if read_the_same(&b, &other) => {
+                let links = vec![in alloc; Link { operation, turned }, link]?;
+                Ok(Placed::Chain(links, a, b))
+            }
+            Placed::Chain(mut links, a, b) if read_the_same(&b, &other) => {
+                links.push(link)?;
+                Ok(Placed::Chain(links, a, b))
+            }
+            first => both(alloc, operation, turned, first, other),
+        }
+    }
+}
+
+/// Whether two operands are seen to have the same values: both read lists along walks.
+fn read_the_same(first: &Placed<'_>, second: &Placed<'_>) -> bool
+    requires first { IsSound first.now }
+    requires second { IsSound second.now }
+    ensures { IsTrue result → (p : ℕ) → meaning first.now p ≡ meaning second.now p }
+{
+    match (first.reading(), second.reading()) {
+        (Some(one), Some(other)) => are_same(&one, &other),
+        _ => false,
+    }
+}
