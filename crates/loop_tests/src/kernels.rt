@@ -35,10 +35,10 @@ impl Kernel for Places {
     }
 }
 
-/// The same, but for one place there is no memory.
+/// The same, but for one place there may be no memory.
 #[derive(Drop)]
 pub(crate) struct Refusing {
-    pub(crate) place: u64,
+    pub(crate) place: Option<u64>,
 }
 
 impl Kernel for Refusing {
@@ -56,8 +56,10 @@ impl Kernel for Refusing {
         first: u64,
         last: u64,
     ) -> Result<Vec<u64, A>, AllocError> {
-        if (first..last).contains(&self.place) {
-            return Err(AllocError);
+        if let Some(place) = self.place {
+            if (first..last).contains(&place) {
+                return Err(AllocError);
+            }
         }
         Places.fill(alloc, first, last)
     }

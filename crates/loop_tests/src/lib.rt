@@ -7,5 +7,3 @@ mod cuts;
 mod kernels;
 #[cfg(test)]
 mod ranges;
-#[cfg(test)]
-mod refusals;

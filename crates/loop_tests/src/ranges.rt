@@ -1,3 +1,4 @@
+//! Ranges on workers.
 ghost use Rattle.std.specs.Prelude.{◌≤◌};
 
 use crate::kernels::{Meeting, Places, Refusing};
@@ -10,38 +11,55 @@ use std::thread::Threads;
 use steal_walk::Partition;
 use worker_pool::{PoolFault, Setup};
 
-// So many workers, without partitions.
-fn setup(alloc: Global, workers: u32) -> Setup {
-    Setup {
+/// So many workers, with the partitions of these rows.
+fn setup_of(alloc: Global, workers: u32, ranges: &[(u32, u32)]) -> Result<Setup, AllocError> {
+    let mut partitions = Vec::new(alloc);
+    for &(start, limit) in ranges {
+        if let Ok(partition) = Partition::new(start, limit, limit) {
+            partitions.push(partition)?;
+        }
+    }
+    Ok(Setup {
         workers,
-        partitions: Vec::new(alloc),
+        partitions,
+    })
+}
+
+/// The first number that isn't its place.
+fn first_wrong(numbers: &[u64]) -> Option<u64> {
+    let mut place = 0u64;
+    for number in numbers {
+        if *number != place {
+            return Some(*number);
+        }
+        place = place.wrapping_add(1);
     }
+    None
 }
 
-// What is answered for the numbers below n.
-fn fault_of<R: Threads + Wait + Sync>(
-    rt: &R,
+/// So many workers with the partitions of these rows give the numbers of so many places in order,
+/// by blocks, or this fault. For one place there may be no memory.
+fn expect_places<RT: Threads + Wait + Abort + Sync>(
+    rt: &RT,
     alloc: Global,
-    workers: u32,
-    n: u64,
-    block: u64,
-) -> Option<ForFault> {
-    parallel_for(rt, alloc, &setup(alloc, workers), &Places, n, block).err()
-}
-
-// The numbers below n come back in order.
-fn expect_places<R: Threads + Wait + Abort + Sync>(
-    rt: &R,
-    alloc: Global,
-    workers: u32,
-    n: u64,
-    block: u64,
+    (workers, ranges): (u32, &[(u32, u32)]),
+    (places, block): (u64, u64),
+    refused: Option<u64>,
+    fault: Option<ForFault>,
 ) -> Result<(), Fail> {
-    let items = parallel_for(rt, alloc, &setup(alloc, workers), &Places, n, block)?;
-    assert_eq!(rt; items.len() as u64, n, "{workers} workers, block {block}");
-    for (place, item) in (0..n).zip(items) {
-        assert_eq!(rt; item, place, "{workers} workers, block {block}");
-    }
+    let setup = setup_of(alloc, workers, ranges)?;
+    let kernel = Refusing { place: refused };
+    let answer = parallel_for(rt, alloc, &setup, &kernel, places, block);
+    let found = match &answer {
+        Ok(items) => (Some(items.len() as u64), first_wrong(items), None),
+        Err(fault) => (None, None, Some(*fault)),
+    };
+    let count = if fault.is_some() { None } else { Some(places) };
+    assert_eq!(rt;
+        found,
+        (count, None, fault),
+        "{workers} workers, {ranges:?}, {places} places by {block}, {refused:?}"
+    );
     Ok(())
 }
 
@@ -82,107 +100,107 @@ fn items_by_a_kernel_alone(rt: HostRuntime) -> Result<(), Fail> {
     Ok(())
 }
 
-#[test]
-fn faults_by_number(rt: HostRuntime) {
-    let bad_workers = Some(ForFault::Pool(PoolFault::BadWorkers));
-    for (workers, n, block, want) in [
-        (1, 8, 0, Some(ForFault::BadBlock)),
-        (0, 8, 0, Some(ForFault::BadBlock)),
-        (1, 0, 0, Some(ForFault::BadBlock)),
-        (1, 2_147_483_648, 1, Some(ForFault::BadBlock)),
-        (0, 8, 4, bad_workers),
-        (257, 8, 4, bad_workers),
-        (0, 8, 8, bad_workers),
-        (0, 0, 4, bad_workers),
-        (1, 0, 4, None),
-        (256, 0, 1, None),
-        (1, 8, 8, None),
-    ] {
-        let fault = fault_of(&rt, rt.alloc(), workers, n, block);
-        assert_eq!(rt; fault, want, "{workers} workers, {n} places, block {block}");
-    }
-}
+const BAD_BLOCK: Option<ForFault> = Some(ForFault::BadBlock);
+
+const BAD_WORKERS: Option<ForFault> = Some(ForFault::Pool(PoolFault::BadWorkers));
+
+const BAD_PARTITION: Option<ForFault> = Some(ForFault::Pool(PoolFault::BadPartition));
+
+/// Numbers of workers, the rows of their partitions, places, blocks, and the fault.
+const FAULTS: [(u32, &[(u32, u32)], u64, u64, Option<ForFault>); 15] = [
+    (1, &[], 8, 0, BAD_BLOCK),
+    (0, &[], 8, 0, BAD_BLOCK),
+    (1, &[], 0, 0, BAD_BLOCK),
+    (1, &[], 2_147_483_648, 1, BAD_BLOCK),
+    (0, &[], 8, 4, BAD_WORKERS),
+    (257, &[], 8, 4, BAD_WORKERS),
+    (0, &[], 8, 8, BAD_WORKERS),
+    (0, &[], 0, 4, BAD_WORKERS),
+    (2, &[(0, 2)], 0, 4, BAD_PARTITION),
+    (2, &[(0, 2)], 4, 4, BAD_PARTITION),
+    (2, &[(0, 2)], 8, 4, BAD_PARTITION),
+    (1, &[], 0, 4, None),
+    (256, &[], 0, 1, None),
+    (1, &[], 8, 8, None),
+    // Each worker looks first in the row of its own, and then in all.
+    (4, &[(0, 1), (1, 2), (2, 3), (3, 4)], 10_000, 1, None),
+];
 
 #[test]
-fn one_partition_for_two_workers(rt: HostRuntime) -> Result<(), Fail> {
-    let mut one = setup(rt.alloc(), 2);
-    one.partitions.push(Partition::new(0, 2, 2)?)?;
-    for n in [0, 4, 8] {
-        let fault = parallel_for(&rt, rt.alloc(), &one, &Places, n, 4).err();
-        assert_eq!(rt;
-            fault,
-            Some(ForFault::Pool(PoolFault::BadPartition)),
-            "{n} places"
-        );
+fn faults_by_number(rt: HostRuntime) -> Result<(), Fail> {
+    for (workers, ranges, places, block, fault) in FAULTS {
+        let workers = (workers, ranges);
+        expect_places(&rt, rt.alloc(), workers, (places, block), None, fault)?;
     }
     Ok(())
 }
 
-// Each worker looks first in the row of its own, and then in all.
-#[test]
-fn a_partition_for_each_worker(rt: HostRuntime) -> Result<(), Fail> {
-    let mut setup = setup(rt.alloc(), 4);
-    for worker in 0..4 {
-        setup
-            .partitions
-            .push(Partition::new(worker, worker + 1, 4)?)?;
-    }
-    let items = parallel_for(&rt, rt.alloc(), &setup, &Places, 10_000, 1)?;
-    assert_eq!(rt; items.len(), 10_000);
-    for (place, item) in (0..10_000).zip(items) {
-        assert_eq!(rt; item, place);
-    }
-    Ok(())
-}
+/// Places and blocks.
+const PLACES: [(u64, u64); 8] = [
+    (0, 4),
+    (1, 1),
+    (4, 4),
+    (5, 4),
+    (10, 4),
+    (1000, 7),
+    (1000, 1),
+    (65_536, 1),
+];
 
 #[test]
 fn all_places_on_any_number_of_workers(rt: HostRuntime) -> Result<(), Fail> {
     for workers in [1, 2, 3, 64] {
-        for (n, block) in [
-            (0, 4),
-            (1, 1),
-            (4, 4),
-            (5, 4),
-            (10, 4),
-            (1000, 7),
-            (1000, 1),
-        ] {
-            expect_places(&rt, rt.alloc(), workers, n, block)?;
+        for places in PLACES {
+            expect_places(&rt, rt.alloc(), (workers, &[]), places, None, None)?;
         }
     }
     Ok(())
 }
 
-#[test]
-fn many_leaves(rt: HostRuntime) -> Result<(), Fail> {
-    for workers in [1, 2, 64] {
-        expect_places(&rt, rt.alloc(), workers, 65_536, 1)?;
-    }
-    Ok(())
-}
+/// Places and blocks, and the place for which there is no memory.
+const REFUSED: [((u64, u64), u64); 5] = [
+    ((1000, 1), 0),
+    ((1000, 1), 500),
+    ((1000, 1), 999),
+    ((1000, 7), 500),
+    ((1000, 1000), 500),
+];
+
+const NO_MEMORY: Option<ForFault> = Some(ForFault::NoMemory);
 
 // The call returns, though leaves are missing.
 #[test]
-fn a_leaf_without_memory(rt: HostRuntime) {
+fn a_leaf_without_memory(rt: HostRuntime) -> Result<(), Fail> {
     for workers in [1, 2, 64] {
-        let setup = setup(rt.alloc(), workers);
-        for (place, block) in [(0, 1), (500, 1), (999, 1), (500, 7), (500, 1000)] {
-            let answer = parallel_for(&rt, rt.alloc(), &setup, &Refusing { place }, 1000, block);
-            assert_eq!(rt;
-                answer.err(),
-                Some(ForFault::NoMemory),
-                "{workers} workers, {place}"
-            );
+        for (places, place) in REFUSED {
+            let workers = (workers, [].as_slice());
+            expect_places(&rt, rt.alloc(), workers, places, Some(place), NO_MEMORY)?;
         }
     }
+    Ok(())
+}
+
+// The call returns though a leaf ends without its items, since that leaf gives its notice too. The
+// last block has one place.
+#[test]
+fn each_leaf_without_memory_in_turn(rt: HostRuntime) -> Result<(), Fail> {
+    for workers in [1, 2] {
+        for place in (0..100).step_by(3) {
+            let workers = (workers, [].as_slice());
+            expect_places(&rt, rt.alloc(), workers, (100, 3), Some(place), NO_MEMORY)?;
+        }
+    }
+    Ok(())
 }
 
 #[test]
 fn two_leaves_meet(rt: HostRuntime) -> Result<(), Fail> {
     let kernel = Meeting::new();
-    let items = parallel_for(&rt, rt.alloc(), &setup(rt.alloc(), 2), &kernel, 2, 1)?;
-    assert_eq!(rt; items.len(), 2);
-    assert!(rt; kernel.met(0));
-    assert!(rt; kernel.met(1));
+    let setup = setup_of(rt.alloc(), 2, &[])?;
+    let items = parallel_for(&rt, rt.alloc(), &setup, &kernel, 2, 1)?;
+    assert_eq!(rt;
+        (items.len(), kernel.met(0), kernel.met(1)),
+        (2, true, true)
+    );
     Ok(())
 }

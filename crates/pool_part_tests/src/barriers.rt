@@ -1,117 +1,163 @@
 //! Notices that are given, and waits for them.
-ghost use Rattle.pool_barrier.specs.Shares.{IsShareOf, IsWaiterOf};
+ghost use Rattle.pool_barrier.specs.Shares.{IsShareOf, IsWaiterOf, notices_of};
+ghost use Rattle.std.specs.Prelude.{◌≡◌};
 
-use pool_barrier::{Barrier, BarrierFault, Notification, Share};
-use std::test::Fail;
-use std::thread;
+use pool_barrier::{Barrier, BarrierFault, Notification, Share, Waiter};
+use std::alloc::Global;
+use std::process::Abort;
+use std::sync::Wait;
+use std::thread::{self, Threads};
 use std::time::{Clock, Duration};
 
-// Gives all notices of a share.
-fn give_all(barrier: &Barrier, mut share: Share)
+/// Notices of a barrier, and how many of them are split off.
+#[derive(Clone, Copy)]
+struct Split {
+    notices: u64,
+    moved: u64,
+}
+
+/// Splits on one thread, all of whose notices are given.
+const GIVEN: [Split; 2] = [
+    Split {
+        notices: 2,
+        moved: 1,
+    },
+    Split {
+        notices: 0,
+        moved: 0,
+    },
+];
+
+/// The most notices, none of which is given.
+const MOST: Split = Split {
+    notices: 2_147_483_647,
+    moved: 0,
+};
+
+/// Splits whose notices two threads give so many milliseconds after their start: in the second one
+/// the waiter is given time to fall asleep before the first notice.
+const THREADED: [(Split, u64); 2] = [
+    (
+        Split {
+            notices: 2000,
+            moved: 700,
+        },
+        0,
+    ),
+    (
+        Split {
+            notices: 3,
+            moved: 0,
+        },
+        50,
+    ),
+];
+
+// A barrier, its waiter, and its notices in two shares.
+fn dealt<R: Abort>(rt: &R, alloc: Global, split: Split) -> (Barrier, Waiter, Share, Share)
+    ensures first { IsShareOf result.0 result.2 }
+    ensures second { IsShareOf result.0 result.3 }
+    ensures waiter { IsWaiterOf result.0 result.1 }
+{
+    let Ok((barrier, waiter, mut first)) = Barrier::new(alloc, split.notices) else {
+        panic!(rt; "no barrier")
+    };
+    assert!(rt; first.notices() == split.notices && split.moved <= split.notices);
+    let second = barrier.split(&mut first, split.moved);
+    let left = split.notices - split.moved;
+    assert!(rt; first.notices() == left && second.notices() == split.moved);
+    (barrier, waiter, first, second)
+}
+
+// Gives all notices of a share, and tells how many there were.
+fn give_all(barrier: &Barrier, mut share: Share) -> u64
     requires { IsShareOf barrier.now share }
 {
+    let mut given: u64 = 0;
     while share.notices() > 0 {
         barrier.notify(&mut share);
+        given = given.saturating_add(1);
     }
+    given
 }
 
 // Gives all notices of a share, a while later.
-fn give_late(clock: &impl Clock, barrier: &Barrier, share: Share)
+fn give_late(clock: &impl Clock, pause: u64, barrier: &Barrier, share: Share) -> u64
     requires { IsShareOf barrier.now share }
 {
-    thread::sleep(clock, Duration::from_millis(50));
-    give_all(barrier, share);
+    thread::sleep(clock, Duration::from_millis(pause));
+    give_all(barrier, share)
 }
 
 #[test]
-fn one_notice_on_each_share(rt: HostRuntime) -> Result<(), Fail> {
-    let (barrier, mut waiter, mut first) = Barrier::new(rt.alloc(), 2)?;
-    let mut second = barrier.split(&mut first, 1);
-    let dealt = [first.notices(), second.notices()];
-    barrier.notify(&mut first);
-    barrier.notify(&mut second);
-    let left = [first.notices(), second.notices()];
-    assert_eq!(rt; (dealt, left), ([1, 1], [0, 0]));
-    barrier.wait(&rt, &mut waiter);
-    barrier.wait(&rt, &mut waiter);
-    Ok(())
+fn notices_are_given_on_one_thread(rt: HostRuntime) {
+    for split in GIVEN {
+        let (barrier, mut waiter, first, second) = dealt(&rt, rt.alloc(), split);
+        let given = give_all(&barrier, first) == split.notices - split.moved
+            && give_all(&barrier, second) == split.moved;
+        assert!(rt; given, "of {}", split.notices);
+        barrier.wait(&rt, &mut waiter);
+        barrier.wait(&rt, &mut waiter);
+    }
 }
 
 #[test]
-fn a_barrier_of_no_notice(rt: HostRuntime) -> Result<(), Fail> {
-    let (barrier, mut waiter, share) = Barrier::new(rt.alloc(), 0)?;
-    barrier.wait(&rt, &mut waiter);
-    assert_eq!(rt; share.notices(), 0);
-    Ok(())
+fn the_most_notices(rt: HostRuntime) {
+    dealt(&rt, rt.alloc(), MOST);
+    let refused = Barrier::new(rt.alloc(), MOST.notices + 1).err();
+    assert!(rt; refused == Some(BarrierFault::TooLarge));
 }
 
 #[test]
-fn the_most_notices(rt: HostRuntime) -> Result<(), Fail> {
-    let (_barrier, _waiter, share) = Barrier::new(rt.alloc(), 2147483647)?;
-    let most = share.notices();
-    let refused = Barrier::new(rt.alloc(), 2147483648).err();
-    assert_eq!(rt; (most, refused), (2147483647, Some(BarrierFault::TooLarge)));
-    let codes = [BarrierFault::TooLarge as u8, BarrierFault::NoMemory as u8];
-    assert_eq!(rt; codes, [1, 2]);
-    Ok(())
-}
-
-#[test]
-fn a_notification_that_was_notified(rt: HostRuntime) -> Result<(), Fail> {
-    let (notification, mut waiter, mut share) = Notification::new(rt.alloc())?;
+fn a_notification_that_was_notified(rt: HostRuntime) {
+    let Ok((notification, mut waiter, mut share)) = Notification::new(rt.alloc()) else {
+        panic!(rt; "no memory")
+    };
     let dealt = share.notices();
     notification.notify(&mut share);
-    assert_eq!(rt; (dealt, share.notices()), (1, 0));
+    assert!(rt; dealt == 1 && share.notices() == 0);
     notification.wait(&rt, &mut waiter);
-    Ok(())
 }
 
-#[test]
-fn two_threads_give_the_notices(rt: HostRuntime) -> Result<(), Fail> {
-    let (barrier, mut waiter, mut first) = Barrier::new(rt.alloc(), 2000)?;
-    let second = barrier.split(&mut first, 700);
+// Whether two threads were started, the notices of whose shares end the wait.
+fn waits_for_two<R: Threads + Wait + Clock + Abort + Sync>(
+    rt: &R,
+    alloc: Global,
+    split: Split,
+    pause: u64,
+) -> bool {
+    let (barrier, mut waiter, first, second) = dealt(rt, alloc, split);
     let barrier = &barrier;
-    let started = thread::scope(
+    thread::scope(
         thread::scope_env(),
-        &rt,
+        rt,
         |scope| -> bool
             requires first { IsShareOf barrier.now first }
             requires second { IsShareOf barrier.now second }
             requires waiter { IsWaiterOf barrier.now waiter }
         {
-            let one = scope.spawn(move || give_all(barrier, first)).is_ok();
-            let two = scope.spawn(move || give_all(barrier, second)).is_ok();
+            let one = scope
+                .spawn(move || give_late(rt, pause, barrier, first))
+                .is_ok();
+            let two = scope
+                .spawn(move || give_late(rt, pause, barrier, second))
+                .is_ok();
             if one && two {
-                barrier.wait(&rt, &mut waiter);
-                barrier.wait(&rt, &mut waiter);
+                barrier.wait(rt, &mut waiter);
+                barrier.wait(rt, &mut waiter);
             }
             one && two
         },
-    );
-    assert!(rt; started, "two threads start");
-    Ok(())
+    )
 }
 
-// The waiter is given time to fall asleep before the first notice.
 #[test]
-fn the_waiter_comes_first(rt: HostRuntime) -> Result<(), Fail> {
-    let (barrier, mut waiter, share) = Barrier::new(rt.alloc(), 3)?;
-    let barrier = &barrier;
-    let started = thread::scope(
-        thread::scope_env(),
-        &rt,
-        |scope| -> bool
-            requires share { IsShareOf barrier.now share }
-            requires waiter { IsWaiterOf barrier.now waiter }
-        {
-            let late = scope.spawn(move || give_late(&rt, barrier, share)).is_ok();
-            if late {
-                barrier.wait(&rt, &mut waiter);
-                barrier.wait(&rt, &mut waiter);
-            }
-            late
-        },
-    );
-    assert!(rt; started, "a thread starts");
-    Ok(())
+fn two_threads_give_the_notices(rt: HostRuntime) {
+    for (split, pause) in THREADED {
+        assert!(rt;
+            waits_for_two(&rt, rt.alloc(), split, pause),
+            "of {}",
+            split.notices
+        );
+    }
 }

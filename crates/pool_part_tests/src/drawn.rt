@@ -1,11 +1,8 @@
 //! Events that are drawn, by a World and by the tables that it is a model of, side by side.
-ghost use Rattle.std.specs.Prelude.{◌≡◌, ◌+◌, All, length};
-ghost use Rattle.event_count.specs.Seats.{sizes_of, IsSeatOf};
-ghost use Rattle.run_queue.specs.SlotSeats.{table_of, rows_id, row_count_of};
 
 use crate::count_moves::Before;
 use crate::sizes::Sizes;
-use crate::tables::{self, Tables};
+use crate::tables;
 use event_word::{Event, World};
 use rand_core::SeedableRng;
 use rand_core::utils::NextWord;
@@ -13,7 +10,6 @@ use rand_pcg::Lcg64Xsh32;
 use std::alloc::Global;
 use std::process::Abort;
 use std::sync::Wait;
-use std::test::Fail;
 
 const SIZES: Sizes = Sizes {
     workers: 3,
@@ -29,8 +25,9 @@ const EVENTS: u64 = 1000;
 
 const STOPS_FROM: u64 = 950;
 
-/// How often a word is drawn until it picks an event that is possible.
-const DRAWS: u32 = 100_000;
+/// How many words are drawn for a run at most. One that picks an event that isn't possible is
+/// passed over.
+const DRAWS: u32 = 1_000_000;
 
 // The event that a word picks, possible or not.
 fn event_of(word: u32, may_stop: bool) -> Event {
@@ -54,43 +51,31 @@ fn event_of(word: u32, may_stop: bool) -> Event {
     }
 }
 
-// Draws until the World takes an event.
-fn draw<R: Abort>(rt: &R, world: &mut World, words: &mut Lcg64Xsh32, may_stop: bool) -> Event
-    ensures workers { length world.new.phases ≡ length world.old.phases }
-    ensures actors { length world.new.owed ≡ length world.old.owed }
-    ensures lengths { length world.new.lengths ≡ length world.old.lengths }
-{
+// One run from opening tables, and how many events it had.
+fn run<R: Wait + Abort>(rt: &R, alloc: Global, words: &mut Lcg64Xsh32) -> u64 {
+    let Ok(mut world) = World::new(alloc, SIZES.workers, SIZES.notifiers, SIZES.rows) else {
+        panic!(rt; "no World")
+    };
+    let (tables, mut seats) = tables::open(rt, alloc, SIZES);
+    let mut taken: u64 = 0;
     for _ in 0..DRAWS {
-        let event = event_of(words.next_word(), may_stop);
+        if taken == EVENTS {
+            break;
+        }
+        let event = event_of(words.next_word(), taken >= STOPS_FROM);
+        let before = Before::of(&world);
         if world.step(event) {
-            return event;
+            tables::take(rt, &tables, &mut seats, &world, before, event);
+            taken = taken.saturating_add(1);
         }
     }
-    panic!(rt; "some event is possible")
-}
-
-// One run from opening tables, and how many events it had.
-fn run<R: Wait + Abort>(rt: &R, alloc: Global, words: &mut Lcg64Xsh32) -> Result<u64, Fail> {
-    let mut world = World::new(alloc, SIZES.workers, SIZES.notifiers, SIZES.rows)?;
-    let mut tables = tables::open(alloc, SIZES)?;
-    let mut taken: u64 = 0;
-    for turn in 0..EVENTS {
-        let before = Before::of(&world);
-        let event = draw(rt, &mut world, words, turn >= STOPS_FROM);
-        tables::take(rt, &mut tables, &world, before, event);
-        tables::expect_shown(rt, &mut tables, &world);
-        taken = taken.saturating_add(1);
-    }
-    Ok(taken)
+    taken
 }
 
 #[test]
-fn drawn_events_are_followed(rt: HostRuntime) -> Result<(), Fail> {
+fn drawn_events_are_followed(rt: HostRuntime) {
     let mut words = Lcg64Xsh32::seed_from_u64(2);
-    let mut taken: u64 = 0;
     for _ in 0..RUNS {
-        taken = taken.saturating_add(run(&rt, rt.alloc(), &mut words)?);
+        assert_eq!(rt; run(&rt, rt.alloc(), &mut words), EVENTS);
     }
-    assert_eq!(rt; taken, 100_000);
-    Ok(())
 }

@@ -1,16 +1,19 @@
-//! Tests of the pool's parts, each by its public calls: walks, rows, barriers, worlds, event counts.
+//! Tests of the pool's parts, each by its public calls: walks, rows, barriers, Worlds, event
+//! counts.
 #![tactic(auto)]
 
 #[cfg(test)]
 mod barriers;
 #[cfg(test)]
+mod calls;
+#[cfg(test)]
 mod coprimes;
 #[cfg(test)]
 mod count_moves;
 #[cfg(test)]
-mod deques;
-#[cfg(test)]
 mod drawn;
+#[cfg(test)]
+mod faults;
 #[cfg(test)]
 mod made;
 #[cfg(test)]
@@ -18,15 +21,11 @@ mod pairs;
 #[cfg(test)]
 mod partitions;
 #[cfg(test)]
-mod points;
-#[cfg(test)]
 mod replays;
 #[cfg(test)]
 mod row_moves;
 #[cfg(test)]
 mod rows;
-#[cfg(test)]
-mod seats;
 #[cfg(test)]
 mod sequences;
 #[cfg(test)]
@@ -42,12 +41,10 @@ mod tables;
 #[cfg(test)]
 mod threads;
 #[cfg(test)]
-mod waits;
+mod told;
 #[cfg(test)]
 mod walks;
 #[cfg(test)]
 mod words;
 #[cfg(test)]
 mod worlds;
-#[cfg(test)]
-mod worlds_with_rows;

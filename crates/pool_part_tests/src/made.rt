@@ -1,53 +1,32 @@
 //! Counts that are made and closed.
 
 use event_count::{CountFault, EventCount};
-use std::alloc::Allocator;
 
-// What is known of a count that was made and closed at once: how many seats it had, the numbers of
-// the first and the last, and the last word.
-#[derive(Clone, Copy, Debug, PartialEq, Eq)]
-struct Closed {
-    seats: usize,
-    first: Option<u32>,
-    last: Option<u32>,
-    word: u64,
-}
+/// Waiters and notifiers, and the fault of such a count.
+const SIZES: [(u16, u16, Option<CountFault>); 3] = [
+    (0, 0, None),
+    (16_382, 1, None),
+    (16_383, 1, Some(CountFault::TooManyWaiters)),
+];
 
-fn made_and_closed<A: Allocator + Clone>(
-    alloc: A,
-    waiters: u16,
-    notifiers: u16,
-) -> Result<Closed, CountFault> {
-    let (count, seats) = EventCount::new(alloc, waiters, notifiers)?;
-    Ok(Closed {
-        seats: seats.len(),
-        first: seats.first().map(|seat| seat.number()),
-        last: seats.last().map(|seat| seat.number()),
-        word: count.close(seats),
-    })
-}
-
+// The seats are numbered from 0 on, and such a count ends at one word.
 #[test]
-fn the_most_waiters(rt: HostRuntime) {
-    let wanted = Closed {
-        seats: 16_383,
-        first: Some(0),
-        last: Some(16_382),
-        word: 0x3FFF,
-    };
-    let found = [16_382, 16_383].map(|waiters| made_and_closed(rt.alloc(), waiters, 1));
-    assert_eq!(rt; found, [Ok(wanted), Err(CountFault::TooManyWaiters)]);
-    let codes = [CountFault::TooManyWaiters as u8, CountFault::NoMemory as u8];
-    assert_eq!(rt; codes, [1, 2]);
-}
-
-#[test]
-fn a_count_of_no_seats(rt: HostRuntime) {
-    let wanted = Closed {
-        seats: 0,
-        first: None,
-        last: None,
-        word: 0x3FFF,
-    };
-    assert_eq!(rt; made_and_closed(rt.alloc(), 0, 0), Ok(wanted));
+fn counts_are_made_and_closed(rt: HostRuntime) {
+    for (waiters, notifiers, fault) in SIZES {
+        let is_right = match EventCount::new(rt.alloc(), waiters, notifiers) {
+            Ok((count, seats)) => {
+                let all = usize::from(waiters) + usize::from(notifiers);
+                let is_numbered = match (seats.first(), seats.last()) {
+                    (Some(first), Some(last)) => {
+                        first.number() == 0 && last.number() as usize + 1 == all
+                    }
+                    _ => all == 0,
+                };
+                let is_numbered = is_numbered && seats.len() == all;
+                count.close(seats) == 0x3FFF && is_numbered && fault.is_none()
+            }
+            Err(found) => Some(found) == fault,
+        };
+        assert!(rt; is_right, "{waiters} and {notifiers}");
+    }
 }

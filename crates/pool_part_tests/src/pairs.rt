@@ -1,45 +1,56 @@
 //! Points of one waiter and one notifier, through the trait.
-ghost use Rattle.std.specs.Prelude.{◌≡◌, ◌<◌, [], IfOk};
+ghost use Rattle.std.specs.Prelude.{◌≡◌, ◌<◌, []};
 ghost use Rattle.event_word.specs.declared.phase.Phase.TheVariants.{Running, Pre};
 
-use event_count::{Committed, EventCount, LockedCount, WaitPoint};
+use event_count::{Committed, CountFault, EventCount, LockedCount, WaitPoint};
 use std::alloc::Global;
 use std::process::Abort;
 use std::sync::Wait;
 use std::sync::atomic::{AtomicU64, Ordering};
-use std::test::Fail;
-use std::thread;
+use std::thread::{self, Threads};
 
 /// How often the word goes to and fro.
 const TURNS: u64 = 100_000;
 
+// A point of two waiters and three notifiers is opened and shut, and one of too many waiters isn't
+// opened.
+fn opens_and_shuts<P: WaitPoint<Global>, R: Abort>(rt: &R, alloc: Global) {
+    let Ok((point, seats)) = P::open(alloc, 2, 3) else {
+        panic!(rt; "no point")
+    };
+    let many = seats.len();
+    let word = point.shut(seats);
+    let refused = P::open(alloc, 16_383, 1).err();
+    let is_refused = refused == Some(CountFault::TooManyWaiters);
+    assert!(rt; many == 5 && word == 0x3FFF && is_refused);
+}
+
 // A point of one waiter and one notifier, with their seats.
-fn pair<P: WaitPoint<Global>>(alloc: Global) -> Result<(P, P::Seat, P::Seat), Fail>
-    ensures waiters { IfOk result (λ made. P.waiter_count made.0 ≡ 1) }
-    ensures seats { IfOk result (λ made. P.seat_count made.0 ≡ 2) }
-    ensures waiter { IfOk result (λ made. P.number_of made.1 ≡ 0) }
-    ensures waits { IfOk result (λ made. P.phase_of made.1 ≡ Running) }
-    ensures notifies { IfOk result (λ made. P.phase_of made.2 ≡ Running) }
-    ensures waiter_owes_none { IfOk result (λ made. P.owing_of made.1 ≡ []) }
-    ensures notifier_owes_none { IfOk result (λ made. P.owing_of made.2 ≡ []) }
-    ensures waiter_ours { IfOk result (λ made. P.point_of made.1 ≡ P.identity_of made.0) }
-    ensures notifier_ours { IfOk result (λ made. P.point_of made.2 ≡ P.identity_of made.0) }
+fn pair<P: WaitPoint<Global>, R: Abort>(rt: &R, alloc: Global) -> (P, P::Seat, P::Seat)
+    ensures waiters { P.waiter_count result.0 ≡ 1 }
+    ensures seats { P.seat_count result.0 ≡ 2 }
+    ensures waiter { P.number_of result.1 ≡ 0 }
+    ensures waits { P.phase_of result.1 ≡ Running }
+    ensures notifies { P.phase_of result.2 ≡ Running }
+    ensures waiter_owes_none { P.owing_of result.1 ≡ [] }
+    ensures notifier_owes_none { P.owing_of result.2 ≡ [] }
+    ensures waiter_ours { P.point_of result.1 ≡ P.identity_of result.0 }
+    ensures notifier_ours { P.point_of result.2 ≡ P.identity_of result.0 }
 {
-    let (point, seats) = P::open(alloc, 1, 1)?;
+    let Ok((point, seats)) = P::open(alloc, 1, 1) else {
+        panic!(rt; "no point")
+    };
     let seats = match <[P::Seat; 2]>::try_from(seats) {
         Ok(seats) => seats,
-        Err(_) => return Err(Fail::new("there are two seats")),
+        Err(_) => panic!(rt; "there are two seats"),
     };
     let [waiter, notifier] = seats;
-    Ok((point, waiter, notifier))
+    (point, waiter, notifier)
 }
 
 // Signals that are there before the sleep.
-fn consumes_signals<P: WaitPoint<Global>, R: Wait + Abort>(
-    rt: &R,
-    alloc: Global,
-) -> Result<(), Fail> {
-    let (point, mut waiter, mut notifier) = pair::<P>(alloc)?;
+fn consumes_signals<P: WaitPoint<Global>, R: Wait + Abort>(rt: &R, alloc: Global) {
+    let (point, mut waiter, mut notifier) = pair::<P, R>(rt, alloc);
     point.enter(rt, &mut waiter);
     point.wake_one(rt, &mut notifier);
     let after_one = point.sleep(rt, &mut waiter);
@@ -47,18 +58,11 @@ fn consumes_signals<P: WaitPoint<Global>, R: Wait + Abort>(
     point.wake_all(rt, &mut notifier);
     let after_all = point.sleep(rt, &mut waiter);
     let mut seats = Vec::new(alloc);
-    seats.push(waiter)?;
-    seats.push(notifier)?;
+    assert!(rt; seats.push(waiter).is_ok());
+    assert!(rt; seats.push(notifier).is_ok());
     let word = point.shut(seats);
-    assert_eq!(rt; [after_one, after_all], [Committed::Consumed; 2]);
-    assert_eq!(rt; word, 0x3FFF);
-    Ok(())
-}
-
-#[test]
-fn signals_are_consumed(rt: HostRuntime) -> Result<(), Fail> {
-    consumes_signals::<LockedCount, HostRuntime>(&rt, rt.alloc())?;
-    consumes_signals::<EventCount, HostRuntime>(&rt, rt.alloc())
+    let both = (after_one, after_all) == (Committed::Consumed, Committed::Consumed);
+    assert!(rt; both && word == 0x3FFF);
 }
 
 // Hands the word over, and sleeps until it is back.
@@ -83,7 +87,7 @@ fn lead<P: WaitPoint<Global>, R: Wait + Abort>(
         word.store(2 * turn + 1, Ordering::SeqCst);
         there.wake_one(rt, notifier);
         here.sleep(rt, waiter);
-        assert_eq!(rt; word.load(Ordering::SeqCst), 2 * turn + 2);
+        assert!(rt; word.load(Ordering::SeqCst) == 2 * turn + 2, "turn {turn}");
     }
 }
 
@@ -106,7 +110,7 @@ fn follow<P: WaitPoint<Global>, R: Wait + Abort>(
 {
     for turn in 0..TURNS {
         here.sleep(rt, waiter);
-        assert_eq!(rt; word.load(Ordering::SeqCst), 2 * turn + 1);
+        assert!(rt; word.load(Ordering::SeqCst) == 2 * turn + 1, "turn {turn}");
         here.enter(rt, waiter);
         word.store(2 * turn + 2, Ordering::SeqCst);
         there.wake_one(rt, notifier);
@@ -115,16 +119,21 @@ fn follow<P: WaitPoint<Global>, R: Wait + Abort>(
 }
 
 // Each turn of either side is one sleep, which one wake of the other ends.
-#[test]
-fn a_word_goes_to_and_fro(rt: HostRuntime) -> Result<(), Fail> {
-    let (ping, mut ping_waiter, mut ping_notifier) = pair::<LockedCount>(rt.alloc())?;
-    let (pong, mut pong_waiter, mut pong_notifier) = pair::<LockedCount>(rt.alloc())?;
+fn goes_to_and_fro<P: WaitPoint<Global> + Sync, R: Threads + Wait + Abort + Sync>(
+    rt: &R,
+    alloc: Global,
+)
+where
+    P::Seat: Send,
+{
+    let (ping, mut ping_waiter, mut ping_notifier) = pair::<P, R>(rt, alloc);
+    let (pong, mut pong_waiter, mut pong_notifier) = pair::<P, R>(rt, alloc);
     let word = AtomicU64::new(0);
-    ping.enter(&rt, &mut ping_waiter);
+    ping.enter(rt, &mut ping_waiter);
     thread::join(
-        &rt,
+        rt,
         || lead(
-            &rt,
+            rt,
             &ping,
             &pong,
             &mut ping_notifier,
@@ -132,7 +141,7 @@ fn a_word_goes_to_and_fro(rt: HostRuntime) -> Result<(), Fail> {
             &word,
         ),
         || follow(
-            &rt,
+            rt,
             &ping,
             &pong,
             &mut ping_waiter,
@@ -140,6 +149,24 @@ fn a_word_goes_to_and_fro(rt: HostRuntime) -> Result<(), Fail> {
             &word,
         ),
     );
-    assert_eq!(rt; word.load(Ordering::SeqCst), 2 * TURNS);
-    Ok(())
+    assert!(rt; word.load(Ordering::SeqCst) == 2 * TURNS);
+}
+
+// Tries a kind of point.
+fn expect_point<P: WaitPoint<Global> + Sync, R: Threads + Wait + Abort + Sync>(
+    rt: &R,
+    alloc: Global,
+)
+where
+    P::Seat: Send,
+{
+    opens_and_shuts::<P, R>(rt, alloc);
+    consumes_signals::<P, R>(rt, alloc);
+    goes_to_and_fro::<P, R>(rt, alloc);
+}
+
+#[test]
+fn points_with_and_without_a_lock(rt: HostRuntime) {
+    expect_point::<LockedCount, HostRuntime>(&rt, rt.alloc());
+    expect_point::<EventCount, HostRuntime>(&rt, rt.alloc());
 }

@@ -1,34 +1,25 @@
 //! Ranges of rows that are partitions, and those that are none.
 
-use std::test::Fail;
 use steal_walk::{Partition, PartitionFault};
 
-#[test]
-fn takes_rows_of_the_pool_alone(rt: HostRuntime) -> Result<(), Fail> {
-    // The first fault is told, also where there are both.
-    let faults = [
-        Partition::new(0, 0, 4).err(),
-        Partition::new(2, 5, 4).err(),
-        Partition::new(5, 5, 4).err(),
-    ];
-    let (empty, out_of_pool) = (PartitionFault::Empty, PartitionFault::OutOfPool);
-    assert_eq!(rt; faults, [empty, out_of_pool, empty].map(Some));
-    let partition = Partition::new(2, 4, 4)?;
-    assert_eq!(rt; (partition.start(), partition.limit()), (2, 4));
-    Ok(())
-}
+/// Starts and limits in a pool of four, and their faults. The first one is told, also where there
+/// are both.
+const RANGES: [(u32, u32, Option<PartitionFault>); 4] = [
+    (0, 0, Some(PartitionFault::Empty)),
+    (2, 5, Some(PartitionFault::OutOfPool)),
+    (5, 5, Some(PartitionFault::Empty)),
+    (2, 4, None),
+];
 
 #[test]
-fn names_its_faults(rt: HostRuntime) -> Result<(), Fail> {
-    for (fault, text) in [
-        (PartitionFault::Empty, "1 the partition is empty"),
-        (
-            PartitionFault::OutOfPool,
-            "2 the partition ends outside the pool",
-        ),
-    ] {
-        let told = format!(in rt.alloc(); "{} {fault}", fault as u8)?;
-        assert_eq!(rt; told.as_str(), text);
+fn takes_rows_of_the_pool_alone(rt: HostRuntime) {
+    for (start, limit, fault) in RANGES {
+        let is_right = match Partition::new(start, limit, 4) {
+            Ok(partition) => {
+                fault.is_none() && (partition.start(), partition.limit()) == (start, limit)
+            }
+            Err(found) => Some(found) == fault,
+        };
+        assert!(rt; is_right, "{start} to {limit}");
     }
-    Ok(())
 }

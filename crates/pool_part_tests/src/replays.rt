@@ -1,18 +1,18 @@
 //! Stories of events, taken by a World and by the tables that it is a model of, side by side.
-ghost use Rattle.std.specs.Prelude.{◌≡◌, ◌+◌, ◌≤◌, All, length};
-ghost use Rattle.event_word.specs.Limits.{most_workers};
+ghost use Rattle.std.specs.Prelude.{◌≡◌, ◌+◌, All, length};
 ghost use Rattle.event_count.specs.Seats.{sizes_of, IsSeatOf};
 ghost use Rattle.run_queue.specs.SlotSeats.{table_of, rows_id, row_count_of};
 
 use crate::count_moves::Before;
 use crate::sizes::Sizes;
-use crate::tables::{self, Tables};
-use event_count::Phase;
-use event_word::{Event, World};
+use crate::steps::Step;
+use crate::tables::{self, Seats, Tables};
+use crate::told::expect;
+use event_count::TryNotify;
+use event_word::{Event, Phase, World};
 use std::alloc::Global;
 use std::process::Abort;
 use std::sync::Wait;
-use std::test::Fail;
 
 /// One move of a story.
 #[derive(Clone, Copy)]
@@ -21,154 +21,17 @@ enum Move {
     Takes(Event),
     /// It isn't possible, and what its actor sees of the tables says so.
     Refuses(Event),
-    /// An actor looks, for a notification that it tries later.
-    Looks(u32),
-    /// It tries that notification, and finds that another step came between.
-    IsContended(u32),
+    /// An actor's seat of the count takes a step that is no event.
+    Steps(u32, Step),
 }
 
-/// A worker passes the flag and the row, and gets a signal with the job that comes then.
-const PASSED_AND_FILLED: [Move; 7] = [
-    Move::Takes(Event::Prewait { seat: 0 }),
-    Move::Takes(Event::PassFlag { seat: 0 }),
-    Move::Takes(Event::Pass { seat: 0, row: 0 }),
-    Move::Takes(Event::Publish { actor: 1, row: 0 }),
-    Move::Takes(Event::Notify { actor: 1 }),
-    Move::Takes(Event::Commit { seat: 0 }),
-    Move::Takes(Event::Take { actor: 0, row: 0 }),
-];
-
-/// A worker finds the row filled, and gives up waiting.
-const FILLED_AND_CANCELLED: [Move; 6] = [
-    Move::Takes(Event::Prewait { seat: 0 }),
-    Move::Takes(Event::Publish { actor: 1, row: 0 }),
-    Move::Refuses(Event::Pass { seat: 0, row: 0 }),
-    Move::Takes(Event::Notify { actor: 1 }),
-    Move::Takes(Event::Cancel { seat: 0 }),
-    Move::Takes(Event::Take { actor: 0, row: 0 }),
-];
-
-/// A worker sleeps, is woken by a stop, and ends.
-const STOPPED: [Move; 13] = [
-    Move::Takes(Event::Prewait { seat: 0 }),
-    Move::Takes(Event::PassFlag { seat: 0 }),
-    Move::Takes(Event::Pass { seat: 0, row: 0 }),
-    Move::Takes(Event::Commit { seat: 0 }),
-    Move::Takes(Event::Stop { actor: 1 }),
-    Move::Refuses(Event::End { seat: 0 }),
-    Move::Takes(Event::NotifyAll { actor: 1 }),
-    Move::Takes(Event::Unpark { actor: 1 }),
-    Move::Takes(Event::Wake { seat: 0 }),
-    Move::Takes(Event::Prewait { seat: 0 }),
-    Move::Refuses(Event::PassFlag { seat: 0 }),
-    Move::Takes(Event::Cancel { seat: 0 }),
-    Move::Takes(Event::End { seat: 0 }),
-];
-
-/// A pop that was prepared at an older epoch of the same top.
-const STALE_POP: [Move; 20] = [
-    Move::Takes(Event::Prewait { seat: 0 }),
-    Move::Takes(Event::PassFlag { seat: 0 }),
-    Move::Takes(Event::Commit { seat: 0 }),
-    Move::Looks(2),
-    Move::Takes(Event::Notify { actor: 3 }),
-    Move::Takes(Event::Unpark { actor: 3 }),
-    Move::Takes(Event::Wake { seat: 0 }),
-    Move::Takes(Event::Prewait { seat: 1 }),
-    Move::Takes(Event::PassFlag { seat: 1 }),
-    Move::Takes(Event::Commit { seat: 1 }),
-    Move::Takes(Event::Prewait { seat: 0 }),
-    Move::Takes(Event::PassFlag { seat: 0 }),
-    Move::Takes(Event::Commit { seat: 0 }),
-    Move::IsContended(2),
-    Move::Takes(Event::Notify { actor: 2 }),
-    Move::Takes(Event::Unpark { actor: 2 }),
-    Move::Takes(Event::Notify { actor: 2 }),
-    Move::Takes(Event::Unpark { actor: 2 }),
-    Move::Takes(Event::Wake { seat: 0 }),
-    Move::Takes(Event::Wake { seat: 1 }),
-];
-
-/// Two seats of three are taken off the stack at once, and the one that is unparked first goes onto
-/// it again before the other is unparked.
-const TAKEN_STACK: [Move; 20] = [
-    Move::Takes(Event::Prewait { seat: 0 }),
-    Move::Takes(Event::PassFlag { seat: 0 }),
-    Move::Takes(Event::Commit { seat: 0 }),
-    Move::Takes(Event::Prewait { seat: 1 }),
-    Move::Takes(Event::PassFlag { seat: 1 }),
-    Move::Takes(Event::Commit { seat: 1 }),
-    Move::Takes(Event::Prewait { seat: 2 }),
-    Move::Takes(Event::NotifyAll { actor: 3 }),
-    Move::Takes(Event::Unpark { actor: 3 }),
-    Move::Takes(Event::PassFlag { seat: 2 }),
-    Move::Takes(Event::Commit { seat: 2 }),
-    Move::Takes(Event::Wake { seat: 1 }),
-    Move::Takes(Event::Prewait { seat: 1 }),
-    Move::Takes(Event::PassFlag { seat: 1 }),
-    Move::Takes(Event::Commit { seat: 1 }),
-    Move::Takes(Event::Unpark { actor: 3 }),
-    Move::Takes(Event::Notify { actor: 3 }),
-    Move::Takes(Event::Unpark { actor: 3 }),
-    Move::Takes(Event::Wake { seat: 0 }),
-    Move::Takes(Event::Wake { seat: 1 }),
-];
-
-// Both sides take a move.
-fn replay_move<R: Wait + Abort>(rt: &R, world: &mut World, tables: &mut Tables, next: Move)
-    requires seats { All (IsSeatOf tables.old.count) tables.old.seats.items }
-    requires waiters { (sizes_of tables.old.count).waiters ≡ tables.old.sizes.workers }
-    requires row_seats { All (λ s. table_of s ≡ rows_id tables.old.rows) tables.old.row_seats.items }
-    requires rows { row_count_of tables.old.rows ≡ tables.old.sizes.rows }
-    requires workers { length world.old.phases ≡ tables.old.sizes.workers }
-    requires actors { length world.old.owed
-        ≡ tables.old.sizes.workers + tables.old.sizes.notifiers }
-    requires lengths { length world.old.lengths ≡ tables.old.sizes.rows }
-    ensures sizes { tables.new.sizes ≡ tables.old.sizes }
-    ensures seats { All (IsSeatOf tables.new.count) tables.new.seats.items }
-    ensures waiters { (sizes_of tables.new.count).waiters ≡ tables.new.sizes.workers }
-    ensures row_seats { All (λ s. table_of s ≡ rows_id tables.new.rows) tables.new.row_seats.items }
-    ensures rows { row_count_of tables.new.rows ≡ tables.new.sizes.rows }
-    ensures workers { length world.new.phases ≡ length world.old.phases }
-    ensures actors { length world.new.owed ≡ length world.old.owed }
-    ensures lengths { length world.new.lengths ≡ length world.old.lengths }
-{
-    match next {
-        Move::Takes(event) => {
-            let before = Before::of(world);
-            assert!(rt; world.step(event), "{event:?} is possible");
-            tables::take(rt, tables, world, before, event);
-            tables::expect_shown(rt, tables, world);
-        }
-        Move::Refuses(event) => {
-            assert!(rt; !world.step(event), "{event:?} isn't possible");
-            tables::expect_refused(rt, tables, event);
-        }
-        Move::Looks(actor) => tables::look(rt, tables, actor),
-        Move::IsContended(actor) => tables::notify_late(rt, tables, actor),
-    }
-}
-
-// Tells how many events were possible, and where the first worker stands at the end.
-fn replay<R: Wait + Abort>(
-    rt: &R,
-    alloc: Global,
+/// Moves from an opening World. So many take an event, and the first worker is in this phase then.
+struct Story {
+    name: &'static str,
     sizes: Sizes,
-    story: &[Move],
-) -> Result<(u64, Phase), Fail>
-    requires some { 1 ≤ sizes.workers }
-    requires few { sizes.workers ≤ most_workers }
-{
-    let mut world = World::new(alloc, sizes.workers, sizes.notifiers, sizes.rows)?;
-    let mut tables = tables::open(alloc, sizes)?;
-    let mut taken: u64 = 0;
-    for next in story {
-        replay_move(rt, &mut world, &mut tables, *next);
-        if let Move::Takes(_) = next {
-            taken = taken.saturating_add(1);
-        }
-    }
-    Ok((taken, world.phase(0)))
+    moves: &'static [Move],
+    taken: u64,
+    first: Phase,
 }
 
 const ONE_WORKER: Sizes = Sizes {
@@ -177,47 +40,190 @@ const ONE_WORKER: Sizes = Sizes {
     rows: 1,
 };
 
-#[test]
-fn a_row_is_passed_and_filled(rt: HostRuntime) -> Result<(), Fail> {
-    let end = replay(&rt, rt.alloc(), ONE_WORKER, &PASSED_AND_FILLED)?;
-    assert_eq!(rt; end, (7, Phase::Running));
-    Ok(())
+const STORIES: [Story; 5] = [
+    // A worker passes the flag and the row, and gets a signal with the job that comes then.
+    Story {
+        name: "a row is passed and filled",
+        sizes: ONE_WORKER,
+        moves: &[
+            Move::Takes(Event::Prewait { seat: 0 }),
+            Move::Takes(Event::PassFlag { seat: 0 }),
+            Move::Takes(Event::Pass { seat: 0, row: 0 }),
+            Move::Takes(Event::Publish { actor: 1, row: 0 }),
+            Move::Takes(Event::Notify { actor: 1 }),
+            Move::Takes(Event::Commit { seat: 0 }),
+            Move::Takes(Event::Take { actor: 0, row: 0 }),
+        ],
+        taken: 7,
+        first: Phase::Running,
+    },
+    // A worker finds the row filled, and gives up waiting.
+    Story {
+        name: "a row with jobs is not passed",
+        sizes: ONE_WORKER,
+        moves: &[
+            Move::Takes(Event::Prewait { seat: 0 }),
+            Move::Takes(Event::Publish { actor: 1, row: 0 }),
+            Move::Refuses(Event::Pass { seat: 0, row: 0 }),
+            Move::Takes(Event::Notify { actor: 1 }),
+            Move::Takes(Event::Cancel { seat: 0 }),
+            Move::Takes(Event::Take { actor: 0, row: 0 }),
+        ],
+        taken: 5,
+        first: Phase::Running,
+    },
+    // A worker sleeps, is woken by a stop, and ends.
+    Story {
+        name: "a stop ends a sleeper",
+        sizes: ONE_WORKER,
+        moves: &[
+            Move::Takes(Event::Prewait { seat: 0 }),
+            Move::Takes(Event::PassFlag { seat: 0 }),
+            Move::Takes(Event::Pass { seat: 0, row: 0 }),
+            Move::Takes(Event::Commit { seat: 0 }),
+            Move::Takes(Event::Stop { actor: 1 }),
+            Move::Refuses(Event::End { seat: 0 }),
+            Move::Takes(Event::NotifyAll { actor: 1 }),
+            Move::Takes(Event::Unpark { actor: 1 }),
+            Move::Takes(Event::Wake { seat: 0 }),
+            Move::Takes(Event::Prewait { seat: 0 }),
+            Move::Refuses(Event::PassFlag { seat: 0 }),
+            Move::Takes(Event::Cancel { seat: 0 }),
+            Move::Takes(Event::End { seat: 0 }),
+        ],
+        taken: 11,
+        first: Phase::Ended,
+    },
+    // A pop that was prepared at an older epoch of the same top.
+    Story {
+        name: "stale pop is contended",
+        sizes: Sizes {
+            workers: 2,
+            notifiers: 2,
+            rows: 0,
+        },
+        moves: &[
+            Move::Takes(Event::Prewait { seat: 0 }),
+            Move::Takes(Event::PassFlag { seat: 0 }),
+            Move::Takes(Event::Commit { seat: 0 }),
+            Move::Steps(2, Step::Looks(0)),
+            Move::Takes(Event::Notify { actor: 3 }),
+            Move::Takes(Event::Unpark { actor: 3 }),
+            Move::Takes(Event::Wake { seat: 0 }),
+            Move::Takes(Event::Prewait { seat: 1 }),
+            Move::Takes(Event::PassFlag { seat: 1 }),
+            Move::Takes(Event::Commit { seat: 1 }),
+            Move::Takes(Event::Prewait { seat: 0 }),
+            Move::Takes(Event::PassFlag { seat: 0 }),
+            Move::Takes(Event::Commit { seat: 0 }),
+            Move::Steps(2, Step::TriesNotify(TryNotify::Contended)),
+            Move::Takes(Event::Notify { actor: 2 }),
+            Move::Takes(Event::Unpark { actor: 2 }),
+            Move::Takes(Event::Notify { actor: 2 }),
+            Move::Takes(Event::Unpark { actor: 2 }),
+            Move::Takes(Event::Wake { seat: 0 }),
+            Move::Takes(Event::Wake { seat: 1 }),
+        ],
+        taken: 18,
+        first: Phase::Running,
+    },
+    // Two seats of three are taken off the stack at once, and the one that is unparked first goes
+    // onto it again before the other is unparked.
+    Story {
+        name: "a taken stack is unparked top first",
+        sizes: Sizes {
+            workers: 3,
+            notifiers: 1,
+            rows: 0,
+        },
+        moves: &[
+            Move::Takes(Event::Prewait { seat: 0 }),
+            Move::Takes(Event::PassFlag { seat: 0 }),
+            Move::Takes(Event::Commit { seat: 0 }),
+            Move::Takes(Event::Prewait { seat: 1 }),
+            Move::Takes(Event::PassFlag { seat: 1 }),
+            Move::Takes(Event::Commit { seat: 1 }),
+            Move::Takes(Event::Prewait { seat: 2 }),
+            Move::Takes(Event::NotifyAll { actor: 3 }),
+            Move::Takes(Event::Unpark { actor: 3 }),
+            Move::Takes(Event::PassFlag { seat: 2 }),
+            Move::Takes(Event::Commit { seat: 2 }),
+            Move::Takes(Event::Wake { seat: 1 }),
+            Move::Takes(Event::Prewait { seat: 1 }),
+            Move::Takes(Event::PassFlag { seat: 1 }),
+            Move::Takes(Event::Commit { seat: 1 }),
+            Move::Takes(Event::Unpark { actor: 3 }),
+            Move::Takes(Event::Notify { actor: 3 }),
+            Move::Takes(Event::Unpark { actor: 3 }),
+            Move::Takes(Event::Wake { seat: 0 }),
+            Move::Takes(Event::Wake { seat: 1 }),
+        ],
+        taken: 20,
+        first: Phase::Running,
+    },
+];
+
+// Both sides take a move: whether it is as it says.
+fn replay_move<R: Wait + Abort>(
+    rt: &R,
+    world: &mut World,
+    tables: &Tables,
+    seats: &mut Seats,
+    next: Move,
+) -> bool
+    requires waiters { (sizes_of tables.now.count).waiters ≡ tables.now.sizes.workers }
+    requires rows { row_count_of tables.now.rows ≡ tables.now.sizes.rows }
+    requires of_count { All (IsSeatOf tables.now.count) seats.old.of_count.items }
+    requires of_rows { All (λ s. table_of s ≡ rows_id tables.now.rows) seats.old.of_rows.items }
+    requires workers { length world.old.phases ≡ tables.now.sizes.workers }
+    requires actors { length world.old.owed
+        ≡ tables.now.sizes.workers + tables.now.sizes.notifiers }
+    requires lengths { length world.old.lengths ≡ tables.now.sizes.rows }
+    ensures of_count { All (IsSeatOf tables.now.count) seats.new.of_count.items }
+    ensures of_rows { All (λ s. table_of s ≡ rows_id tables.now.rows) seats.new.of_rows.items }
+    ensures workers { length world.new.phases ≡ length world.old.phases }
+    ensures actors { length world.new.owed ≡ length world.old.owed }
+    ensures lengths { length world.new.lengths ≡ length world.old.lengths }
+{
+    match next {
+        Move::Takes(event) => {
+            let before = Before::of(world);
+            let is_possible = world.step(event);
+            assert!(rt; is_possible, "{event:?} is possible");
+            tables::take(rt, tables, seats, world, before, event);
+            true
+        }
+        Move::Refuses(event) => {
+            let is_possible = world.step(event);
+            tables::refuses(rt, tables, seats, event) && !is_possible
+        }
+        Move::Steps(actor, step) => tables::takes(rt, tables, seats, actor, step),
+    }
 }
 
-#[test]
-fn a_row_with_jobs_is_not_passed(rt: HostRuntime) -> Result<(), Fail> {
-    let end = replay(&rt, rt.alloc(), ONE_WORKER, &FILLED_AND_CANCELLED)?;
-    assert_eq!(rt; end, (5, Phase::Running));
-    Ok(())
-}
-
-#[test]
-fn a_stop_ends_a_sleeper(rt: HostRuntime) -> Result<(), Fail> {
-    let end = replay(&rt, rt.alloc(), ONE_WORKER, &STOPPED)?;
-    assert_eq!(rt; end, (11, Phase::Ended));
-    Ok(())
-}
-
-#[test]
-fn stale_pop_is_contended(rt: HostRuntime) -> Result<(), Fail> {
-    let sizes = Sizes {
-        workers: 2,
-        notifiers: 2,
-        rows: 0,
+// Replays a story, and stops where it goes otherwise.
+fn replay<R: Wait + Abort>(rt: &R, alloc: Global, story: &Story) {
+    let sizes = story.sizes;
+    assert!(rt; sizes.workers > 0 && sizes.workers <= 16_382);
+    let Ok(mut world) = World::new(alloc, sizes.workers, sizes.notifiers, sizes.rows) else {
+        panic!(rt; "no World")
     };
-    let end = replay(&rt, rt.alloc(), sizes, &STALE_POP)?;
-    assert_eq!(rt; end, (18, Phase::Running));
-    Ok(())
+    let (tables, mut seats) = tables::open(rt, alloc, sizes);
+    let mut place: u64 = 0;
+    let mut taken: u64 = 0;
+    for next in story.moves {
+        let is_right = replay_move(rt, &mut world, &tables, &mut seats, *next);
+        expect(rt, is_right, story.name, place);
+        place = place.saturating_add(1);
+        taken = taken.saturating_add(u64::from(matches!(next, Move::Takes(_))));
+    }
+    let is_end = taken == story.taken && world.phase(0) == story.first;
+    expect(rt, is_end, story.name, place);
 }
 
 #[test]
-fn a_taken_stack_is_unparked_top_first(rt: HostRuntime) -> Result<(), Fail> {
-    let sizes = Sizes {
-        workers: 3,
-        notifiers: 1,
-        rows: 0,
-    };
-    let end = replay(&rt, rt.alloc(), sizes, &TAKEN_STACK)?;
-    assert_eq!(rt; end, (20, Phase::Running));
-    Ok(())
+fn stories_are_followed(rt: HostRuntime) {
+    for story in &STORIES {
+        replay(&rt, rt.alloc(), story);
+    }
 }

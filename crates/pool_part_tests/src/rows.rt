@@ -1,93 +1,252 @@
-//! Rows behind a lock.
+//! Rows that threads share, through their trait: with a lock, and of slots.
+ghost use Rattle.std.specs.Prelude.{◌≡◌, ◌<◌, IsTrue};
 
-use run_queue::{LockedRows, Rows, RowsFault};
-use std::test::Fail;
+use crate::told::expect;
+use run_queue::{LockedRows, Rows, RowsFault, SlotRows};
+use std::alloc::Global;
+use std::process::Abort;
+use std::sync::Wait;
 
-#[test]
-fn one_job_at_the_back(rt: HostRuntime) -> Result<(), Fail> {
-    let (rows, mut seats) = LockedRows::<u32>::open(rt.alloc(), 2, 1)?;
-    assert_eq!(rt; seats.len(), 3);
-    let outsider = &mut seats[2];
-    let put = rows.put_back(&rt, outsider, 1, 7);
-    let lengths = [
-        rows.row_length(&rt, outsider, 0),
-        rows.row_length(&rt, outsider, 1),
-    ];
-    let left = rows.drain_all(seats);
-    let found = (put, lengths, left.as_slice());
-    assert_eq!(rt; found, (Ok(()), [0, 1], [7].as_slice()));
-    Ok(())
+/// A call by a seat, and what it answers.
+#[derive(Clone, Copy)]
+enum Call {
+    PutFront(u32, Result<(), u32>),
+    PutBack(u16, u32, Result<(), u32>),
+    TakeFront(Option<u32>),
+    TakeBack(u16, Option<u32>),
+    Length(u16, u64),
 }
 
-#[test]
-fn an_owner_at_the_front(rt: HostRuntime) -> Result<(), Fail> {
-    let (rows, mut seats) = LockedRows::<u32>::open(rt.alloc(), 2, 0)?;
-    assert_eq!(rt; seats.len(), 2);
-    let owner = &mut seats[1];
-    let first = rows.take_front(&rt, owner);
-    let puts = [
-        rows.put_front(&rt, owner, 10),
-        rows.put_front(&rt, owner, 20),
-        rows.put_back(&rt, owner, 1, 30),
-        rows.put_front(&rt, owner, 40),
-    ];
-    let last = rows.take_front(&rt, owner);
-    let left = rows.drain_all(seats);
-    assert_eq!(rt; (first, puts, last), (None, [Ok(()); 4], Some(40)));
-    assert_eq!(rt; left.as_slice(), [20, 10, 30].as_slice());
-    Ok(())
+/// At two rows and three seats: how many jobs the outsider puts in row 0 first, its calls then, and
+/// after them those of the owner of row 1, and those of the owner of row 0. These are left, where
+/// they are told.
+struct Story {
+    name: &'static str,
+    jobs: u32,
+    outsider: &'static [Call],
+    owner: &'static [Call],
+    thief: &'static [Call],
+    left: Option<&'static [u32]>,
 }
 
-#[test]
-fn a_thief_at_the_back(rt: HostRuntime) -> Result<(), Fail> {
-    let (rows, mut seats) = LockedRows::<u32>::open(rt.alloc(), 2, 0)?;
-    assert_eq!(rt; seats.len(), 2);
-    let owner = &mut seats[1];
-    let puts = [
-        rows.put_front(&rt, owner, 20),
-        rows.put_back(&rt, owner, 1, 30),
-    ];
-    let thief = &mut seats[0];
-    let takes = [rows.take_back(&rt, thief, 1), rows.take_back(&rt, thief, 0)];
-    let length = rows.row_length(&rt, thief, 1);
-    let put = rows.put_back(&rt, thief, 0, 50);
-    let left = rows.drain_all(seats);
-    assert_eq!(rt; (puts, takes), ([Ok(()); 2], [Some(30), None]));
-    let found = (length, put, left.as_slice());
-    assert_eq!(rt; found, (1, Ok(()), [50, 20].as_slice()));
-    Ok(())
-}
+const STORIES: [Story; 5] = [
+    Story {
+        name: "one job at the back",
+        jobs: 0,
+        outsider: &[
+            Call::PutBack(1, 7, Ok(())),
+            Call::Length(0, 0),
+            Call::Length(1, 1),
+        ],
+        owner: &[],
+        thief: &[],
+        left: Some(&[7]),
+    },
+    Story {
+        name: "an owner at the front",
+        jobs: 0,
+        outsider: &[],
+        owner: &[
+            Call::TakeFront(None),
+            Call::PutFront(10, Ok(())),
+            Call::PutFront(20, Ok(())),
+            Call::PutBack(1, 30, Ok(())),
+            Call::PutFront(40, Ok(())),
+            Call::TakeFront(Some(40)),
+        ],
+        thief: &[],
+        left: Some(&[20, 10, 30]),
+    },
+    Story {
+        name: "a thief at the back",
+        jobs: 0,
+        outsider: &[],
+        owner: &[Call::PutFront(20, Ok(())), Call::PutBack(1, 30, Ok(()))],
+        thief: &[
+            Call::TakeBack(1, Some(30)),
+            Call::TakeBack(0, None),
+            Call::Length(1, 1),
+            Call::PutBack(0, 50, Ok(())),
+        ],
+        left: Some(&[50, 20]),
+    },
+    Story {
+        name: "an outsider and an owner",
+        jobs: 0,
+        outsider: &[
+            Call::PutBack(1, 0, Ok(())),
+            Call::PutBack(1, 1, Ok(())),
+            Call::PutBack(1, 2, Ok(())),
+            Call::Length(0, 0),
+            Call::Length(1, 3),
+        ],
+        owner: &[
+            Call::PutFront(7, Ok(())),
+            Call::TakeFront(Some(7)),
+            Call::TakeFront(Some(0)),
+            Call::TakeBack(1, Some(2)),
+        ],
+        thief: &[],
+        left: Some(&[1]),
+    },
+    Story {
+        name: "full row gives the job back",
+        jobs: 1024,
+        outsider: &[Call::PutBack(0, 5000, Err(5000))],
+        owner: &[],
+        thief: &[
+            Call::PutFront(5001, Err(5001)),
+            Call::Length(0, 1024),
+            Call::TakeFront(Some(0)),
+            Call::TakeBack(0, Some(1023)),
+        ],
+        left: None,
+    },
+];
 
-#[test]
-fn full_row_gives_the_job_back(rt: HostRuntime) -> Result<(), Fail> {
-    let (rows, mut seats) = LockedRows::<u32>::open(rt.alloc(), 1, 1)?;
-    assert_eq!(rt; seats.len(), 2);
-    let outsider = &mut seats[1];
-    for job in 0..1024 {
-        assert_eq!(rt; rows.put_back(&rt, outsider, 0, job), Ok(()), "job {job}");
+/// Rows and outsiders, and the fault of such rows.
+const OPENINGS: [(u16, u16, Option<RowsFault>); 3] = [
+    (0, 0, None),
+    (256, 1, None),
+    (257, 1, Some(RowsFault::TooManyRows)),
+];
+
+// Whether the seat, which may own one of the two rows, is answered as the call says.
+fn answers<Q: Rows<u32, Global>, R: Wait>(
+    rt: &R,
+    rows: &Q,
+    seat: &mut Q::Seat,
+    owns: bool,
+    call: Call,
+) -> bool
+    requires ours { Q.rows_of seat.old ≡ Q.identity_of rows.now }
+    requires rows { Q.row_count rows.now ≡ 2 }
+    requires owner { IsTrue owns → Q.number_of seat.old < 2 }
+    ensures ours { Q.rows_of seat.new ≡ Q.rows_of seat.old }
+    ensures number { Q.number_of seat.new ≡ Q.number_of seat.old }
+{
+    match call {
+        Call::PutFront(job, told) if owns => rows.put_front(rt, seat, job) == told,
+        Call::TakeFront(told) if owns => rows.take_front(rt, seat) == told,
+        Call::PutBack(row, job, told) if row < 2 => rows.put_back(rt, seat, row, job) == told,
+        Call::TakeBack(row, told) if row < 2 => rows.take_back(rt, seat, row) == told,
+        Call::Length(row, told) if row < 2 => rows.row_length(rt, seat, row) == told,
+        _ => false,
     }
-    let back = rows.put_back(&rt, outsider, 0, 5000);
-    let owner = &mut seats[0];
-    let front = rows.put_front(&rt, owner, 5001);
-    let length = rows.row_length(&rt, owner, 0);
-    assert_eq!(rt; (back, front, length), (Err(5000), Err(5001), 1024));
-    Ok(())
+}
+
+// Makes the calls in turn, and stops where one is answered otherwise.
+fn make_calls<Q: Rows<u32, Global>, R: Wait + Abort>(
+    rt: &R,
+    rows: &Q,
+    seat: &mut Q::Seat,
+    owns: bool,
+    name: &str,
+    calls: &[Call],
+)
+    requires ours { Q.rows_of seat.old ≡ Q.identity_of rows.now }
+    requires rows { Q.row_count rows.now ≡ 2 }
+    requires owner { IsTrue owns → Q.number_of seat.old < 2 }
+    ensures ours { Q.rows_of seat.new ≡ Q.rows_of seat.old }
+{
+    let mut place: u64 = 0;
+    for call in calls {
+        expect(rt, answers(rt, rows, seat, owns, *call), name, place);
+        place = place.saturating_add(1);
+    }
+}
+
+// Puts so many jobs in row 0, which it takes.
+fn fill<Q: Rows<u32, Global>, R: Wait + Abort>(rt: &R, rows: &Q, seat: &mut Q::Seat, jobs: u32)
+    requires ours { Q.rows_of seat.old ≡ Q.identity_of rows.now }
+    requires rows { Q.row_count rows.now ≡ 2 }
+    ensures ours { Q.rows_of seat.new ≡ Q.rows_of seat.old }
+{
+    for job in 0..jobs {
+        assert!(rt; rows.put_back(rt, seat, 0, job).is_ok(), "job {job}");
+    }
+}
+
+// Whether these jobs are left. Rows of slots hand them out in any order.
+fn are_left(left: &[u32], told: &[u32], in_order: bool) -> bool {
+    if in_order {
+        return left == told;
+    }
+    let mut are_told = left.len() == told.len();
+    for job in told {
+        are_told = are_told && left.contains(job);
+    }
+    are_told
+}
+
+// Tells a story, and stops where it goes otherwise.
+fn tell<Q: Rows<u32, Global>, R: Wait + Abort>(
+    rt: &R,
+    alloc: Global,
+    in_order: bool,
+    story: &Story,
+) {
+    let Ok((rows, seats)) = Q::open(alloc, 2, 1) else {
+        panic!(rt; "no rows")
+    };
+    let seats = match <[Q::Seat; 3]>::try_from(seats) {
+        Ok(seats) => seats,
+        Err(_) => panic!(rt; "there are three seats"),
+    };
+    let [mut thief, mut owner, mut outsider] = seats;
+    fill(rt, &rows, &mut outsider, story.jobs);
+    make_calls(rt, &rows, &mut outsider, false, story.name, story.outsider);
+    make_calls(rt, &rows, &mut owner, true, story.name, story.owner);
+    make_calls(rt, &rows, &mut thief, true, story.name, story.thief);
+    let Ok(seats) = Vec::from_array(alloc, [thief, owner, outsider]) else {
+        panic!(rt; "no memory")
+    };
+    let left = rows.drain_all(seats);
+    if let Some(told) = story.left {
+        assert!(rt;
+            are_left(&left, told, in_order),
+            "{} leaves jobs",
+            story.name
+        );
+    }
+}
+
+// What such rows are refused for. Those that are opened have their seats, and no job.
+fn fault_of<Q: Rows<u32, Global>, R: Abort>(
+    rt: &R,
+    alloc: Global,
+    rows: u16,
+    outsiders: u16,
+) -> Option<RowsFault> {
+    match Q::open(alloc, rows, outsiders) {
+        Ok((opened, seats)) => {
+            assert!(rt; seats.len() == usize::from(rows) + usize::from(outsiders));
+            assert!(rt;
+                opened.drain_all(seats).is_empty(),
+                "{rows} and {outsiders}"
+            );
+            None
+        }
+        Err(fault) => Some(fault),
+    }
+}
+
+fn expect_openings<Q: Rows<u32, Global>, R: Abort>(rt: &R, alloc: Global) {
+    for (rows, outsiders, fault) in OPENINGS {
+        let found = fault_of::<Q, R>(rt, alloc, rows, outsiders);
+        assert!(rt; found == fault, "{rows} and {outsiders}");
+    }
+}
+
+fn expect_rows<Q: Rows<u32, Global>, R: Wait + Abort>(rt: &R, alloc: Global, in_order: bool) {
+    expect_openings::<Q, R>(rt, alloc);
+    for story in &STORIES {
+        tell::<Q, R>(rt, alloc, in_order, story);
+    }
 }
 
 #[test]
-fn the_most_rows(rt: HostRuntime) -> Result<(), Fail> {
-    let too_many = LockedRows::<u8>::open(rt.alloc(), 257, 1).err();
-    let (_rows, seats) = LockedRows::<u8>::open(rt.alloc(), 256, 1)?;
-    let found = (too_many, seats.len());
-    assert_eq!(rt; found, (Some(RowsFault::TooManyRows), 257));
-    Ok(())
-}
-
-#[test]
-fn names_its_faults(rt: HostRuntime) -> Result<(), Fail> {
-    let codes = [RowsFault::TooManyRows as u8, RowsFault::NoMemory as u8];
-    let text = format!(in rt.alloc(); "{}, {}", RowsFault::TooManyRows, RowsFault::NoMemory)?;
-    let wanted = ([1, 2], "more than 256 rows, out of memory");
-    assert_eq!(rt; (codes, text.as_str()), wanted);
-    Ok(())
+fn rows_with_a_lock_and_of_slots(rt: HostRuntime) {
+    expect_rows::<LockedRows<u32>, HostRuntime>(&rt, rt.alloc(), true);
+    expect_rows::<SlotRows<u32>, HostRuntime>(&rt, rt.alloc(), false);
 }

@@ -1,54 +1,55 @@
-//! Worked sequences of the calls that try once, with their words.
+//! Worked sequences of calls on a count, with the words that they find.
 
-use crate::steps::{Start, Step, last_word};
-use event_count::{Phase, TryCancel, TryCommit, TryNotify, TryNotifyAll};
-use std::test::Fail;
+use crate::steps::{FIRST_EPOCH, LAST_EPOCH, Sequence, Step, run};
+use event_count::{Committed, Phase, TryCancel, TryCommit, TryNotify, TryNotifyAll};
 
-#[test]
-fn a_waiter_takes_a_signal(rt: HostRuntime) -> Result<(), Fail> {
-    let last = last_word(
-        &rt,
-        rt.alloc(),
-        Start::fresh(1, 1),
-        &[
+/// The last ones are those of the calls that may wait, all on one thread.
+const SEQUENCES: [Sequence; 11] = [
+    Sequence {
+        name: "a waiter takes a signal",
+        waiters: 1,
+        notifiers: 1,
+        epoch: FIRST_EPOCH,
+        steps: &[
             (0, Step::Says(Phase::Running, false)),
             (1, Step::Says(Phase::Running, false)),
             (0, Step::Prewaits),
             (0, Step::Says(Phase::Pre, false)),
             (0, Step::Looks(0x7FFF)),
             (0, Step::Says(Phase::Pre, true)),
-            (1, Step::Signals(0x7FFF)),
+            (1, Step::Looks(0x7FFF)),
+            (1, Step::TriesNotify(TryNotify::Signalled)),
             (0, Step::TriesCommit(TryCommit::Contended)),
             (0, Step::Says(Phase::Pre, false)),
-            (0, Step::Consumes(0x1000_7FFF)),
-            (1, Step::Finds(0x3FFF)),
+            (0, Step::Looks(0x1000_7FFF)),
+            (0, Step::TriesCommit(TryCommit::Consumed)),
+            (0, Step::Says(Phase::Running, false)),
+            (1, Step::Looks(0x3FFF)),
             (1, Step::TriesNotify(TryNotify::Nothing)),
-            (1, Step::Finds(0x3FFF)),
+            (1, Step::Looks(0x3FFF)),
             (1, Step::TriesNotifyAll(TryNotifyAll::Nothing)),
             (1, Step::Says(Phase::Running, false)),
         ],
-    )?;
-    assert_eq!(rt; last, 0x3FFF);
-    Ok(())
-}
-
-// One waiter is answered, and the other gives up.
-#[test]
-fn of_two_waiters_one_is_answered(rt: HostRuntime) -> Result<(), Fail> {
-    let last = last_word(
-        &rt,
-        rt.alloc(),
-        Start::fresh(2, 1),
-        &[
+    },
+    // One waiter is answered, and the other gives up.
+    Sequence {
+        name: "of two waiters one is answered",
+        waiters: 2,
+        notifiers: 1,
+        epoch: FIRST_EPOCH,
+        steps: &[
             (0, Step::Says(Phase::Running, false)),
             (1, Step::Says(Phase::Running, false)),
             (0, Step::Prewaits),
             (0, Step::Looks(0x7FFF)),
-            (2, Step::Signals(0x7FFF)),
+            (2, Step::Looks(0x7FFF)),
+            (2, Step::TriesNotify(TryNotify::Signalled)),
             (0, Step::TriesCommit(TryCommit::Contended)),
             (0, Step::Says(Phase::Pre, false)),
-            (0, Step::Consumes(0x1000_7FFF)),
-            (2, Step::Finds(0x3FFF)),
+            (0, Step::Looks(0x1000_7FFF)),
+            (0, Step::TriesCommit(TryCommit::Consumed)),
+            (0, Step::Says(Phase::Running, false)),
+            (2, Step::Looks(0x3FFF)),
             (2, Step::TriesNotify(TryNotify::Nothing)),
             (1, Step::Prewaits),
             (1, Step::Looks(0x7FFF)),
@@ -56,192 +57,318 @@ fn of_two_waiters_one_is_answered(rt: HostRuntime) -> Result<(), Fail> {
             (1, Step::Says(Phase::Running, false)),
             (2, Step::Says(Phase::Running, false)),
         ],
-    )?;
-    assert_eq!(rt; last, 0x3FFF);
-    Ok(())
-}
-
-// A prewait comes between their looks and their exchanges.
-#[test]
-fn a_cancel_and_a_notification_of_all_are_contended(rt: HostRuntime) -> Result<(), Fail> {
-    let last = last_word(
-        &rt,
-        rt.alloc(),
-        Start::fresh(2, 1),
-        &[
+    },
+    // A prewait comes between their looks and their exchanges.
+    Sequence {
+        name: "a cancel and a notification of all are contended",
+        waiters: 2,
+        notifiers: 1,
+        epoch: FIRST_EPOCH,
+        steps: &[
             (0, Step::Says(Phase::Running, false)),
             (1, Step::Says(Phase::Running, false)),
             (0, Step::Prewaits),
             (0, Step::Looks(0x7FFF)),
-            (2, Step::Finds(0x7FFF)),
+            (2, Step::Looks(0x7FFF)),
+            (2, Step::Says(Phase::Running, true)),
             (1, Step::Prewaits),
             (0, Step::TriesCancel(TryCancel::Contended)),
             (0, Step::Says(Phase::Pre, false)),
             (2, Step::TriesNotifyAll(TryNotifyAll::Contended)),
             (2, Step::Says(Phase::Running, false)),
-            (2, Step::Finds(0xBFFF)),
+            (2, Step::Looks(0xBFFF)),
             (2, Step::TriesNotifyAll(TryNotifyAll::Taken)),
-            (0, Step::Consumes(0x2000_BFFF)),
-            (1, Step::Consumes(0x1000_7FFF)),
-            (2, Step::Finds(0x3FFF)),
+            (0, Step::Looks(0x2000_BFFF)),
+            (0, Step::TriesCommit(TryCommit::Consumed)),
+            (0, Step::Says(Phase::Running, false)),
+            (1, Step::Looks(0x1000_7FFF)),
+            (1, Step::TriesCommit(TryCommit::Consumed)),
+            (1, Step::Says(Phase::Running, false)),
+            (2, Step::Looks(0x3FFF)),
+            (2, Step::Says(Phase::Running, true)),
         ],
-    )?;
-    assert_eq!(rt; last, 0x3FFF);
-    Ok(())
-}
-
-// A pop that was prepared at an older epoch of the same top loses.
-#[test]
-fn stale_pop_is_contended(rt: HostRuntime) -> Result<(), Fail> {
-    let last = last_word(
-        &rt,
-        rt.alloc(),
-        Start::fresh(2, 2),
-        &[
-            (0, Step::Pushes(0x7FFF)),
-            (2, Step::Finds(0)),
-            (3, Step::Pops(0, 0)),
-            (0, Step::TakesToken),
-            (1, Step::Pushes(0x7FFF)),
-            (0, Step::Pushes(0x4001)),
+    },
+    // A pop that was prepared at an older epoch of the same top loses.
+    Sequence {
+        name: "stale pop is contended",
+        waiters: 2,
+        notifiers: 2,
+        epoch: FIRST_EPOCH,
+        steps: &[
+            (0, Step::Says(Phase::Running, false)),
+            (0, Step::Prewaits),
+            (0, Step::Looks(0x7FFF)),
+            (0, Step::TriesCommit(TryCommit::Pushed)),
+            (0, Step::Says(Phase::Stacked, false)),
+            (2, Step::Looks(0)),
+            (2, Step::Says(Phase::Running, true)),
+            (3, Step::Looks(0)),
+            (3, Step::TriesNotify(TryNotify::Popped(0))),
+            (3, Step::TriesUnpark(Some(0))),
+            (0, Step::TriesToken(true)),
+            (0, Step::Says(Phase::Running, false)),
+            (1, Step::Says(Phase::Running, false)),
+            (1, Step::Prewaits),
+            (1, Step::Looks(0x7FFF)),
+            (1, Step::TriesCommit(TryCommit::Pushed)),
+            (1, Step::Says(Phase::Stacked, false)),
+            (0, Step::Says(Phase::Running, false)),
+            (0, Step::Prewaits),
+            (0, Step::Looks(0x4001)),
+            (0, Step::TriesCommit(TryCommit::Pushed)),
+            (0, Step::Says(Phase::Stacked, false)),
             (2, Step::TriesNotify(TryNotify::Contended)),
-            (2, Step::Pops(0x400_0000_0000, 0)),
-            (2, Step::Pops(1, 1)),
-            (2, Step::Finds(0x3FFF)),
-            (0, Step::TakesToken),
-            (1, Step::TakesToken),
-            (3, Step::Finds(0x3FFF)),
+            (2, Step::Looks(0x400_0000_0000)),
+            (2, Step::TriesNotify(TryNotify::Popped(0))),
+            (2, Step::TriesUnpark(Some(0))),
+            (2, Step::Looks(1)),
+            (2, Step::TriesNotify(TryNotify::Popped(1))),
+            (2, Step::TriesUnpark(Some(1))),
+            (2, Step::Looks(0x3FFF)),
+            (2, Step::Says(Phase::Running, true)),
+            (0, Step::TriesToken(true)),
+            (0, Step::Says(Phase::Running, false)),
+            (1, Step::TriesToken(true)),
+            (1, Step::Says(Phase::Running, false)),
+            (3, Step::Looks(0x3FFF)),
+            (3, Step::Says(Phase::Running, true)),
         ],
-    )?;
-    assert_eq!(rt; last, 0x3FFF);
-    Ok(())
-}
-
-// Two seats are taken off at once. The one that is unparked first is on the stack again before the
-// other is unparked.
-#[test]
-fn a_taken_stack_is_unparked_top_first(rt: HostRuntime) -> Result<(), Fail> {
-    let last = last_word(
-        &rt,
-        rt.alloc(),
-        Start::fresh(3, 1),
-        &[
-            (0, Step::Pushes(0x7FFF)),
-            (3, Step::Finds(0)),
-            (1, Step::Pushes(0x4000)),
-            (3, Step::Finds(1)),
+    },
+    // Two seats are taken off at once. The one that is unparked first is on the stack again before
+    // the other is unparked.
+    Sequence {
+        name: "a taken stack is unparked top first",
+        waiters: 3,
+        notifiers: 1,
+        epoch: FIRST_EPOCH,
+        steps: &[
+            (0, Step::Says(Phase::Running, false)),
+            (0, Step::Prewaits),
+            (0, Step::Looks(0x7FFF)),
+            (0, Step::TriesCommit(TryCommit::Pushed)),
+            (0, Step::Says(Phase::Stacked, false)),
+            (3, Step::Looks(0)),
+            (3, Step::Says(Phase::Running, true)),
+            (1, Step::Says(Phase::Running, false)),
+            (1, Step::Prewaits),
+            (1, Step::Looks(0x4000)),
+            (1, Step::TriesCommit(TryCommit::Pushed)),
+            (1, Step::Says(Phase::Stacked, false)),
+            (3, Step::Looks(1)),
+            (3, Step::Says(Phase::Running, true)),
             (2, Step::Says(Phase::Running, false)),
             (2, Step::Prewaits),
-            (3, Step::TakesAll(0x4001)),
+            (3, Step::Looks(0x4001)),
+            (3, Step::TriesNotifyAll(TryNotifyAll::Taken)),
+            (3, Step::Owes),
             (1, Step::TriesToken(false)),
             (1, Step::Says(Phase::Stacked, false)),
             (3, Step::TriesUnpark(Some(1))),
             (2, Step::Says(Phase::Pre, false)),
-            (2, Step::Consumes(0x1000_7FFF)),
-            (2, Step::Finds(0x3FFF)),
-            (1, Step::TakesToken),
-            (1, Step::Pushes(0x7FFF)),
+            (2, Step::Looks(0x1000_7FFF)),
+            (2, Step::TriesCommit(TryCommit::Consumed)),
+            (2, Step::Says(Phase::Running, false)),
+            (2, Step::Looks(0x3FFF)),
+            (2, Step::Says(Phase::Running, true)),
+            (1, Step::TriesToken(true)),
+            (1, Step::Says(Phase::Running, false)),
+            (1, Step::Prewaits),
+            (1, Step::Looks(0x7FFF)),
+            (1, Step::TriesCommit(TryCommit::Pushed)),
+            (1, Step::Says(Phase::Stacked, false)),
             (3, Step::TriesUnpark(Some(0))),
             (3, Step::TriesUnpark(None)),
-            (3, Step::Pops(0x400_0000_0001, 1)),
-            (0, Step::TakesToken),
-            (1, Step::TakesToken),
-            (3, Step::Finds(0x3FFF)),
+            (3, Step::Looks(0x400_0000_0001)),
+            (3, Step::TriesNotify(TryNotify::Popped(1))),
+            (3, Step::TriesUnpark(Some(1))),
+            (0, Step::TriesToken(true)),
+            (0, Step::Says(Phase::Running, false)),
+            (1, Step::TriesToken(true)),
+            (1, Step::Says(Phase::Running, false)),
+            (3, Step::Looks(0x3FFF)),
+            (3, Step::Says(Phase::Running, true)),
         ],
-    )?;
-    assert_eq!(rt; last, 0x3FFF);
-    Ok(())
-}
-
-#[test]
-fn last_epoch(rt: HostRuntime) -> Result<(), Fail> {
-    let last = last_word(
-        &rt,
-        rt.alloc(),
-        Start::at_last_epoch(1, 1),
-        &[
-            (0, Step::Pushes(0x7FFF)),
-            (1, Step::Pops(0xFFFF_FC00_0000_0000, 0)),
-            (0, Step::TakesToken),
+    },
+    Sequence {
+        name: "last epoch",
+        waiters: 1,
+        notifiers: 1,
+        epoch: LAST_EPOCH,
+        steps: &[
+            (0, Step::Says(Phase::Running, false)),
+            (0, Step::Prewaits),
+            (0, Step::Looks(0x7FFF)),
+            (0, Step::TriesCommit(TryCommit::Pushed)),
+            (0, Step::Says(Phase::Stacked, false)),
+            (1, Step::Looks(0xFFFF_FC00_0000_0000)),
+            (1, Step::TriesNotify(TryNotify::Popped(0))),
+            (1, Step::TriesUnpark(Some(0))),
+            (0, Step::TriesToken(true)),
+            (0, Step::Says(Phase::Running, false)),
             (0, Step::Prewaits),
             (0, Step::Looks(0x7FFF)),
             (0, Step::TriesCommit(TryCommit::Spent)),
             (0, Step::Says(Phase::Running, false)),
-            (1, Step::Finds(0x3FFF)),
+            (1, Step::Looks(0x3FFF)),
+            (1, Step::Says(Phase::Running, true)),
         ],
-    )?;
-    assert_eq!(rt; last, 0x3FFF);
-    Ok(())
-}
-
-// A seat whose epochs are used up cancels, though there is a signal, and leaves it to another.
-#[test]
-fn a_spent_commit_leaves_the_signal(rt: HostRuntime) -> Result<(), Fail> {
-    let last = last_word(
-        &rt,
-        rt.alloc(),
-        Start::at_last_epoch(2, 1),
-        &[
-            (0, Step::Pushes(0x7FFF)),
-            (2, Step::Pops(0xFFFF_FC00_0000_0000, 0)),
-            (0, Step::TakesToken),
-            (1, Step::Says(Phase::Running, false)),
+    },
+    // A seat whose epochs are used up cancels, though there is a signal, and leaves it to another.
+    Sequence {
+        name: "a spent commit leaves the signal",
+        waiters: 2,
+        notifiers: 1,
+        epoch: LAST_EPOCH,
+        steps: &[
+            (0, Step::Says(Phase::Running, false)),
             (0, Step::Prewaits),
-            (1, Step::Prewaits),
-            (2, Step::Signals(0xBFFF)),
-            (0, Step::Looks(0x1000_BFFF)),
-            (0, Step::TriesCommit(TryCommit::Spent)),
-            (0, Step::Finds(0x1000_7FFF)),
-            (1, Step::Says(Phase::Pre, false)),
-            (1, Step::Consumes(0x1000_7FFF)),
-            (1, Step::Finds(0x3FFF)),
-            (2, Step::Finds(0x3FFF)),
-        ],
-    )?;
-    assert_eq!(rt; last, 0x3FFF);
-    Ok(())
-}
-
-#[test]
-fn two_cancels(rt: HostRuntime) -> Result<(), Fail> {
-    let last = last_word(
-        &rt,
-        rt.alloc(),
-        Start::fresh(2, 1),
-        &[
+            (0, Step::Looks(0x7FFF)),
+            (0, Step::TriesCommit(TryCommit::Pushed)),
+            (0, Step::Says(Phase::Stacked, false)),
+            (2, Step::Looks(0xFFFF_FC00_0000_0000)),
+            (2, Step::TriesNotify(TryNotify::Popped(0))),
+            (2, Step::TriesUnpark(Some(0))),
+            (0, Step::TriesToken(true)),
             (0, Step::Says(Phase::Running, false)),
             (1, Step::Says(Phase::Running, false)),
             (0, Step::Prewaits),
             (1, Step::Prewaits),
-            (2, Step::Signals(0xBFFF)),
+            (2, Step::Looks(0xBFFF)),
+            (2, Step::TriesNotify(TryNotify::Signalled)),
+            (0, Step::Looks(0x1000_BFFF)),
+            (0, Step::TriesCommit(TryCommit::Spent)),
+            (0, Step::Looks(0x1000_7FFF)),
+            (0, Step::Says(Phase::Running, true)),
+            (1, Step::Says(Phase::Pre, false)),
+            (1, Step::Looks(0x1000_7FFF)),
+            (1, Step::TriesCommit(TryCommit::Consumed)),
+            (1, Step::Says(Phase::Running, false)),
+            (1, Step::Looks(0x3FFF)),
+            (1, Step::Says(Phase::Running, true)),
+            (2, Step::Looks(0x3FFF)),
+            (2, Step::Says(Phase::Running, true)),
+        ],
+    },
+    Sequence {
+        name: "two cancels",
+        waiters: 2,
+        notifiers: 1,
+        epoch: FIRST_EPOCH,
+        steps: &[
+            (0, Step::Says(Phase::Running, false)),
+            (1, Step::Says(Phase::Running, false)),
+            (0, Step::Prewaits),
+            (1, Step::Prewaits),
+            (2, Step::Looks(0xBFFF)),
+            (2, Step::TriesNotify(TryNotify::Signalled)),
             (0, Step::Looks(0x1000_BFFF)),
             (0, Step::TriesCancel(TryCancel::Done)),
-            (0, Step::Finds(0x1000_7FFF)),
+            (0, Step::Looks(0x1000_7FFF)),
+            (0, Step::Says(Phase::Running, true)),
             (1, Step::Looks(0x1000_7FFF)),
             (1, Step::TriesCancel(TryCancel::Done)),
-            (1, Step::Finds(0x3FFF)),
-            (2, Step::Finds(0x3FFF)),
+            (1, Step::Looks(0x3FFF)),
+            (1, Step::Says(Phase::Running, true)),
+            (2, Step::Looks(0x3FFF)),
+            (2, Step::Says(Phase::Running, true)),
         ],
-    )?;
-    assert_eq!(rt; last, 0x3FFF);
-    Ok(())
-}
-
-#[test]
-fn a_count_of_notifiers(rt: HostRuntime) -> Result<(), Fail> {
-    let last = last_word(
-        &rt,
-        rt.alloc(),
-        Start::fresh(0, 2),
-        &[
-            (0, Step::Finds(0x3FFF)),
+    },
+    Sequence {
+        name: "a count of notifiers",
+        waiters: 0,
+        notifiers: 2,
+        epoch: FIRST_EPOCH,
+        steps: &[
+            (0, Step::Looks(0x3FFF)),
             (0, Step::TriesNotify(TryNotify::Nothing)),
-            (1, Step::Finds(0x3FFF)),
+            (1, Step::Looks(0x3FFF)),
             (1, Step::TriesNotifyAll(TryNotifyAll::Nothing)),
             (0, Step::Says(Phase::Running, false)),
             (1, Step::Says(Phase::Running, false)),
         ],
-    )?;
-    assert_eq!(rt; last, 0x3FFF);
-    Ok(())
+    },
+    Sequence {
+        name: "the waiting calls on one thread",
+        waiters: 2,
+        notifiers: 1,
+        epoch: FIRST_EPOCH,
+        steps: &[
+            (0, Step::Says(Phase::Running, false)),
+            (2, Step::Says(Phase::Running, false)),
+            (0, Step::Prewaits),
+            (2, Step::Notifies),
+            (0, Step::Commits(Committed::Consumed)),
+            (0, Step::Says(Phase::Running, false)),
+            (0, Step::Prewaits),
+            (0, Step::Cancels),
+            (0, Step::Looks(0x3FFF)),
+            (0, Step::Says(Phase::Running, true)),
+            (1, Step::Says(Phase::Running, false)),
+            (1, Step::Prewaits),
+            (1, Step::Looks(0x7FFF)),
+            (1, Step::TriesCommit(TryCommit::Pushed)),
+            (1, Step::Says(Phase::Stacked, false)),
+            (0, Step::Says(Phase::Running, true)),
+            (0, Step::Prewaits),
+            (2, Step::Looks(0x4001)),
+            (2, Step::Says(Phase::Running, true)),
+            (2, Step::NotifiesAll),
+            (2, Step::Looks(0x1000_7FFF)),
+            (2, Step::Says(Phase::Running, true)),
+            (0, Step::Commits(Committed::Consumed)),
+            (1, Step::TriesToken(true)),
+            (1, Step::Says(Phase::Running, false)),
+            (1, Step::Prewaits),
+            (1, Step::Looks(0x7FFF)),
+            (1, Step::TriesCommit(TryCommit::Pushed)),
+            (1, Step::Says(Phase::Stacked, false)),
+            (2, Step::Says(Phase::Running, true)),
+            (2, Step::Notifies),
+            (1, Step::TriesToken(true)),
+            (0, Step::Looks(0x3FFF)),
+            (0, Step::Says(Phase::Running, true)),
+            (1, Step::Looks(0x3FFF)),
+            (1, Step::Says(Phase::Running, true)),
+            (2, Step::Looks(0x3FFF)),
+            (2, Step::Says(Phase::Running, true)),
+        ],
+    },
+    // A commit of a seat whose epochs are used up leaves the signal to another's.
+    Sequence {
+        name: "a waiting commit is spent",
+        waiters: 2,
+        notifiers: 1,
+        epoch: LAST_EPOCH,
+        steps: &[
+            (0, Step::Says(Phase::Running, false)),
+            (0, Step::Prewaits),
+            (0, Step::Looks(0x7FFF)),
+            (0, Step::TriesCommit(TryCommit::Pushed)),
+            (0, Step::Says(Phase::Stacked, false)),
+            (2, Step::Says(Phase::Running, false)),
+            (2, Step::Notifies),
+            (0, Step::TriesToken(true)),
+            (0, Step::Says(Phase::Running, false)),
+            (1, Step::Says(Phase::Running, false)),
+            (0, Step::Prewaits),
+            (1, Step::Prewaits),
+            (2, Step::Looks(0xBFFF)),
+            (2, Step::TriesNotify(TryNotify::Signalled)),
+            (0, Step::Commits(Committed::Spent)),
+            (1, Step::Commits(Committed::Consumed)),
+            (0, Step::Looks(0x3FFF)),
+            (0, Step::Says(Phase::Running, true)),
+            (1, Step::Looks(0x3FFF)),
+            (1, Step::Says(Phase::Running, true)),
+            (2, Step::Looks(0x3FFF)),
+            (2, Step::Says(Phase::Running, true)),
+        ],
+    },
+];
+
+#[test]
+fn worked_sequences(rt: HostRuntime) {
+    for sequence in &SEQUENCES {
+        run(&rt, rt.alloc(), sequence);
+    }
 }

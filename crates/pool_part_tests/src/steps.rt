@@ -1,50 +1,30 @@
-//! Steps on a count, each by the seat of a number, and the word that they leave.
-ghost use Rattle.std.specs.Prelude.{◌≡◌, ◌<◌, ◌↔◌, All, IsTrue, length};
-ghost use Rattle.event_count.specs.Limits.{epoch_limit};
-ghost use Rattle.event_count.specs.Seats.{sizes_of, IsSeatOf, IsIdle};
+//! Steps on a count, each by the seat of a number, and what it finds or answers.
+ghost use Rattle.std.specs.Prelude.{◌≡◌, ◌↔◌, [], All, IsTrue, length};
+ghost use Rattle.event_word.specs.declared.phase.Phase.TheVariants.{Pre};
+ghost use Rattle.event_count.specs.Seats.{card_of, sizes_of, IsSeatOf, IsIdle};
 
-use crate::count_moves::prewait;
-use crate::seats::{consume, expect_seat, expect_word, pop, push, signal, take_all, take_token};
+use crate::told::expect;
 use event_count::{
     Committed, EventCount, Phase, Seat, TryCancel, TryCommit, TryNotify, TryNotifyAll,
 };
 use std::alloc::Global;
 use std::process::Abort;
 use std::sync::Wait;
-use std::test::Fail;
 
-/// How many seats a count has, and the epoch of their first pushes.
-#[derive(Clone, Copy)]
-pub(crate) struct Start {
+/// The epoch of each seat's first push, in a count that is made by `new`.
+pub(crate) const FIRST_EPOCH: u32 = 0;
+
+/// The last epoch that a seat has, so that each waiter is pushed once at most.
+pub(crate) const LAST_EPOCH: u32 = 4_194_303;
+
+/// Steps on a new count, each by the seat of its number. The count has so many seats, and this is
+/// the epoch of their first pushes.
+pub(crate) struct Sequence {
+    pub(crate) name: &'static str,
     pub(crate) waiters: u16,
     pub(crate) notifiers: u16,
     pub(crate) epoch: u32,
-}
-
-/// The last epoch that a seat has.
-const LAST_EPOCH: u32 = 4_194_303;
-
-impl Start {
-    pub(crate) fn fresh(waiters: u16, notifiers: u16) -> Start
-        ensures { result.epoch ≡ 0 }
-    {
-        Start {
-            waiters,
-            notifiers,
-            epoch: 0,
-        }
-    }
-
-    /// Each waiter is pushed once at most.
-    pub(crate) fn at_last_epoch(waiters: u16, notifiers: u16) -> Start
-        ensures { result.epoch ≡ LAST_EPOCH }
-    {
-        Start {
-            waiters,
-            notifiers,
-            epoch: LAST_EPOCH,
-        }
-    }
+    pub(crate) steps: &'static [(u16, Step)],
 }
 
 /// What a seat does, and what it is to find or to answer.
@@ -52,31 +32,21 @@ impl Start {
 pub(crate) enum Step {
     /// It says that it is in this phase, whether it has looked, and that it owes nobody.
     Says(Phase, bool),
-    /// It becomes a pre-waiter.
-    Prewaits,
+    /// It says that it owes an unpark.
+    Owes,
     /// It looks, and finds this word.
     Looks(u64),
-    /// The same of a seat that runs.
-    Finds(u64),
-    /// It makes a call that tries once.
+    /// It runs, and becomes a pre-waiter.
+    Prewaits,
+    /// It makes a call that tries once. Where that rests on a look, it has looked.
     TriesCommit(TryCommit),
     TriesCancel(TryCancel),
     TriesNotify(TryNotify),
     TriesNotifyAll(TryNotifyAll),
     TriesToken(bool),
     TriesUnpark(Option<u16>),
-    /// It becomes a pre-waiter, finds this word, and goes onto the stack.
-    Pushes(u64),
-    /// It finds this word, and takes a signal.
-    Consumes(u64),
-    /// It finds this word, and adds a signal.
-    Signals(u64),
-    /// It finds this word, pops this seat and unparks it.
-    Pops(u64, u16),
-    /// It finds this word, and takes the stack.
-    TakesAll(u64),
-    /// It takes its token, and runs.
-    TakesToken,
+    /// It unparks some seat.
+    Unparks,
     /// It makes a call that may wait.
     Commits(Committed),
     Cancels,
@@ -84,144 +54,83 @@ pub(crate) enum Step {
     NotifiesAll,
 }
 
-// A pre-waiter that has looked tries to commit.
-fn try_commit<R: Abort>(rt: &R, count: &EventCount, seat: &mut Seat, number: u32, told: TryCommit)
-    requires of { IsSeatOf count.now seat.old }
-    ensures of { IsSeatOf count.now seat.new }
-{
-    expect_seat(rt, seat, number, Phase::Pre, true);
-    assert_eq!(rt; count.try_commit(seat), told);
-}
-
-// A pre-waiter that has looked tries to cancel.
-fn try_cancel<R: Abort>(rt: &R, count: &EventCount, seat: &mut Seat, number: u32, told: TryCancel)
-    requires of { IsSeatOf count.now seat.old }
-    ensures of { IsSeatOf count.now seat.new }
-{
-    expect_seat(rt, seat, number, Phase::Pre, true);
-    assert_eq!(rt; count.try_cancel(seat), told);
-}
-
-// A seat that runs and has looked tries to notify one.
-fn try_notify<R: Abort>(rt: &R, count: &EventCount, seat: &mut Seat, number: u32, told: TryNotify)
-    requires of { IsSeatOf count.now seat.old }
-    ensures of { IsSeatOf count.now seat.new }
-{
-    expect_seat(rt, seat, number, Phase::Running, true);
-    assert_eq!(rt; count.try_notify(seat), told);
-}
-
-// A seat that runs and has looked tries to notify all.
-fn try_notify_all<R: Abort>(
-    rt: &R,
-    count: &EventCount,
-    seat: &mut Seat,
-    number: u32,
-    told: TryNotifyAll,
-)
-    requires of { IsSeatOf count.now seat.old }
-    ensures of { IsSeatOf count.now seat.new }
-{
-    expect_seat(rt, seat, number, Phase::Running, true);
-    assert_eq!(rt; count.try_notify_all(seat), told);
-}
-
-// A seat on the stack tries to take its token.
-fn try_token<R: Abort>(rt: &R, count: &EventCount, seat: &mut Seat, number: u32, told: bool)
-    requires of { IsSeatOf count.now seat.old }
-    ensures of { IsSeatOf count.now seat.new }
-{
-    expect_seat(rt, seat, number, Phase::Stacked, seat.looked());
-    assert_eq!(rt; count.try_take_token(seat), told);
-}
-
-// A pre-waiter commits.
-fn commit<R: Wait + Abort>(
-    rt: &R,
-    count: &EventCount,
-    seat: &mut Seat,
-    number: u32,
-    told: Committed,
-)
-    requires of { IsSeatOf count.now seat.old }
-    ensures of { IsSeatOf count.now seat.new }
-{
-    expect_seat(rt, seat, number, Phase::Pre, seat.looked());
-    assert_eq!(rt; count.commit(rt, seat), told);
-}
-
-// A pre-waiter cancels.
-fn cancel<R: Wait + Abort>(rt: &R, count: &EventCount, seat: &mut Seat, number: u32)
-    requires of { IsSeatOf count.now seat.old }
-    ensures of { IsSeatOf count.now seat.new }
-{
-    expect_seat(rt, seat, number, Phase::Pre, seat.looked());
-    count.cancel(rt, seat);
-}
-
-// A seat that runs notifies one.
-fn notify<R: Wait + Abort>(rt: &R, count: &EventCount, seat: &mut Seat, number: u32)
-    requires of { IsSeatOf count.now seat.old }
-    ensures of { IsSeatOf count.now seat.new }
-{
-    expect_seat(rt, seat, number, Phase::Running, seat.looked());
-    count.notify(rt, seat);
-}
-
-// A seat that runs notifies all.
-fn notify_all<R: Wait + Abort>(rt: &R, count: &EventCount, seat: &mut Seat, number: u32)
-    requires of { IsSeatOf count.now seat.old }
-    ensures of { IsSeatOf count.now seat.new }
-{
-    expect_seat(rt, seat, number, Phase::Running, seat.looked());
-    count.notify_all(rt, seat);
-}
-
-fn take<R: Wait + Abort>(
+/// Whether the seat may take the step, and finds and answers what the step says.
+pub(crate) fn takes<R: Wait>(
     rt: &R,
     count: &EventCount,
     waiters: u16,
     seat: &mut Seat,
-    number: u32,
     step: Step,
-)
+) -> bool
     requires of { IsSeatOf count.now seat.old }
     requires waiters { (sizes_of count.now).waiters ≡ waiters }
     ensures of { IsSeatOf count.now seat.new }
 {
     match step {
-        Step::Says(phase, looked) => expect_seat(rt, seat, number, phase, looked),
-        Step::Looks(word) => assert_eq!(rt; count.look(seat), word, "seat {number}"),
-        Step::Finds(word) => expect_word(rt, count, seat, number, word),
-        Step::Prewaits => {
-            assert!(rt; number < u32::from(waiters));
-            prewait(rt, count, seat, number);
+        Step::Says(phase, looked) => {
+            (seat.phase(), seat.looked(), seat.owing()) == (phase, looked, false)
         }
-        Step::Pushes(word) => {
-            assert!(rt; number < u32::from(waiters));
-            push(rt, count, seat, number, word);
+        Step::Owes => seat.owing(),
+        Step::Looks(word) => count.look(seat) == word,
+        Step::TriesUnpark(told) => count.try_unpark_next(seat) == told,
+        Step::Unparks => count.try_unpark_next(seat).is_some(),
+        _ if is_idle(seat) => take_running(rt, count, waiters, seat, step),
+        _ if seat.owing() => false,
+        Step::TriesToken(told) if seat.phase() == Phase::Stacked => {
+            count.try_take_token(seat) == told
         }
-        Step::Consumes(word) => {
-            expect_seat(rt, seat, number, Phase::Pre, seat.looked());
-            consume(rt, count, seat, number, word);
+        _ if seat.phase() == Phase::Pre => take_waiting(rt, count, seat, step),
+        _ => false,
+    }
+}
+
+// The same of a seat that runs and owes nobody.
+fn take_running<R: Wait>(
+    rt: &R,
+    count: &EventCount,
+    waiters: u16,
+    seat: &mut Seat,
+    step: Step,
+) -> bool
+    requires of { IsSeatOf count.now seat.old }
+    requires waiters { (sizes_of count.now).waiters ≡ waiters }
+    requires idle { IsIdle seat.old }
+    ensures of { IsSeatOf count.now seat.new }
+{
+    match step {
+        Step::Prewaits if seat.number() < u32::from(waiters) => {
+            count.prewait(seat);
+            true
         }
-        Step::Signals(word) => signal(rt, count, seat, number, word),
-        Step::Pops(word, other) => pop(rt, count, seat, number, word, other),
-        Step::TakesAll(word) => take_all(rt, count, seat, number, word),
-        Step::TakesToken => {
-            expect_seat(rt, seat, number, Phase::Stacked, seat.looked());
-            take_token(rt, count, seat, number);
+        Step::TriesNotify(told) if seat.looked() => count.try_notify(seat) == told,
+        Step::TriesNotifyAll(told) if seat.looked() => count.try_notify_all(seat) == told,
+        Step::Notifies => {
+            count.notify(rt, seat);
+            true
         }
-        Step::TriesCommit(told) => try_commit(rt, count, seat, number, told),
-        Step::TriesCancel(told) => try_cancel(rt, count, seat, number, told),
-        Step::TriesNotify(told) => try_notify(rt, count, seat, number, told),
-        Step::TriesNotifyAll(told) => try_notify_all(rt, count, seat, number, told),
-        Step::TriesToken(told) => try_token(rt, count, seat, number, told),
-        Step::TriesUnpark(told) => assert_eq!(rt; count.try_unpark_next(seat), told),
-        Step::Commits(told) => commit(rt, count, seat, number, told),
-        Step::Cancels => cancel(rt, count, seat, number),
-        Step::Notifies => notify(rt, count, seat, number),
-        Step::NotifiesAll => notify_all(rt, count, seat, number),
+        Step::NotifiesAll => {
+            count.notify_all(rt, seat);
+            true
+        }
+        _ => false,
+    }
+}
+
+// The same of a pre-waiter.
+fn take_waiting<R: Wait>(rt: &R, count: &EventCount, seat: &mut Seat, step: Step) -> bool
+    requires of { IsSeatOf count.now seat.old }
+    requires pre { (card_of seat.old).phase ≡ Pre }
+    ensures of { IsSeatOf count.now seat.new }
+{
+    match step {
+        Step::TriesCommit(told) if seat.looked() => count.try_commit(seat) == told,
+        Step::TriesCancel(told) if seat.looked() => count.try_cancel(seat) == told,
+        Step::Commits(told) => count.commit(rt, seat) == told,
+        Step::Cancels => {
+            count.cancel(rt, seat);
+            true
+        }
+        _ => false,
     }
 }
 
@@ -229,58 +138,43 @@ fn take<R: Wait + Abort>(
 fn take_each<R: Wait + Abort>(
     rt: &R,
     count: &EventCount,
-    waiters: u16,
+    sequence: &Sequence,
     seats: &mut Vec<Seat>,
-    steps: &[(u16, Step)],
 )
     requires ours { All (IsSeatOf count.now) seats.old.items }
-    requires waiters { (sizes_of count.now).waiters ≡ waiters }
+    requires waiters { (sizes_of count.now).waiters ≡ sequence.now.waiters }
     ensures ours { All (IsSeatOf count.now) seats.new.items }
     ensures all { length seats.new.items ≡ length seats.old.items }
 {
-    for (number, step) in steps {
-        let place = usize::from(*number);
-        assert!(rt; place < seats.len());
-        take(
-            rt,
-            count,
-            waiters,
-            &mut seats[place],
-            u32::from(*number),
-            *step,
-        );
+    let mut place: u64 = 0;
+    for (number, step) in sequence.steps {
+        let at = usize::from(*number);
+        assert!(rt; at < seats.len());
+        let seat = &mut seats[at];
+        let is_numbered = seat.number() == u32::from(*number);
+        let is_taken = takes(rt, count, sequence.waiters, seat, *step);
+        expect(rt, is_numbered && is_taken, sequence.name, place);
+        place = place.saturating_add(1);
     }
 }
 
-fn is_idle(seat: &Seat) -> bool
+/// Whether the seat runs and owes nobody an unpark.
+pub(crate) fn is_idle(seat: &Seat) -> bool
     ensures { IsTrue result ↔ IsIdle seat.now }
 {
     seat.phase() == Phase::Running && !seat.owing()
 }
 
-fn are_idle(seats: &[Seat]) -> bool
-    ensures { IsTrue result ↔ All IsIdle seats.now }
-{
-    seats.iter().all(is_idle)
-}
-
-/// The last word of a new count on which these steps were taken, each by the seat of its number.
-pub(crate) fn last_word<R: Wait + Abort>(
-    rt: &R,
-    alloc: Global,
-    start: Start,
-    steps: &[(u16, Step)],
-) -> Result<u64, Fail>
-    requires { start.epoch < epoch_limit }
-{
-    let Start {
-        waiters,
-        notifiers,
-        epoch,
-    } = start;
-    let (count, mut seats) = EventCount::new_at(alloc, waiters, notifiers, epoch)?;
-    assert_eq!(rt; seats.len(), usize::from(waiters) + usize::from(notifiers));
-    take_each(rt, &count, waiters, &mut seats, steps);
-    assert!(rt; are_idle(&seats));
-    Ok(count.close(seats))
+/// Takes the steps, and stops where one finds or answers something else, where a seat is not idle
+/// behind the last, or where the last word is another.
+pub(crate) fn run<R: Wait + Abort>(rt: &R, alloc: Global, sequence: &Sequence) {
+    let (waiters, notifiers) = (sequence.waiters, sequence.notifiers);
+    assert!(rt; sequence.epoch <= LAST_EPOCH);
+    let made = EventCount::new_at(alloc, waiters, notifiers, sequence.epoch);
+    let Ok((count, mut seats)) = made else {
+        panic!(rt; "no memory")
+    };
+    take_each(rt, &count, sequence, &mut seats);
+    assert!(rt; seats.iter().all(is_idle), "{} ends idle", sequence.name);
+    assert_eq!(rt; count.close(seats), 0x3FFF);
 }

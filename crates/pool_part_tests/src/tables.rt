@@ -1,52 +1,60 @@
 //! The tables that a World is a model of: an event count, rows of slots, and a stop word. An event
 //! that the World has taken is taken on them, and then they show the same as the World.
-ghost use Rattle.std.specs.Prelude.{◌≡◌, ◌+◌, All, IfOk, length};
+ghost use Rattle.std.specs.Prelude.{◌≡◌, ◌+◌, All, length};
 ghost use Rattle.event_count.specs.Seats.{sizes_of, IsSeatOf};
 ghost use Rattle.run_queue.specs.SlotSeats.{table_of, rows_id, row_count_of};
 
-use crate::count_moves::{self, Before};
+use crate::count_moves::{self, Before, phase_of};
 use crate::row_moves;
 use crate::sizes::Sizes;
+use crate::steps::{self, Step};
 use event_count::{EventCount, Phase, Seat};
 use event_word::{Event, World, unpack};
 use run_queue::{SlotRows, SlotSeat};
 use std::alloc::Global;
 use std::process::Abort;
 use std::sync::Wait;
-use std::test::Fail;
 
-/// The tables, and by actor the seats at which they are used. The first workers own the rows.
+/// The tables.
 #[derive(Drop)]
 pub(crate) struct Tables {
     pub(crate) sizes: Sizes,
     pub(crate) count: EventCount,
-    pub(crate) seats: Vec<Seat>,
     pub(crate) rows: SlotRows<u64>,
-    pub(crate) row_seats: Vec<SlotSeat<u64>>,
+}
+
+/// By actor the seats at which the tables are used. The first workers own the rows.
+#[derive(Drop)]
+pub(crate) struct Seats {
+    pub(crate) of_count: Vec<Seat>,
+    pub(crate) of_rows: Vec<SlotSeat<u64>>,
     /// The pool's own stop word is private to it, and this number stands in its place.
     pub(crate) stop: u64,
 }
 
 /// Tables on which nothing was done.
-pub(crate) fn open(alloc: Global, sizes: Sizes) -> Result<Tables, Fail>
-    ensures sizes { IfOk result (λ t. t.sizes ≡ sizes) }
-    ensures seats { IfOk result (λ t. All (IsSeatOf t.count) t.seats.items) }
-    ensures waiters { IfOk result (λ t. (sizes_of t.count).waiters ≡ sizes.workers) }
-    ensures row_seats { IfOk result (λ t.
-        All (λ s. table_of s ≡ rows_id t.rows) t.row_seats.items) }
-    ensures rows { IfOk result (λ t. row_count_of t.rows ≡ sizes.rows) }
+pub(crate) fn open<R: Abort>(rt: &R, alloc: Global, sizes: Sizes) -> (Tables, Seats)
+    ensures sizes { result.0.sizes ≡ sizes }
+    ensures waiters { (sizes_of result.0.count).waiters ≡ sizes.workers }
+    ensures rows { row_count_of result.0.rows ≡ sizes.rows }
+    ensures of_count { All (IsSeatOf result.0.count) result.1.of_count.items }
+    ensures of_rows { All (λ s. table_of s ≡ rows_id result.0.rows) result.1.of_rows.items }
 {
     let actors = sizes.workers.saturating_add(sizes.notifiers);
-    let (count, seats) = EventCount::new(alloc, sizes.workers, sizes.notifiers)?;
-    let (rows, row_seats) = SlotRows::open(alloc, sizes.rows, actors.saturating_sub(sizes.rows))?;
-    Ok(Tables {
-        sizes,
-        count,
-        seats,
-        rows,
-        row_seats,
+    let Ok((count, of_count)) = EventCount::new(alloc, sizes.workers, sizes.notifiers) else {
+        panic!(rt; "no count")
+    };
+    let made = SlotRows::open(alloc, sizes.rows, actors.saturating_sub(sizes.rows));
+    let Ok((rows, of_rows)) = made else {
+        panic!(rt; "no rows")
+    };
+    let tables = Tables { sizes, count, rows };
+    let seats = Seats {
+        of_count,
+        of_rows,
         stop: 0,
-    })
+    };
+    (tables, seats)
 }
 
 fn actor_of(event: Event) -> u32 {
@@ -67,110 +75,101 @@ fn actor_of(event: Event) -> u32 {
     }
 }
 
-/// Takes an event that the World has just taken.
+/// Takes an event that the World has just taken, and stops where the tables refuse it or show
+/// something else than the World then.
 pub(crate) fn take<R: Wait + Abort>(
     rt: &R,
-    tables: &mut Tables,
+    tables: &Tables,
+    seats: &mut Seats,
     world: &World,
     before: Before,
     event: Event,
 )
-    requires seats { All (IsSeatOf tables.old.count) tables.old.seats.items }
-    requires waiters { (sizes_of tables.old.count).waiters ≡ tables.old.sizes.workers }
-    requires row_seats { All (λ s. table_of s ≡ rows_id tables.old.rows) tables.old.row_seats.items }
-    requires rows { row_count_of tables.old.rows ≡ tables.old.sizes.rows }
-    requires workers { length world.now.phases ≡ tables.old.sizes.workers }
+    requires waiters { (sizes_of tables.now.count).waiters ≡ tables.now.sizes.workers }
+    requires rows { row_count_of tables.now.rows ≡ tables.now.sizes.rows }
+    requires of_count { All (IsSeatOf tables.now.count) seats.old.of_count.items }
+    requires of_rows { All (λ s. table_of s ≡ rows_id tables.now.rows) seats.old.of_rows.items }
+    requires workers { length world.now.phases ≡ tables.now.sizes.workers }
     requires actors { length world.now.owed
-        ≡ tables.old.sizes.workers + tables.old.sizes.notifiers }
-    ensures sizes { tables.new.sizes ≡ tables.old.sizes }
-    ensures seats { All (IsSeatOf tables.new.count) tables.new.seats.items }
-    ensures waiters { (sizes_of tables.new.count).waiters ≡ tables.new.sizes.workers }
-    ensures row_seats { All (λ s. table_of s ≡ rows_id tables.new.rows) tables.new.row_seats.items }
-    ensures rows { row_count_of tables.new.rows ≡ tables.new.sizes.rows }
+        ≡ tables.now.sizes.workers + tables.now.sizes.notifiers }
+    requires lengths { length world.now.lengths ≡ tables.now.sizes.rows }
+    ensures of_count { All (IsSeatOf tables.now.count) seats.new.of_count.items }
+    ensures of_rows { All (λ s. table_of s ≡ rows_id tables.now.rows) seats.new.of_rows.items }
+{
+    let (sizes, actor) = (tables.sizes, actor_of(event));
+    let place = actor as usize;
+    assert!(rt; place < seats.of_count.len() && place < seats.of_rows.len());
+    let (seat, count) = (&mut seats.of_count[place], &tables.count);
+    let by_count = count_moves::takes(rt, count, seat, sizes, world, before, actor, event);
+    let by_rows = row_moves::takes(
+        rt,
+        &tables.rows,
+        &mut seats.of_rows[place],
+        sizes.rows,
+        event,
+    );
+    let was_stopped = seats.stop != 0;
+    if matches!(event, Event::Stop { .. }) {
+        seats.stop = 1;
+    }
+    let by_stop = !was_stopped || !matches!(event, Event::PassFlag { .. });
+    assert!(rt; by_count && by_rows && by_stop, "{event:?}");
+    expect_shown(rt, tables, seats, world);
+}
+
+/// Whether an actor finds something that keeps it from this event.
+pub(crate) fn refuses<R: Abort>(rt: &R, tables: &Tables, seats: &mut Seats, event: Event) -> bool
+    requires rows { row_count_of tables.now.rows ≡ tables.now.sizes.rows }
+    requires of_rows { All (λ s. table_of s ≡ rows_id tables.now.rows) seats.old.of_rows.items }
+    ensures of_count { seats.new.of_count ≡ seats.old.of_count }
+    ensures of_rows { All (λ s. table_of s ≡ rows_id tables.now.rows) seats.new.of_rows.items }
 {
     let place = actor_of(event) as usize;
-    assert!(rt; place < tables.seats.len() && place < tables.row_seats.len());
-    let sizes = tables.sizes;
-    let seat = &mut tables.seats[place];
-    count_moves::take(rt, &tables.count, seat, sizes, world, before, event);
-    row_moves::take(rt, &tables.rows, &mut tables.row_seats[place], sizes, event);
+    assert!(rt; place < seats.of_count.len() && place < seats.of_rows.len());
     match event {
-        Event::PassFlag { .. } => assert_eq!(rt; tables.stop, 0),
-        Event::Stop { .. } => tables.stop = 1,
-        _ => {}
+        Event::Pass { row, .. } if row < tables.sizes.rows => {
+            tables.rows.length(&mut seats.of_rows[place], row) != 0
+        }
+        Event::PassFlag { .. } => seats.stop != 0,
+        _ => seats.of_count[place].phase() != Phase::Running,
     }
 }
 
-/// Stops where an actor finds nothing that keeps it from this event.
-pub(crate) fn expect_refused<R: Abort>(rt: &R, tables: &mut Tables, event: Event)
-    requires row_seats { All (λ s. table_of s ≡ rows_id tables.old.rows) tables.old.row_seats.items }
-    requires rows { row_count_of tables.old.rows ≡ tables.old.sizes.rows }
-    ensures sizes { tables.new.sizes ≡ tables.old.sizes }
-    ensures count { tables.new.count ≡ tables.old.count }
-    ensures seats { tables.new.seats ≡ tables.old.seats }
-    ensures row_seats { All (λ s. table_of s ≡ rows_id tables.new.rows) tables.new.row_seats.items }
-    ensures rows { row_count_of tables.new.rows ≡ tables.new.sizes.rows }
-{
-    let place = actor_of(event) as usize;
-    assert!(rt; place < tables.seats.len() && place < tables.row_seats.len());
-    let is_kept = match event {
-        Event::Pass { row, .. } => {
-            assert!(rt; row < tables.sizes.rows);
-            tables.rows.length(&mut tables.row_seats[place], row) != 0
-        }
-        Event::PassFlag { .. } => tables.stop != 0,
-        _ => tables.seats[place].phase() != Phase::Running,
-    };
-    assert!(rt; is_kept, "{event:?} is possible");
-}
-
-/// An actor looks.
-pub(crate) fn look<R: Abort>(rt: &R, tables: &mut Tables, actor: u32)
-    requires seats { All (IsSeatOf tables.old.count) tables.old.seats.items }
-    ensures sizes { tables.new.sizes ≡ tables.old.sizes }
-    ensures count { tables.new.count ≡ tables.old.count }
-    ensures seats { All (IsSeatOf tables.new.count) tables.new.seats.items }
-    ensures rows { tables.new.rows ≡ tables.old.rows }
-    ensures row_seats { tables.new.row_seats ≡ tables.old.row_seats }
+/// Whether an actor's seat takes a step of the count that is no event.
+pub(crate) fn takes<R: Wait + Abort>(
+    rt: &R,
+    tables: &Tables,
+    seats: &mut Seats,
+    actor: u32,
+    step: Step,
+) -> bool
+    requires waiters { (sizes_of tables.now.count).waiters ≡ tables.now.sizes.workers }
+    requires of_count { All (IsSeatOf tables.now.count) seats.old.of_count.items }
+    ensures of_count { All (IsSeatOf tables.now.count) seats.new.of_count.items }
+    ensures of_rows { seats.new.of_rows ≡ seats.old.of_rows }
 {
     let place = actor as usize;
-    assert!(rt; place < tables.seats.len());
-    tables.count.look(&mut tables.seats[place]);
+    assert!(rt; place < seats.of_count.len());
+    let seat = &mut seats.of_count[place];
+    steps::takes(rt, &tables.count, tables.sizes.workers, seat, step)
 }
 
-/// An actor tries what it has looked for, and another step came between.
-pub(crate) fn notify_late<R: Abort>(rt: &R, tables: &mut Tables, actor: u32)
-    requires seats { All (IsSeatOf tables.old.count) tables.old.seats.items }
-    ensures sizes { tables.new.sizes ≡ tables.old.sizes }
-    ensures count { tables.new.count ≡ tables.old.count }
-    ensures seats { All (IsSeatOf tables.new.count) tables.new.seats.items }
-    ensures rows { tables.new.rows ≡ tables.old.rows }
-    ensures row_seats { tables.new.row_seats ≡ tables.old.row_seats }
-{
-    let place = actor as usize;
-    assert!(rt; place < tables.seats.len());
-    count_moves::notify_late(rt, &tables.count, &mut tables.seats[place]);
-}
-
-/// Stops where word, lengths and seats aren't those that the World shows. The last actor looks.
-pub(crate) fn expect_shown<R: Abort>(rt: &R, tables: &mut Tables, world: &World)
-    requires seats { All (IsSeatOf tables.old.count) tables.old.seats.items }
-    requires row_seats { All (λ s. table_of s ≡ rows_id tables.old.rows) tables.old.row_seats.items }
-    requires rows { row_count_of tables.old.rows ≡ tables.old.sizes.rows }
-    requires workers { length world.now.phases ≡ tables.old.sizes.workers }
+// Stops where word, lengths and seats aren't those that the World shows. The last actor looks.
+fn expect_shown<R: Abort>(rt: &R, tables: &Tables, seats: &mut Seats, world: &World)
+    requires rows { row_count_of tables.now.rows ≡ tables.now.sizes.rows }
+    requires of_count { All (IsSeatOf tables.now.count) seats.old.of_count.items }
+    requires of_rows { All (λ s. table_of s ≡ rows_id tables.now.rows) seats.old.of_rows.items }
+    requires workers { length world.now.phases ≡ tables.now.sizes.workers }
     requires actors { length world.now.owed
-        ≡ tables.old.sizes.workers + tables.old.sizes.notifiers }
-    requires lengths { length world.now.lengths ≡ tables.old.sizes.rows }
-    ensures sizes { tables.new.sizes ≡ tables.old.sizes }
-    ensures seats { All (IsSeatOf tables.new.count) tables.new.seats.items }
-    ensures waiters { (sizes_of tables.new.count).waiters ≡ (sizes_of tables.old.count).waiters }
-    ensures row_seats { All (λ s. table_of s ≡ rows_id tables.new.rows) tables.new.row_seats.items }
-    ensures rows { row_count_of tables.new.rows ≡ row_count_of tables.old.rows }
+        ≡ tables.now.sizes.workers + tables.now.sizes.notifiers }
+    requires lengths { length world.now.lengths ≡ tables.now.sizes.rows }
+    ensures of_count { All (IsSeatOf tables.now.count) seats.new.of_count.items }
+    ensures of_rows { All (λ s. table_of s ≡ rows_id tables.now.rows) seats.new.of_rows.items }
 {
-    expect_phases(rt, &tables.seats, tables.sizes, world);
-    let last = tables.seats.len().saturating_sub(1);
-    assert!(rt; last < tables.seats.len() && last < tables.row_seats.len());
-    let fields = unpack(tables.count.look(&mut tables.seats[last]));
+    expect_phases(rt, &seats.of_count, tables.sizes, world);
+    let last = seats.of_count.len().saturating_sub(1);
+    assert!(rt; last < seats.of_count.len() && last < seats.of_rows.len());
+    let fields = unpack(tables.count.look(&mut seats.of_count[last]));
     let top = world.stack().first().copied().unwrap_or(16_383);
     let word = (
         fields.top,
@@ -178,22 +177,8 @@ pub(crate) fn expect_shown<R: Abort>(rt: &R, tables: &mut Tables, world: &World)
         u64::from(fields.signals),
     );
     assert_eq!(rt; word, (top, world.pre().len(), world.signals()));
-    let seat = &mut tables.row_seats[last];
+    let seat = &mut seats.of_rows[last];
     expect_lengths(rt, &tables.rows, seat, tables.sizes.rows, world);
-}
-
-// The phase of the seat at which an actor uses the tables. A worker that has ended uses none, and a
-// notifier always runs.
-fn phase_of(world: &World, sizes: Sizes, actor: u32) -> Phase
-    requires workers { length world.now.phases ≡ sizes.workers }
-{
-    if actor >= u32::from(sizes.workers) {
-        return Phase::Running;
-    }
-    match world.phase(actor as u16) {
-        Phase::Ended => Phase::Running,
-        phase => phase,
-    }
 }
 
 // Each seat's phase, and whether it owes an unpark.
@@ -204,12 +189,9 @@ fn expect_phases<R: Abort>(rt: &R, seats: &Vec<Seat>, sizes: Sizes, world: &Worl
     for seat in seats {
         let number = seat.number();
         assert!(rt; number < u32::from(sizes.workers) + u32::from(sizes.notifiers));
-        let wanted = (
-            number,
-            phase_of(world, sizes, number),
-            world.owed(number, 0).is_some(),
-        );
-        assert_eq!(rt; (number, seat.phase(), seat.owing()), wanted);
+        let is_phase = seat.phase() == phase_of(world, sizes, number);
+        let owes = world.owed(number, 0).is_some();
+        assert!(rt; is_phase && seat.owing() == owes, "the seat of {number}");
     }
 }
 
@@ -226,10 +208,7 @@ fn expect_lengths<R: Abort>(
     ensures ours { table_of seat.new ≡ table_of seat.old }
 {
     for row in 0..count {
-        assert_eq!(rt;
-            rows.length(seat, row),
-            world.length(row),
-            "the length of row {row}"
-        );
+        let is_length = rows.length(seat, row) == world.length(row);
+        assert!(rt; is_length, "the length of row {row}");
     }
 }

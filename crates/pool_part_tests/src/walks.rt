@@ -1,37 +1,85 @@
 //! Walks by worked words.
 
-use std::test::Fail;
+use std::alloc::Global;
+use std::process::Abort;
 use steal_walk::{Coprimes, Walk};
 
-#[test]
-fn visits_the_rows_that_a_word_picks(rt: HostRuntime) -> Result<(), Fail> {
-    let half = 1 << 31;
-    let table: [(u32, u32, u32, &[u32]); 5] = [
-        (half, 0, 6, &[3, 2, 1, 0, 5, 4]),
-        (0, 0, 6, &[0, 1, 2, 3, 4, 5]),
-        (u32::MAX, 10, 16, &[15, 14, 13, 12, 11, 10]),
-        (half, 2, 7, &[4, 2, 5, 3, 6]),
-        (half, 0, 1, &[0]),
-    ];
-    for (word, start, limit, rows) in table {
-        assert!(rt; start < limit);
-        let coprimes = Coprimes::new(rt.alloc(), limit - start)?;
-        let walk = Walk::of(word, start, limit, &coprimes);
-        let visited = walk.collect::<Vec<u32>>(rt.alloc())?;
-        assert_eq!(rt; visited.as_slice(), rows, "{word} from {start} to {limit}");
+/// A word, the rows that a walk by it goes over, and those rows in its order.
+struct Course {
+    word: u32,
+    start: u32,
+    limit: u32,
+    rows: &'static [u32],
+}
+
+const HALF: u32 = 1 << 31;
+
+const COURSES: [Course; 6] = [
+    Course {
+        word: HALF,
+        start: 0,
+        limit: 6,
+        rows: &[3, 2, 1, 0, 5, 4],
+    },
+    Course {
+        word: 0,
+        start: 0,
+        limit: 6,
+        rows: &[0, 1, 2, 3, 4, 5],
+    },
+    Course {
+        word: u32::MAX,
+        start: 10,
+        limit: 16,
+        rows: &[15, 14, 13, 12, 11, 10],
+    },
+    Course {
+        word: HALF,
+        start: 2,
+        limit: 7,
+        rows: &[4, 2, 5, 3, 6],
+    },
+    Course {
+        word: HALF,
+        start: 0,
+        limit: 1,
+        rows: &[0],
+    },
+    Course {
+        word: 0,
+        start: u32::MAX - 2,
+        limit: u32::MAX,
+        rows: &[u32::MAX - 2, u32::MAX - 1],
+    },
+];
+
+// Whether a walk tells these rows, before each how many are left, and then none any more.
+fn goes<R: Abort>(rt: &R, alloc: Global, course: &Course) -> bool {
+    let Course {
+        word,
+        start,
+        limit,
+        ..
+    } = *course;
+    assert!(rt; start < limit);
+    let Ok(coprimes) = Coprimes::new(alloc, limit - start) else {
+        panic!(rt; "no coprimes")
+    };
+    let mut walk = Walk::of(word, start, limit, &coprimes);
+    let mut is_right = true;
+    let mut left = course.rows.len();
+    for row in course.rows {
+        is_right = is_right && walk.size_hint() == (left, Some(left)) && walk.len() == left;
+        is_right = is_right && walk.next() == Some(*row);
+        left = left.saturating_sub(1);
     }
-    Ok(())
+    is_right && walk.len() == 0 && walk.next().is_none() && walk.next().is_none()
 }
 
 #[test]
-fn counts_the_rows_that_are_left(rt: HostRuntime) -> Result<(), Fail> {
-    let coprimes = Coprimes::new(rt.alloc(), 2)?;
-    let mut walk = Walk::of(0, u32::MAX - 2, u32::MAX, &coprimes);
-    let hint = walk.size_hint();
-    let visited = [(walk.next(), walk.len()), (walk.next(), walk.len())];
-    let wanted = [(Some(u32::MAX - 2), 1), (Some(u32::MAX - 1), 0)];
-    let past_the_end = [walk.next(), walk.next()];
-    assert_eq!(rt; (hint, past_the_end), ((2, Some(2)), [None; 2]));
-    assert_eq!(rt; visited, wanted);
-    Ok(())
+fn worked_walks(rt: HostRuntime) {
+    for course in &COURSES {
+        let (word, start) = (course.word, course.start);
+        assert!(rt; goes(&rt, rt.alloc(), course), "{word} from {start}");
+    }
 }

@@ -5,60 +5,135 @@ use event_word::{
     after_notify_all, after_pop, after_prewait, pack, unpack,
 };
 
-#[test]
-fn prewait_notify_consume(rt: HostRuntime) {
-    let found = (
-        after_prewait(0x3FFF),
-        after_notify(0x7FFF),
-        after_commit(0x1000_7FFF, 0, 0),
-    );
-    let wanted = (
+/// What is made of a word.
+#[derive(Clone, Copy)]
+enum Step {
+    /// It has these fields, and they make the word.
+    Unpacks(Fields),
+    /// It becomes this word.
+    Prewaits(u64),
+    Cancels(u64),
+    /// By seat 0, at this epoch.
+    Commits(u32, AfterCommit),
+    Notifies(AfterNotify),
+    NotifiesAll(AfterNotifyAll),
+    /// By the top's next word, to this word.
+    Pops(u64, u64),
+}
+
+/// An epoch is below this.
+const EPOCHS: u32 = 4_194_304;
+
+const NONE_WAITING: u64 = 0x3FFF;
+
+const PUSHED_AT_1: AfterCommit = AfterCommit::Pushed {
+    word: 0x400_0000_0000,
+    next: 0x3FFF,
+};
+
+const WORDS: [(&str, u64, Step); 15] = [
+    ("the first prewait", NONE_WAITING, Step::Prewaits(0x7FFF)),
+    (
+        "a signal",
         0x7FFF,
-        AfterNotify::Signalled(0x1000_7FFF),
-        AfterCommit::Consumed(0x3FFF),
-    );
-    assert_eq!(rt; found, wanted);
+        Step::Notifies(AfterNotify::Signalled(0x1000_7FFF)),
+    ),
+    (
+        "a commit with a signal",
+        0x1000_7FFF,
+        Step::Commits(0, AfterCommit::Consumed(0x3FFF)),
+    ),
+    (
+        "a push",
+        0x7FFF,
+        Step::Commits(
+            0,
+            AfterCommit::Pushed {
+                word: 0,
+                next: 0x3FFF,
+            },
+        ),
+    ),
+    ("a push at epoch 1", 0x7FFF, Step::Commits(1, PUSHED_AT_1)),
+    ("a top", 0, Step::Notifies(AfterNotify::Pop(0))),
+    ("a pop", 0, Step::Pops(NONE_WAITING, NONE_WAITING)),
+    (
+        "a top, two pre-waiters and an epoch",
+        0xC00_0000_8001,
+        Step::Unpacks(Fields {
+            top: 1,
+            pre: 2,
+            signals: 0,
+            epoch: 3,
+        }),
+    ),
+    (
+        "a notification of all of these",
+        0xC00_0000_8001,
+        Step::NotifiesAll(AfterNotifyAll::Taken {
+            word: 0x2000_BFFF,
+            top: 1,
+        }),
+    ),
+    (
+        "a notification of nobody",
+        NONE_WAITING,
+        Step::NotifiesAll(AfterNotifyAll::Nothing),
+    ),
+    // Two pre-waiters and one signal, then none of either.
+    (
+        "two pre-waiters and a signal",
+        0x1000_BFFF,
+        Step::Unpacks(Fields {
+            top: 16_383,
+            pre: 2,
+            signals: 1,
+            epoch: 0,
+        }),
+    ),
+    ("a cancel", 0x1000_BFFF, Step::Cancels(0x1000_7FFF)),
+    (
+        "a pre-waiter and a signal",
+        0x1000_7FFF,
+        Step::Unpacks(Fields {
+            top: 16_383,
+            pre: 1,
+            signals: 1,
+            epoch: 0,
+        }),
+    ),
+    ("a second cancel", 0x1000_7FFF, Step::Cancels(NONE_WAITING)),
+    (
+        "nobody",
+        NONE_WAITING,
+        Step::Unpacks(Fields {
+            top: 16_383,
+            pre: 0,
+            signals: 0,
+            epoch: 0,
+        }),
+    ),
+];
+
+// Whether the step may be taken, and makes of the word what it says.
+fn is_right(word: u64, step: Step) -> bool {
+    let fields = unpack(word);
+    match step {
+        Step::Unpacks(told) => fields == told && pack(fields) == word,
+        Step::Prewaits(told) => fields.pre < 16_383 && after_prewait(word) == told,
+        Step::Pops(next, told) => fields.top != 16_383 && after_pop(word, next) == told,
+        _ if fields.signals > fields.pre => false,
+        Step::Notifies(told) => after_notify(word) == told,
+        Step::NotifiesAll(told) => after_notify_all(word) == told,
+        _ if fields.pre == 0 => false,
+        Step::Cancels(told) => after_cancel(word) == told,
+        Step::Commits(epoch, told) => epoch < EPOCHS && after_commit(word, 0, epoch) == told,
+    }
 }
 
 #[test]
-fn push_and_pop_words(rt: HostRuntime) {
-    let pushed = [after_commit(0x7FFF, 0, 0), after_commit(0x7FFF, 0, 1)];
-    let wanted = [0, 0x400_0000_0000].map(|word| AfterCommit::Pushed { word, next: 0x3FFF });
-    assert_eq!(rt; pushed, wanted);
-    let popped = (after_notify(0), after_pop(0, 0x3FFF));
-    assert_eq!(rt; popped, (AfterNotify::Pop(0), 0x3FFF));
-}
-
-#[test]
-fn pack_and_notify_all_words(rt: HostRuntime) {
-    let fields = Fields {
-        top: 1,
-        pre: 2,
-        signals: 0,
-        epoch: 3,
-    };
-    let word = pack(fields);
-    assert_eq!(rt; (word, unpack(word)), (0xC00_0000_8001, fields));
-    let taken = AfterNotifyAll::Taken {
-        word: 0x2000_BFFF,
-        top: 1,
-    };
-    let answers = [after_notify_all(word), after_notify_all(0x3FFF)];
-    assert_eq!(rt; answers, [taken, AfterNotifyAll::Nothing]);
-}
-
-// Two pre-waiters and one signal, then none of either.
-#[test]
-fn two_cancels(rt: HostRuntime) {
-    let word = pack(Fields {
-        top: 16_383,
-        pre: 2,
-        signals: 1,
-        epoch: 0,
-    });
-    let once = after_cancel(word);
-    let twice = after_cancel(0x1000_7FFF);
-    assert_eq!(rt; [once, twice], [0x1000_7FFF, 0x3FFF]);
-    let counts = [once, twice].map(|word| (unpack(word).pre, unpack(word).signals));
-    assert_eq!(rt; counts, [(1, 1), (0, 0)]);
+fn worked_words(rt: HostRuntime) {
+    for (name, word, step) in WORDS {
+        assert!(rt; is_right(word, step), "{name}");
+    }
 }

@@ -1,125 +1,322 @@
 //! Worked runs of a World.
-ghost use Rattle.std.specs.Prelude.{◌≡◌, IfOk, length};
+ghost use Rattle.std.specs.Prelude.{◌≡◌, ◌+◌, length};
+ghost use Rattle.event_word.specs.Play.{SameSizes};
 
+use crate::sizes::Sizes;
+use crate::told::expect;
 use event_word::{Event, Phase, World};
-use std::alloc::{AllocError, Global};
-use std::test::Fail;
+use std::alloc::Global;
+use std::process::Abort;
 
-#[test]
-fn consumes_a_signal(rt: HostRuntime) -> Result<(), Fail> {
-    let mut world = World::new(rt.alloc(), 1, 1, 0)?;
-    let events = [
-        Event::Prewait { seat: 0 },
-        Event::PassFlag { seat: 0 },
-        Event::Notify { actor: 1 },
-        Event::Commit { seat: 0 },
-    ];
-    let taken = world.play(&events);
-    let after = (world.phase(0), world.signals(), world.pre().len());
-    let again = world.play(&[Event::Commit { seat: 0 }]);
-    assert_eq!(rt; (taken, after, again), (4, (Phase::Running, 0, 0), 0));
-    Ok(())
+/// What a World is asked to do or to tell, and its answer.
+#[derive(Clone, Copy)]
+enum Ask {
+    /// To play these events, so many times over, of which so many are possible.
+    Plays(u32, &'static [Event], u64),
+    /// To take a step, and whether it is possible.
+    Steps(Event, bool),
+    Phase(u16, Phase),
+    Token(u16, bool),
+    /// The seat that an actor owes at a place.
+    Owed(u32, usize, Option<u16>),
+    Length(u16, u64),
+    Pre(&'static [u16]),
+    Stack(&'static [u16]),
+    Signals(u64),
+    Stop(u8),
 }
 
-// Two workers and one notifier, whose number is 2: each event where it may happen and where not.
-#[test]
-fn each_event_possible_and_not(rt: HostRuntime) -> Result<(), Fail> {
-    let mut world = World::new(rt.alloc(), 2, 1, 0)?;
-    let story = [
-        (Event::Prewait { seat: 0 }, true),
-        (Event::Prewait { seat: 0 }, false),
-        (Event::Prewait { seat: 2 }, false),
-        (Event::Cancel { seat: 1 }, false),
-        (Event::Cancel { seat: 0 }, true),
-        (Event::Prewait { seat: 0 }, true),
-        (Event::Commit { seat: 0 }, false),
-        (Event::PassFlag { seat: 1 }, false),
-        (Event::PassFlag { seat: 0 }, true),
-        (Event::Commit { seat: 0 }, true),
-        (Event::Notify { actor: 3 }, false),
-        (Event::Notify { actor: 2 }, true),
-        (Event::Notify { actor: 2 }, false),
-        (Event::NotifyAll { actor: 2 }, false),
-        (Event::Wake { seat: 0 }, false),
-        (Event::Unpark { actor: 0 }, false),
-        (Event::Unpark { actor: 2 }, true),
-        (Event::Unpark { actor: 2 }, false),
-        (Event::Wake { seat: 0 }, true),
-        (Event::NotifyAll { actor: 0 }, true),
-        (Event::Publish { actor: 2, row: 0 }, false),
-        (Event::Pass { seat: 0, row: 0 }, false),
-        (Event::Take { actor: 2, row: 0 }, false),
-        (Event::End { seat: 0 }, false),
-        (Event::Stop { actor: 2 }, true),
-        (Event::Stop { actor: 2 }, false),
-        (Event::End { seat: 2 }, false),
-        (Event::End { seat: 0 }, true),
-        (Event::End { seat: 0 }, false),
-        (Event::Notify { actor: 0 }, false),
-    ];
-    let mut wrong = None;
-    for (place, (event, possible)) in story.into_iter().enumerate() {
-        if world.step(event) != possible {
-            wrong = wrong.or(Some(place));
-        }
-    }
-    assert_eq!(rt; (wrong, world.stop()), (None, 1));
-    Ok(())
+/// What an opening World of these sizes is asked in turn.
+struct Run {
+    name: &'static str,
+    sizes: Sizes,
+    asks: &'static [Ask],
 }
 
-// Seats 0 and 2 go onto the stack, and seat 1 is a pre-waiter. The notifier's number is 3. How many
-// of the seven events were taken is told too.
-fn two_asleep(alloc: Global) -> Result<(World, u64), AllocError>
-    ensures seats { IfOk result (λ made. length made.0.phases ≡ 3) }
-    ensures actors { IfOk result (λ made. length made.0.owed ≡ 4) }
+/// Worker 0, notifier 1 and row 0.
+const ONE_ROW: Sizes = Sizes {
+    workers: 1,
+    notifiers: 1,
+    rows: 1,
+};
+
+/// Seats 0 and 2 of three go onto the stack, and seat 1 is a pre-waiter.
+const TWO_ASLEEP: [Event; 7] = [
+    Event::Prewait { seat: 0 },
+    Event::PassFlag { seat: 0 },
+    Event::Commit { seat: 0 },
+    Event::Prewait { seat: 2 },
+    Event::PassFlag { seat: 2 },
+    Event::Commit { seat: 2 },
+    Event::Prewait { seat: 1 },
+];
+
+const PUBLISHED: [Event; 2] = [
+    Event::Publish { actor: 1, row: 0 },
+    Event::Notify { actor: 1 },
+];
+
+const RUNS: [Run; 10] = [
+    Run {
+        name: "consumes a signal",
+        sizes: Sizes {
+            workers: 1,
+            notifiers: 1,
+            rows: 0,
+        },
+        asks: &[
+            Ask::Plays(
+                1,
+                &[
+                    Event::Prewait { seat: 0 },
+                    Event::PassFlag { seat: 0 },
+                    Event::Notify { actor: 1 },
+                    Event::Commit { seat: 0 },
+                ],
+                4,
+            ),
+            Ask::Phase(0, Phase::Running),
+            Ask::Signals(0),
+            Ask::Pre(&[]),
+            Ask::Plays(1, &[Event::Commit { seat: 0 }], 0),
+        ],
+    },
+    // The notifier's number is 2.
+    Run {
+        name: "each event possible and not",
+        sizes: Sizes {
+            workers: 2,
+            notifiers: 1,
+            rows: 0,
+        },
+        asks: &[
+            Ask::Steps(Event::Prewait { seat: 0 }, true),
+            Ask::Steps(Event::Prewait { seat: 0 }, false),
+            Ask::Steps(Event::Prewait { seat: 2 }, false),
+            Ask::Steps(Event::Cancel { seat: 1 }, false),
+            Ask::Steps(Event::Cancel { seat: 0 }, true),
+            Ask::Steps(Event::Prewait { seat: 0 }, true),
+            Ask::Steps(Event::Commit { seat: 0 }, false),
+            Ask::Steps(Event::PassFlag { seat: 1 }, false),
+            Ask::Steps(Event::PassFlag { seat: 0 }, true),
+            Ask::Steps(Event::Commit { seat: 0 }, true),
+            Ask::Steps(Event::Notify { actor: 3 }, false),
+            Ask::Steps(Event::Notify { actor: 2 }, true),
+            Ask::Steps(Event::Notify { actor: 2 }, false),
+            Ask::Steps(Event::NotifyAll { actor: 2 }, false),
+            Ask::Steps(Event::Wake { seat: 0 }, false),
+            Ask::Steps(Event::Unpark { actor: 0 }, false),
+            Ask::Steps(Event::Unpark { actor: 2 }, true),
+            Ask::Steps(Event::Unpark { actor: 2 }, false),
+            Ask::Steps(Event::Wake { seat: 0 }, true),
+            Ask::Steps(Event::NotifyAll { actor: 0 }, true),
+            Ask::Steps(Event::Publish { actor: 2, row: 0 }, false),
+            Ask::Steps(Event::Pass { seat: 0, row: 0 }, false),
+            Ask::Steps(Event::Take { actor: 2, row: 0 }, false),
+            Ask::Steps(Event::End { seat: 0 }, false),
+            Ask::Steps(Event::Stop { actor: 2 }, true),
+            Ask::Steps(Event::Stop { actor: 2 }, false),
+            Ask::Steps(Event::End { seat: 2 }, false),
+            Ask::Steps(Event::End { seat: 0 }, true),
+            Ask::Steps(Event::End { seat: 0 }, false),
+            Ask::Steps(Event::Notify { actor: 0 }, false),
+            Ask::Stop(1),
+        ],
+    },
+    Run {
+        name: "readers tell the lists",
+        sizes: Sizes {
+            workers: 3,
+            notifiers: 1,
+            rows: 0,
+        },
+        asks: &[
+            Ask::Plays(1, &TWO_ASLEEP, 7),
+            Ask::Stack(&[2, 0]),
+            Ask::Pre(&[1]),
+            Ask::Phase(0, Phase::Stacked),
+            Ask::Phase(1, Phase::Pre),
+            Ask::Steps(Event::NotifyAll { actor: 3 }, true),
+            Ask::Signals(1),
+            Ask::Stack(&[]),
+        ],
+    },
+    Run {
+        name: "a notifier owes the stack",
+        sizes: Sizes {
+            workers: 3,
+            notifiers: 1,
+            rows: 0,
+        },
+        asks: &[
+            Ask::Plays(1, &TWO_ASLEEP, 7),
+            Ask::Steps(Event::NotifyAll { actor: 3 }, true),
+            Ask::Owed(3, 0, Some(2)),
+            Ask::Owed(3, 1, Some(0)),
+            Ask::Owed(3, 2, None),
+            Ask::Owed(1, 0, None),
+            Ask::Steps(Event::Unpark { actor: 3 }, true),
+            Ask::Token(0, false),
+            Ask::Token(2, true),
+            Ask::Owed(3, 0, Some(0)),
+            Ask::Steps(Event::Wake { seat: 2 }, true),
+            Ask::Phase(2, Phase::Running),
+            Ask::Token(2, false),
+        ],
+    },
+    Run {
+        name: "a row is passed and filled",
+        sizes: ONE_ROW,
+        asks: &[
+            Ask::Plays(
+                1,
+                &[
+                    Event::Prewait { seat: 0 },
+                    Event::PassFlag { seat: 0 },
+                    Event::Pass { seat: 0, row: 0 },
+                    Event::Publish { actor: 1, row: 0 },
+                    Event::Notify { actor: 1 },
+                    Event::Commit { seat: 0 },
+                    Event::Take { actor: 0, row: 0 },
+                ],
+                7,
+            ),
+            Ask::Phase(0, Phase::Running),
+            Ask::Signals(0),
+            Ask::Length(0, 0),
+        ],
+    },
+    Run {
+        name: "a row with jobs is not passed",
+        sizes: ONE_ROW,
+        asks: &[
+            Ask::Plays(
+                1,
+                &[
+                    Event::Prewait { seat: 0 },
+                    Event::Publish { actor: 1, row: 0 },
+                    Event::Pass { seat: 0, row: 0 },
+                    Event::Notify { actor: 1 },
+                    Event::Cancel { seat: 0 },
+                    Event::Take { actor: 0, row: 0 },
+                ],
+                5,
+            ),
+            Ask::Signals(0),
+            Ask::Length(0, 0),
+        ],
+    },
+    Run {
+        name: "a stop ends a sleeper",
+        sizes: ONE_ROW,
+        asks: &[
+            Ask::Plays(
+                1,
+                &[
+                    Event::Prewait { seat: 0 },
+                    Event::PassFlag { seat: 0 },
+                    Event::Pass { seat: 0, row: 0 },
+                    Event::Commit { seat: 0 },
+                    Event::Stop { actor: 1 },
+                    Event::End { seat: 0 },
+                    Event::NotifyAll { actor: 1 },
+                    Event::Unpark { actor: 1 },
+                    Event::Wake { seat: 0 },
+                    Event::Prewait { seat: 0 },
+                    Event::PassFlag { seat: 0 },
+                    Event::Cancel { seat: 0 },
+                    Event::End { seat: 0 },
+                ],
+                11,
+            ),
+            Ask::Stop(2),
+            Ask::Phase(0, Phase::Ended),
+        ],
+    },
+    Run {
+        name: "no commit without each row",
+        sizes: ONE_ROW,
+        asks: &[
+            Ask::Plays(
+                1,
+                &[
+                    Event::Prewait { seat: 0 },
+                    Event::PassFlag { seat: 0 },
+                    Event::Commit { seat: 0 },
+                ],
+                2,
+            ),
+            Ask::Phase(0, Phase::Pre),
+        ],
+    },
+    Run {
+        name: "a row counts its jobs",
+        sizes: ONE_ROW,
+        asks: &[Ask::Plays(1025, &PUBLISHED, 2050), Ask::Length(0, 1025)],
+    },
+    // The publish after 1,048,576 others isn't possible.
+    Run {
+        name: "a row has a limit",
+        sizes: ONE_ROW,
+        asks: &[
+            Ask::Plays(1_048_577, &PUBLISHED, 2 * 1_048_576 + 1),
+            Ask::Length(0, 1_048_576),
+        ],
+    },
+];
+
+// How many of the events are possible, so many times over.
+fn played(world: &mut World, times: u32, events: &[Event]) -> u64
+    ensures { SameSizes world.old world.new }
 {
-    let mut world = World::new(alloc, 3, 1, 0)?;
-    let taken = world.play(&[
-        Event::Prewait { seat: 0 },
-        Event::PassFlag { seat: 0 },
-        Event::Commit { seat: 0 },
-        Event::Prewait { seat: 2 },
-        Event::PassFlag { seat: 2 },
-        Event::Commit { seat: 2 },
-        Event::Prewait { seat: 1 },
-    ]);
-    Ok((world, taken))
+    let mut taken: u64 = 0;
+    for _ in 0..times {
+        taken = taken.saturating_add(world.play(events));
+    }
+    taken
+}
+
+// Whether the World answers as it is to.
+fn answers(world: &mut World, sizes: Sizes, ask: Ask) -> bool
+    requires workers { length world.old.phases ≡ sizes.workers }
+    requires actors { length world.old.owed ≡ sizes.workers + sizes.notifiers }
+    requires rows { length world.old.lengths ≡ sizes.rows }
+    ensures { SameSizes world.old world.new }
+{
+    match ask {
+        Ask::Plays(times, events, told) => played(world, times, events) == told,
+        Ask::Steps(event, told) => world.step(event) == told,
+        Ask::Phase(seat, told) => seat < sizes.workers && world.phase(seat) == told,
+        Ask::Token(seat, told) => seat < sizes.workers && world.token(seat) == told,
+        Ask::Owed(actor, place, told) => {
+            actor < u32::from(sizes.workers) + u32::from(sizes.notifiers)
+                && world.owed(actor, place) == told
+        }
+        Ask::Length(row, told) => row < sizes.rows && world.length(row) == told,
+        Ask::Pre(told) => world.pre() == told,
+        Ask::Stack(told) => world.stack() == told,
+        Ask::Signals(told) => world.signals() == told,
+        Ask::Stop(told) => world.stop() == told,
+    }
+}
+
+// Asks a World in turn, and stops where it answers otherwise.
+fn ask_each<R: Abort>(rt: &R, alloc: Global, run: &Run) {
+    let sizes = run.sizes;
+    assert!(rt; sizes.workers > 0 && sizes.workers <= 16_382);
+    let Ok(mut world) = World::new(alloc, sizes.workers, sizes.notifiers, sizes.rows) else {
+        panic!(rt; "no World")
+    };
+    let mut place: u64 = 0;
+    for ask in run.asks {
+        expect(rt, answers(&mut world, sizes, *ask), run.name, place);
+        place = place.saturating_add(1);
+    }
 }
 
 #[test]
-fn readers_tell_the_lists(rt: HostRuntime) -> Result<(), Fail> {
-    let (mut world, taken) = two_asleep(rt.alloc())?;
-    let found = (
-        taken,
-        world.stack(),
-        world.pre(),
-        world.phase(0),
-        world.phase(1),
-    );
-    let (stack, pre) = ([2, 0].as_slice(), [1].as_slice());
-    assert_eq!(rt; found, (7, stack, pre, Phase::Stacked, Phase::Pre));
-    let notified = world.step(Event::NotifyAll { actor: 3 });
-    let after = (world.signals(), world.stack().len());
-    assert_eq!(rt; (notified, after), (true, (1, 0)));
-    Ok(())
-}
-
-#[test]
-fn a_notifier_owes_the_stack(rt: HostRuntime) -> Result<(), Fail> {
-    let (mut world, _) = two_asleep(rt.alloc())?;
-    let notified = world.step(Event::NotifyAll { actor: 3 });
-    let owed = [
-        world.owed(3, 0),
-        world.owed(3, 1),
-        world.owed(3, 2),
-        world.owed(1, 0),
-    ];
-    assert_eq!(rt; (notified, owed), (true, [Some(2), Some(0), None, None]));
-    let unparked = world.step(Event::Unpark { actor: 3 });
-    let after = ([world.token(0), world.token(2)], world.owed(3, 0));
-    assert_eq!(rt; (unparked, after), (true, ([false, true], Some(0))));
-    let woken = world.step(Event::Wake { seat: 2 });
-    let after = (world.phase(2), world.token(2));
-    assert_eq!(rt; (woken, after), (true, (Phase::Running, false)));
-    Ok(())
+fn worked_runs(rt: HostRuntime) {
+    for run in &RUNS {
+        ask_each(&rt, rt.alloc(), run);
+    }
 }

@@ -6,8 +6,10 @@ ghost use Rattle.worker_pool.specs.Accounts.{Account};
 ghost use Rattle.worker_pool.specs.Callers.{IsCaller, StaysCaller, roots_of};
 ghost use Rattle.worker_pool.specs.Steps.{IsStep};
 
-use crate::kinds::{job_of, tags_of};
-use crate::setups::whole;
+use crate::runs::{RUN, Run, expect_each_once};
+use crate::setups::setup_of;
+use crate::tasks::job_of;
+use crate::watch::{Watch, Way};
 use event_count::{EventCount, WaitPoint};
 use run_queue::{Rows, SlotRows};
 use std::alloc::Global;
@@ -91,17 +93,23 @@ where
 #[test]
 fn both_tasks_are_collected(rt: HostRuntime) -> Result<(), Fail> {
     let alloc = rt.alloc();
+    let run = Run {
+        name: "two tasks over slots",
+        workers: 2,
+        first: 2,
+        tasks: 2,
+        ..RUN
+    };
+    let setup = setup_of(alloc, run.workers, &[])?;
     let (first, second) = (job_of(alloc, 1)?, job_of(alloc, 2)?);
     let closed = collect_both::<EventCount, SlotRows<BoxedJob>, VecLists, HostRuntime, BoxedJob>(
         &rt,
         alloc,
-        &whole(alloc, 2),
+        &setup,
         &(),
         first,
         second,
     )?;
-    let refused = closed.refused;
-    let tags = tags_of(alloc, closed)?;
-    assert_eq!(rt; (tags.as_slice(), refused), ([1, 2].as_slice(), 0));
-    Ok(())
+    let unseen = Watch::new(alloc, Way::AtOnce, None)?.seen();
+    expect_each_once(&rt, alloc, run, &closed, unseen)
 }

@@ -6,36 +6,20 @@ mod bodies;
 #[cfg(test)]
 mod collected;
 #[cfg(test)]
-mod faults;
-#[cfg(test)]
-mod gates;
-#[cfg(test)]
-mod kinds;
-#[cfg(test)]
-mod limited;
-#[cfg(test)]
 mod lists;
-#[cfg(test)]
-mod opened;
-#[cfg(test)]
-mod over_slots;
 #[cfg(test)]
 mod own_rows;
 #[cfg(test)]
-mod pools;
-#[cfg(test)]
-mod refusals;
-#[cfg(test)]
 mod runs;
+#[cfg(test)]
+mod settings;
 #[cfg(test)]
 mod setups;
 #[cfg(test)]
-mod slots;
-#[cfg(test)]
-mod spent;
-#[cfg(test)]
 mod tasks;
 #[cfg(test)]
-mod tree;
+mod trees;
+#[cfg(test)]
+mod watch;
 #[cfg(test)]
 mod worn;

@@ -1,27 +1,21 @@
-//! Rows that give back every job, and rows that can't be opened.
+//! Rows that give back every job, and can't be opened for more than one worker.
 ghost use Rattle.std.specs.Prelude.{◌≡◌, ◌+◌, IfOk, []};
 ghost use Rattle.std.specs.List.{range_with_len};
 
-use crate::bodies::run_all;
-use crate::kinds::{THREE, by_caller, tenfolds};
-use event_count::LockedCount;
 use run_queue::{MOST_ROWS, Rows, RowsFault};
 use std::alloc::{AllocError, Global};
 use std::sync::Wait;
-use std::sync::atomic::AtomicU64;
-use std::test::Fail;
-use worker_pool::{BoxedJob, NoGate, PoolFault, Setup, VecLists};
 
-// Rows that take no job. Where they don't open, they answer want of memory.
+/// Rows that take no job. More than one answer want of memory.
 #[derive(Drop)]
-struct OwnRows<const OPENS: bool> {
+pub(crate) struct OwnRows {
     rows: u16,
     // Only contracts read it.
     outsiders: u16,
     alloc: Global,
 }
 
-impl<J: Drop, const OPENS: bool> Rows<J, Global> for OwnRows<OPENS> {
+impl<J: Drop> Rows<J, Global> for OwnRows {
     type Seat = u32;
 
     ghost row_count = { λ r. r.rows };
@@ -46,7 +40,7 @@ impl<J: Drop, const OPENS: bool> Rows<J, Global> for OwnRows<OPENS> {
         if rows > MOST_ROWS {
             return Err(RowsFault::TooManyRows);
         }
-        if !OPENS {
+        if rows > 1 {
             return Err(RowsFault::NoMemory);
         }
         let seats = seats(alloc, u32::from(rows) + u32::from(outsiders))?;
@@ -95,51 +89,4 @@ fn seats(alloc: Global, count: u32) -> Result<Vec<u32>, AllocError>
         seats.push_reserved(number);
     }
     Ok(seats)
-}
-
-// So a pool that keeps its jobs elsewhere than in its rows is found out.
-#[test]
-fn rows_that_take_no_job(rt: HostRuntime) -> Result<(), Fail> {
-    let setup = Setup {
-        workers: 1,
-        partitions: Vec::new(rt.alloc()),
-    };
-    let flag = AtomicU64::new(0);
-    let jobs = tenfolds(rt.alloc(), 1, 3)?;
-    let closed = run_all::<LockedCount, OwnRows<true>, VecLists, _, _, _>(
-        &rt,
-        rt.alloc(),
-        &setup,
-        &(),
-        &NoGate,
-        jobs,
-        None,
-        &flag,
-    )?;
-    let by_worker = closed.outs.first().map(Vec::len);
-    let found = (closed.outs.len(), by_worker, by_caller(&closed));
-    assert_eq!(rt; found, (2, Some(0), THREE.as_slice()));
-    Ok(())
-}
-
-#[test]
-fn rows_that_find_no_memory(rt: HostRuntime) -> Result<(), Fail> {
-    let setup = Setup {
-        workers: 1,
-        partitions: Vec::new(rt.alloc()),
-    };
-    let flag = AtomicU64::new(0);
-    let jobs: Vec<BoxedJob> = Vec::new(rt.alloc());
-    let closed = run_all::<LockedCount, OwnRows<false>, VecLists, _, _, _>(
-        &rt,
-        rt.alloc(),
-        &setup,
-        &(),
-        &NoGate,
-        jobs,
-        None,
-        &flag,
-    );
-    assert_eq!(rt; closed.err(), Some(PoolFault::NoMemory));
-    Ok(())
 }

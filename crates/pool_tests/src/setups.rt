@@ -1,16 +1,15 @@
 //! Which setups a pool takes.
+use crate::runs::run_tasks;
+use crate::tasks::tenfolds;
+use crate::trees::grow;
+use crate::watch::{Watch, Way};
+use crate::{runs, trees};
 use std::alloc::{AllocError, Global};
+use std::sync::Wait;
 use std::test::Fail;
+use std::thread::Threads;
 use steal_walk::Partition;
 use worker_pool::{PoolFault, Setup};
-
-/// A setup of so many workers, without partitions.
-pub(crate) fn whole(alloc: Global, workers: u32) -> Setup {
-    Setup {
-        workers,
-        partitions: Vec::new(alloc),
-    }
-}
 
 /// A setup of so many workers with the partitions of these rows.
 pub(crate) fn setup_of(
@@ -30,26 +29,54 @@ pub(crate) fn setup_of(
     })
 }
 
-/// Numbers of workers, the rows of their partitions, and whether a pool takes them.
-const SETUPS: [(u32, &[(u32, u32)], Result<(), PoolFault>); 11] = [
-    (1, &[], Ok(())),
-    (256, &[], Ok(())),
-    (2, &[(0, 1), (1, 2)], Ok(())),
-    (2, &[(0, 2), (0, 2)], Ok(())),
-    (0, &[], Err(PoolFault::BadWorkers)),
-    (257, &[], Err(PoolFault::BadWorkers)),
-    (0, &[(0, 1)], Err(PoolFault::BadWorkers)),
-    (2, &[(0, 1)], Err(PoolFault::BadPartition)),
-    (1, &[(0, 1), (0, 1)], Err(PoolFault::BadPartition)),
-    (2, &[(2, 4), (2, 4)], Err(PoolFault::BadPartition)),
-    (2, &[(0, 2), (1, 3)], Err(PoolFault::BadPartition)),
+/// Numbers of workers, the rows of their partitions, and why a pool doesn't take them.
+const SETUPS: [(u32, &[(u32, u32)], Option<PoolFault>); 17] = [
+    (1, &[], None),
+    (256, &[], None),
+    (2, &[(0, 1), (1, 2)], None),
+    (2, &[(0, 2), (0, 2)], None),
+    (0, &[], Some(PoolFault::BadWorkers)),
+    (257, &[], Some(PoolFault::BadWorkers)),
+    (u32::MAX, &[], Some(PoolFault::BadWorkers)),
+    (0, &[(0, 1)], Some(PoolFault::BadWorkers)),
+    (0, &[(0, 2)], Some(PoolFault::BadWorkers)),
+    (u32::MAX, &[(0, 2), (0, 2)], Some(PoolFault::BadWorkers)),
+    (2, &[(0, 1)], Some(PoolFault::BadPartition)),
+    (1, &[(0, 2)], Some(PoolFault::BadPartition)),
+    (2, &[(0, 2)], Some(PoolFault::BadPartition)),
+    (1, &[(0, 1), (0, 1)], Some(PoolFault::BadPartition)),
+    (2, &[(2, 4), (2, 4)], Some(PoolFault::BadPartition)),
+    (2, &[(0, 2), (1, 3)], Some(PoolFault::BadPartition)),
+    (2, &[(0, 2), (0, 2), (0, 2)], Some(PoolFault::BadPartition)),
 ];
 
+// Why no pool over slots is opened of which so many workers are started, if it isn't.
+fn fault_of<RT: Threads + Wait + Sync>(
+    rt: &RT,
+    alloc: Global,
+    setup: &Setup,
+    starts: Option<u32>,
+) -> Result<Option<PoolFault>, AllocError> {
+    let watch = Watch::new(alloc, Way::AtOnce, starts)?;
+    let (first, none) = (tenfolds(alloc, 0, 1)?, Vec::new(alloc));
+    let closed = run_tasks(rt, alloc, runs::Kind::OverSlots, setup, &watch, first, none);
+    Ok(closed.err())
+}
+
+// All ways to open a pool end with the fault of the setup.
 #[test]
 fn setups_that_are_taken_and_refused(rt: HostRuntime) -> Result<(), Fail> {
-    for (workers, ranges, wanted) in SETUPS {
-        let setup = setup_of(rt.alloc(), workers, ranges)?;
-        assert_eq!(rt; setup.check(), wanted, "{workers} workers, {ranges:?}");
+    let alloc = rt.alloc();
+    for (workers, ranges, fault) in SETUPS {
+        let setup = setup_of(alloc, workers, ranges)?;
+        let found = [
+            setup.check().err(),
+            grow(&rt, alloc, trees::Kind::UnderLocks, &setup, 0, None).err(),
+            grow(&rt, alloc, trees::Kind::Planted, &setup, 0, None).err(),
+            fault_of(&rt, alloc, &setup, None)?,
+            fault_of(&rt, alloc, &setup, Some(1))?,
+        ];
+        assert_eq!(rt; found, [fault; 5], "{workers} workers, {ranges:?}");
     }
     Ok(())
 }

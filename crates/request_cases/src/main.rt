@@ -14,10 +14,11 @@ use crate::cases::Cases;
 use std::{fs, io};
 
 /// The files of cases.
-const FILES: [&str; 18] = [
+const FILES: [&str; 19] = [
     "arguments.cases",
     "chains.cases",
     "check_order.cases",
+    "chunks.cases",
     "contractions.cases",
     "fault_order.cases",
     "faults.cases",

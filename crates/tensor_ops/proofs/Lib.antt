@@ -1,5 +1,6 @@
 pub mod AxisLists
 pub mod Chains
+pub mod ChunkSums
 pub mod Combined
 pub mod CombinedRows
 pub mod Contractions

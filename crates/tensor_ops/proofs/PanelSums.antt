@@ -1,12 +1,9 @@
 -- Sums of pairs beside panels.
-use Rattle.std.proofs.Common.{◌≡◌, ℕ, ◌-◌, ◌*◌, ◌≤◌, ℤ, List, [], ◌∷◌, ◌++◌, length, take}
+use Rattle.std.proofs.Common.{◌≡◌, ℕ, ◌-◌, ◌*◌, ℤ, List, [], ◌∷◌, ◌++◌, length, take}
 use Rattle.std.proofs.Common.{drop}
 use Rattle.std.proofs.Common.{get_or, refl, ap, sym, subst, ◌∙◌, arith, inl, inr, length-append}
 use Rattle.std.proofs.lemmas.Bool.{cases_lt}
 use Rattle.std.proofs.lemmas.List.{take_rest, get_or_append_left, get_or-append_right}
-use Rattle.tensor_ops.specs.Cells.{AreReady}
-use Rattle.tensor_ops.specs.declared.panels.Panels.{Panels}
-use Rattle.tensor_ops.specs.declared.panels.Panels.TheVariants.{Wide, Small}
 use Rattle.tensor_ops.specs.Pairs.{HasPairSums, ArePairSums, panel_from}
 
 -- a slice from a panel on
@@ -40,10 +37,3 @@ are_pair_sums-next sums more cells n p long here so_far k below =
           subst (λ s. HasPairSums s (panel_from cells n k) n) (sym is)
           (subst (λ p. HasPairSums more (panel_from cells n p) n) (sym last) here)
     ]
-
--- fewer panels
-pub ready-fewer : (k l k' l' n : ℕ) (panels : Panels) → k' ≤ k → l' ≤ l → AreReady k l n panels
-    → AreReady k' l' n panels
-ready-fewer k l k' l' n (Wide a b) few few' ready =
-    ((omega (arith, ready.0.0), ready.0.1), (omega (arith, ready.1.0), ready.1.1))
-ready-fewer k l k' l' n (Small a b) few few' ready = ready

@@ -1,16 +1,15 @@
 -- Parts of values, by parts of runs.
-use Rattle.std.proofs.Common.{◌≡◌, ℕ, zero, suc, ◌+◌, ◌-◌, ◌*◌, ◌/◌, ◌%◌, ◌<◌, ◌≤◌, ℤ, pos, ◌+ℤ◌, ◌*ℤ◌}
+use Rattle.std.proofs.Common.{◌≡◌, ℕ, ◌+◌, ◌-◌, ◌*◌, ◌/◌, ◌%◌, ◌<◌, ◌≤◌, ℤ, pos, ◌+ℤ◌, ◌*ℤ◌}
 use Rattle.std.proofs.Common.{List, ◌++◌, length, map, take, drop, get_or, true, Ok, IsOk}
 use Rattle.std.proofs.Common.{ap, sym, subst, ◌∙◌, arith}
 use Rattle.std.specs.List.{fold, range_with_len}
 use Rattle.std.specs.Int.{w64}
 use Rattle.std.specs.Result.{result_unwrap_or}
-use Rattle.std.proofs.lemmas.Int.{int_wrap-add_left, ints}
+use Rattle.std.proofs.lemmas.Int.{int_wrap-add_left}
 use Rattle.std.proofs.lemmas.List.{ext_get_or, map-append, take_all}
 use Rattle.std.proofs.lemmas.List.FromFn.{length-map-range_with_len, get_or-map-range_with_len}
 use Rattle.std.proofs.lemmas.List.FromFn.{length-range_with_len, get_or-range_with_len}
 use Rattle.std.proofs.lemmas.Simd.{map-map}
-use Rattle.std.proofs.Math.IntN.{+ℤ_assoc}
 use Rattle.tensor_shape.specs.Legal.{highest_rank}
 use Rattle.tensor_shape.specs.Index.{size_of, IsIndexOf, index_of}
 use Rattle.tensor_shape.specs.Wrap.{wrap}
@@ -39,7 +38,7 @@ use Rattle.tensor_ops.proofs.Dropped.{axes_first, other_dims-among}
 use Rattle.tensor_ops.proofs.Folding.{folded-ext, folded-append}
 use Rattle.tensor_ops.proofs.Others.{are_axes-among}
 use Rattle.tensor_ops.proofs.Placings.{gives-index}
-use Rattle.tensor_ops.proofs.ProductSums.{sum_to-ext}
+use Rattle.tensor_ops.proofs.ProductSums.{sum_to-ext, sum_to-append}
 use Rattle.tensor_ops.proofs.Runs.{map-shifted}
 use Rattle.tensor_ops.proofs.Splits.{size_of-append, dims_at-range}
 use Rattle.tensor_ops.proofs.Terms.{reduced-known, contracted-known, contracted-parts}
@@ -72,18 +71,6 @@ folded-piece r x f first from count items above same =
     (λ k below. piece-value f from count items k same below ∙ ap f (omega arith))
     ∙ sym (folded-append r x (λ q. f (first + q)) (from - first) count)
     ∙ ap (folded r x (λ q. f (first + q))) whole
-
--- sums of sums
-sum_to-append : (f : ℕ → ℤ) (n m : ℕ)
-    → sum_to f (n + m) ≡ sum_to f n +ℤ sum_to (λ t. f (n + t)) m
-sum_to-append f n zero =
-    let none : n + zero ≡ n = omega arith in
-    ap (sum_to f) none ∙ omega (arith, ints)
-sum_to-append f n (suc m) =
-    let next : n + suc m ≡ suc (n + m) = omega arith in
-    ap (sum_to f) next
-    ∙ ap (λ s. s +ℤ f (n + m)) (sum_to-append f n m)
-    ∙ +ℤ_assoc (sum_to f n) (sum_to (λ t. f (n + t)) m) (f (n + m))
 
 -- a piece more of products is added
 pub sum-piece : (f g : ℕ → ℤ) (first from count : ℕ) (xs ys : List ℤ) (s t : ℤ)

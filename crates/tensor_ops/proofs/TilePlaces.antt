@@ -1,6 +1,6 @@
 -- Places of a panel of columns, and those of its tiles.
 use Rattle.std.proofs.Common.{◌≡◌, ◌≢◌, ℕ, zero, suc, ◌+◌, ◌*◌, ◌-◌, ◌/◌, ◌%◌, ◌<◌, ◌≤◌, ℤ, List}
-use Rattle.std.proofs.Common.{length, slice_set, refl, ap, sym, ◌∙◌, arith, inl, inr}
+use Rattle.std.proofs.Common.{length, slice_set, ap, sym, subst, arith, inl, inr}
 use Rattle.std.proofs.Common.{get_or-set_other, get_or-set_same}
 use Rattle.std.proofs.Math.Nat.{mul-add-mod_self_right, mul-add-div_right, div-add-mod}
 use Rattle.std.proofs.Math.Nat.{div-mul-le_self}
@@ -65,44 +65,59 @@ tile_place-at from m x k t is below =
     let row : (from + k) % m ≡ x + t % 4 = rw is (mod-mul-add (t / 4) m (x + t % 4) below) in
     rw (column, row) (omega arith)
 
-module _ (sums : List ℤ) (from m x count : ℕ) where
-  -- the values of a tile before t are written
-  abbrev pub AreWritten : List ℤ → ℕ → Type 0
-  AreWritten out t = (k : ℕ) → k < count → IsInTile from m x k → tile_place from m x k < t
-      → value_in out k ≡ value_in sums (tile_place from m x k)
+-- and the place of each of its values is
+pub is_in_tile-at : (from m x i t : ℕ) → from + i ≡ t / 4 * m + (x + t % 4) → x + t % 4 < m
+    → IsInTile from m x i
+is_in_tile-at from m x i t is below =
+    let row : (from + i) % m ≡ x + t % 4 = rw is (mod-mul-add (t / 4) m (x + t % 4) below) in
+    record { top = omega (arith, row); bottom = omega (arith, row) }
 
+-- at the places of a tile's values before t stand those of f, at all others the old ones
+pub record AreWritten (f : ℕ → ℤ) (old : List ℤ) (from m x count : ℕ) (out : List ℤ) (t : ℕ)
+    : Type 0 where
+  pub new : (k : ℕ) → k < count → IsInTile from m x k → tile_place from m x k < t
+      → value_in out k ≡ f k
+  pub kept : (k : ℕ) → k < count → (IsInTile from m x k → t ≤ tile_place from m x k)
+      → value_in out k ≡ value_in old k
+
+module _ (f : ℕ → ℤ) (old : List ℤ) (from m x count : ℕ) where
   -- one more, at place i
   pub are_written-set : (out : List ℤ) (t i : ℕ) (v : ℤ) → 0 < m → i < length out
-      → v ≡ value_in sums t → from + i ≡ t / 4 * m + (x + t % 4) → x + t % 4 < m
-      → AreWritten out t → AreWritten (slice_set out i v) (t + 1)
-  are_written-set out t i v some room is at_i below so_far k within inside up_to =
-      elim (cases_eq k i) [
-        | inl same ↦
-            rw (same, get_or-set_same)
-            (is ∙ ap (λ t. value_in sums t) (sym (tile_place-at from m x i t at_i below)))
-        | inr other ↦
-            let apart : tile_place from m x k ≢ t =
-            λ e. other (omega (arith, (tile_place-back from m x k t some inside e).0)) in
-            rw get_or-set_other (so_far k within inside (omega arith))
-      ]
+      → v ≡ f i → from + i ≡ t / 4 * m + (x + t % 4) → x + t % 4 < m
+      → AreWritten f old from m x count out t
+      → AreWritten f old from m x count (slice_set out i v) (t + 1)
+  are_written-set out t i v some room is at_i below so_far =
+      let here = tile_place-at from m x i t at_i below in
+      record {
+        new = λ k within inside up_to. elim (cases_eq k i) [
+          | inl same ↦ rw (same, get_or-set_same) is
+          | inr other ↦
+              let apart : tile_place from m x k ≢ t =
+              λ e. other (omega (arith, (tile_place-back from m x k t some inside e).0)) in
+              rw get_or-set_other (so_far.new k within inside (omega arith))
+        ];
+        kept = λ k within later.
+            let other : k ≢ i = λ same. absurd (omega (
+              arith,
+              here,
+              ap (λ k. tile_place from m x k) same,
+              later (subst (λ k. IsInTile from m x k) (sym same)
+                  (is_in_tile-at from m x i t at_i below)),
+            )) in
+            rw get_or-set_other
+            (so_far.kept k within (λ inside. omega (arith, later inside)));
+      }
 
   -- one that lies elsewhere
   pub are_written-skip : (out : List ℤ) (t : ℕ) → 0 < m
       → ((k : ℕ) → k < count → from + k ≡ t / 4 * m + (x + t % 4) → m ≤ x + t % 4)
-      → AreWritten out t → AreWritten out (t + 1)
-  are_written-skip out t some elsewhere so_far k within inside up_to =
-      elim (cases_lt (tile_place from m x k) t) [
-        | inl before ↦ so_far k within inside before
-        | inr after ↦
-            let back = tile_place-back from m x k t some inside (omega arith) in
-            absurd (omega (arith, back.1, elsewhere k within back.0))
-      ]
-
--- the rows above a tile are not written
-pub value_in-above : (out : List ℤ) (from m x t i k : ℕ) (v : ℤ)
-    → from + i ≡ t / 4 * m + (x + t % 4) → x + t % 4 < m → (from + k) % m < x
-    → value_in (slice_set out i v) k ≡ value_in out k
-value_in-above out from m x t i k v at_i below above =
-    let row : (from + i) % m ≡ x + t % 4 = rw at_i (mod-mul-add (t / 4) m (x + t % 4) below) in
-    let other : k ≢ i = λ same. absurd (omega (arith, row, ap (λ k. (from + k) % m) same)) in
-    rw get_or-set_other refl
+      → AreWritten f old from m x count out t → AreWritten f old from m x count out (t + 1)
+  are_written-skip out t some elsewhere so_far = record {
+    new = λ k within inside up_to. elim (cases_lt (tile_place from m x k) t) [
+      | inl before ↦ so_far.new k within inside before
+      | inr after ↦
+          let back = tile_place-back from m x k t some inside (omega arith) in
+          absurd (omega (arith, back.1, elsewhere k within back.0))
+    ];
+    kept = λ k within later. so_far.kept k within (λ inside. omega (arith, later inside));
+  }

@@ -4,6 +4,7 @@ pub use Rattle.tensor_shape.specs.Wrap
 pub mod Axes
 pub mod Cells
 pub mod Chain
+pub mod Chunks
 pub mod Concatenation
 pub mod Contents
 pub mod Contracting

@@ -1,6 +1,6 @@
 //! Contractions by ranges of the places of their result.
 
-ghost use Rattle.std.specs.Prelude.{◌≡◌, ◌<◌, ◌≤◌, ◌+◌, ◌-◌, ℕ, length, map, IfOk, IsOk};
+ghost use Rattle.std.specs.Prelude.{◌≡◌, ◌<◌, ◌≤◌, ◌+◌, ◌-◌, ℕ, length, map, IfOk, IsOk, OnOk};
 ghost use Rattle.std.specs.Cow.{cow_slice_items};
 ghost use Rattle.std.specs.List.{range_with_len};
 ghost use Rattle.tensor_shape.specs.Legal.{highest_rank};
@@ -31,7 +31,7 @@ const SHORTEST_STRIP: usize = 64;
 /// ranges of it share it.
 pub(crate) enum Contraction<'a> {
     /// By tiles of four rows by four columns.
-    InTiles(Tiled),
+    InTiles(Tiled<'a>),
     /// Row by row, where an operand has few rows.
     InDots(Dots<'a>),
     /// Value by value, where an operand has few rows and those of both lie side by side.
@@ -55,12 +55,12 @@ impl Drop for Contraction<'_> {
 impl<'a> Contraction<'a> {
     ghost use Rattle.tensor_ops.specs.Contracting.{contraction_count, contraction_value};
 
-    /// The contraction of two operands of these dims over pairs of their axes. Takes a number for
-    /// each kept index list of each operand, and one for each paired one, but of these none where
-    /// the rows are taken as slices. Both operands are packed, but where the first has one kept
-    /// index list or the second fewer than four: a cell for each value, of 4 bytes where all values
-    /// fit them, else of 8, up to a multiple of four kept index lists. Of packed operands the
-    /// values are not held.
+    /// The contraction of two operands of these dims over pairs of their axes, whose values it
+    /// holds. Takes a number for each kept index list of each operand, and one for each paired one,
+    /// but of these none where the rows are taken as slices. Where the first has more than one kept
+    /// index list and the second four or more, the first is packed: a cell for each value, of 4
+    /// bytes where all values of both fit them, else of 8, up to a multiple of four kept index
+    /// lists, and for cells of 8 bytes a number for each of these and each chunk of 512 products.
     pub(crate) fn of(
         alloc: Global,
         first_dims: &Dims,
@@ -101,10 +101,12 @@ impl<'a> Contraction<'a> {
         if first.starts.len() == 1 {
             return Ok(Contraction::InDots(Dots::of(second, first)));
         }
-        Ok(Contraction::InTiles(Tiled::of(alloc, &first, &second)?))
+        Ok(Contraction::InTiles(Tiled::of(alloc, first, second)?))
     }
 
-    /// The values at the places from the first to before the last of the result, in order.
+    /// The values at the places from the first to before the last of the result, in order. Where
+    /// the first operand was packed, four kept index lists of the second are too, chunk by chunk:
+    /// that takes at most 512 cells for each.
     pub(crate) fn values<A: Allocator>(
         &self,
         alloc: A,
@@ -117,22 +119,23 @@ impl<'a> Contraction<'a> {
             ≡ map (contraction_value self.now) (range_with_len first (last - first))) }
     {
         let mut values = vec![in alloc; 0i64; last - first]?;
-        self.fill(first, &mut values);
+        self.fill(first, &mut values)?;
         Ok(values)
     }
 
     /// Writes the values from a place of the result on.
-    fn fill(&self, first: usize, out: &mut [i64])
+    fn fill(&self, first: usize, out: &mut [i64]) -> Result<(), AllocError>
         requires { first + length out.old ≤ contraction_count self.now }
         ensures len { length out.new ≡ length out.old }
-        ensures each { (k : ℕ) → k < length out.old
-            → value_in out.new k ≡ contraction_value self.now (first + k) }
+        ensures each { OnOk result ((k : ℕ) → k < length out.old
+            → value_in out.new k ≡ contraction_value self.now (first + k)) }
     {
         match self {
-            Contraction::InTiles(tiled) => tiled.fill(first, out),
+            Contraction::InTiles(tiled) => tiled.fill(first, out)?,
             Contraction::InDots(dots) => dots.fill(first, out),
             Contraction::InStrips(dots) => dots.fill(first, out),
             Contraction::InRuns(dots) => dots.fill(first, out),
         }
+        Ok(())
     }
 }

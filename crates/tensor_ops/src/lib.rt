@@ -5,6 +5,8 @@
 mod axes;
 mod cell;
 mod chain;
+mod chunks;
+mod columns;
 mod combining;
 mod concatenation_dims;
 mod contraction;

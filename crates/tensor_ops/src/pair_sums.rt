@@ -1,15 +1,14 @@
 //! Rows in panels of four, and beside them what products two by two take off: the sums of the
 //! products of each row's own pairs.
 
-ghost use Rattle.std.specs.Prelude.{◌≡◌, ℕ, ◌*◌, ◌+◌, ◌/◌, ◌<◌, ◌≤◌, ◌*ℤ◌, ◌+ℤ◌, length, vec_len};
-ghost use Rattle.std.specs.Prelude.{IfOk};
+ghost use Rattle.std.specs.Prelude.{◌≡◌, ℕ, ◌*◌, ◌+◌, ◌/◌, ◌<◌, ◌≤◌, ◌^◌, ◌*ℤ◌, ◌+ℤ◌, length};
+ghost use Rattle.std.specs.Prelude.{IfOk, vec_len};
 ghost use Rattle.tensor_shape.specs.Wrap.{wrap};
 ghost use Rattle.tensor_ops.specs.Pairs.{HasPairSums, ArePairSums};
+ghost use Rattle.tensor_ops.specs.Panels.{AreInside};
 ghost use Rattle.tensor_ops.specs.Places.{value_in};
-ghost use Rattle.tensor_ops.specs.Rows.{row_count, row_length};
 
 use crate::packing::packed;
-use crate::rows::Rows;
 use crate::tile::mul_add;
 use std::alloc::{AllocError, Global};
 
@@ -24,15 +23,22 @@ impl Paired {
     ghost use Rattle.tensor_ops.specs.Cells.{HoldsRows, ArePaired};
 
     /// The rows of an operand, packed.
-    pub(crate) fn of(alloc: Global, rows: &Rows<'_>) -> Result<Paired, AllocError>
-        ensures rows { IfOk result (λ paired. HoldsRows paired.cells.items rows.now) }
-        ensures paired { IfOk result (ArePaired ((row_count rows.now + 3) / 4)
-            (row_length rows.now)) }
+    pub(crate) fn of(
+        alloc: Global,
+        values: &[i64],
+        rows: &[usize],
+        offsets: &[usize],
+    ) -> Result<Paired, AllocError>
+        requires inside { AreInside values.now rows.now offsets.now }
+        requires few { (length rows.now + 3) / 4 * (length offsets.now * 4) < 2 ^ 60 }
+        ensures rows { IfOk result (λ paired.
+            HoldsRows paired.cells.items values.now rows.now offsets.now) }
+        ensures paired { IfOk result (ArePaired ((length rows.now + 3) / 4)
+            (length offsets.now)) }
     {
-        let values = rows.values.as_slice();
-        let cells = packed::<i64>(alloc, values, &rows.starts, &rows.offsets)?;
-        let panels = rows.starts.len().div_ceil(4);
-        let sums = sums_of_pairs(alloc, &cells, panels, rows.offsets.len())?;
+        let cells = packed::<i64>(alloc, values, rows, offsets)?;
+        let panels = rows.len().div_ceil(4);
+        let sums = sums_of_pairs(alloc, &cells, panels, offsets.len())?;
         Ok(Paired { cells, sums })
     }
 }
@@ -56,7 +62,7 @@ fn sums_of_pairs(
 }
 
 /// The sums of the products of the pairs of each row of a panel.
-fn panel_sums(a: &[i64], n: usize) -> [i64; 4]
+pub(crate) fn panel_sums(a: &[i64], n: usize) -> [i64; 4]
     requires { n * 4 ≤ length a.now }
     ensures { HasPairSums result a.now n }
 {

@@ -1,20 +1,97 @@
-//! Expressions that are made again, node by node.
+//! Tensors of requests, and of expressions that are made again, node by node, with ample memory.
 
 ghost use Rattle.std.specs.Prelude.{◌≡◌, IfOk};
 ghost use Rattle.tensor_ops.specs.Tree.{term_of};
 
+use crate::texts::request;
 use expr_reader::read_request;
 use std::alloc::{AllocError, Global};
 use std::process::Abort;
+use std::sync::Wait;
 use std::test::Fail;
+use std::thread::Threads;
 use tensor_ops::{Expr, Node, eval_plain};
+use tensor_runner::eval;
 
-/// The inputs that the expressions are over.
-const INPUTS: &str = concat!(
-    r#"{"a":{"dims":[2,3],"data":[1,-4,2,5,-3,6]},"#,
-    r#""b":{"dims":[2,3],"data":[7,0,2,-1,9,6]},"#,
-    r#""k":{"dims":[2],"data":[10,1]}}"#
+/// A version, inputs, and how many they are.
+type Over = (u32, &'static str, u32);
+
+const THREE: Over = (
+    2,
+    concat!(
+        r#"{"a":{"dims":[2,3],"data":[1,-4,2,5,-3,6]},"#,
+        r#""b":{"dims":[2,3],"data":[7,0,2,-1,9,6]},"#,
+        r#""k":{"dims":[2],"data":[10,1]}}"#
+    ),
+    3,
 );
+
+const SCALAR: Over = (1, r#"{"a":{"dims":[],"data":[5]}}"#, 1);
+
+const TWO: Over = (
+    1,
+    r#"{"b":{"dims":[2],"data":[1,2]},"a":{"dims":[2],"data":[30,40]}}"#,
+    2,
+);
+
+/// Expressions, first an operation of each kind, with arguments that tell them apart; and then a
+/// node of each arity over others.
+const TENSORS: [(Over, &str, &[u64], &[i64]); 19] = [
+    (THREE, r#"["abs","a"]"#, &[2, 3], &[1, 4, 2, 5, 3, 6]),
+    (THREE, r#"["constant","k",-7]"#, &[2], &[-7, -7]),
+    (THREE, r#"["broadcast","k",[2]]"#, &[4], &[10, 1, 10, 1]),
+    (THREE, r#"["slice","a",[1,1],[1,2]]"#, &[1, 2], &[5, 6]),
+    (
+        THREE,
+        r#"["shuffle","a",[1,0]]"#,
+        &[3, 2],
+        &[1, 2, -3, -4, 5, 6],
+    ),
+    (THREE, r#"["reshape","a",[6]]"#, &[6], &[1, -4, 2, 5, -3, 6]),
+    (THREE, r#"["chip","a",2,1]"#, &[2], &[-3, 6]),
+    (
+        THREE,
+        r#"["reverse","a",[true,false]]"#,
+        &[2, 3],
+        &[-4, 1, 5, 2, 6, -3],
+    ),
+    (THREE, r#"["stride","a",[2,2]]"#, &[1, 2], &[1, -3]),
+    (THREE, r#"["pad","k",[[1,2]]]"#, &[5], &[0, 10, 1, 0, 0]),
+    (THREE, r#"["maximum","a",[1]]"#, &[2], &[2, 6]),
+    (
+        THREE,
+        r#"["sub","a","b"]"#,
+        &[2, 3],
+        &[-6, -4, 0, 6, -12, 0],
+    ),
+    (THREE, r#"["concat","k","k",0]"#, &[4], &[10, 1, 10, 1]),
+    (
+        THREE,
+        r#"["contract","k","a",[[0,0]]]"#,
+        &[3],
+        &[6, 25, -24],
+    ),
+    (
+        THREE,
+        r#"["convolve","a","k",[1]]"#,
+        &[2, 2],
+        &[12, -35, 17, 56],
+    ),
+    (
+        THREE,
+        r#"["select",["lt","a","b"],"b","a"]"#,
+        &[2, 3],
+        &[7, 0, 2, 5, 9, 6],
+    ),
+    (
+        THREE,
+        r#"["select",["lt","a","b"],["neg",["add","a","b"]],["constant","a",5]]"#,
+        &[2, 3],
+        &[-8, 4, 5, 5, -6, 5],
+    ),
+    (SCALAR, r#""a""#, &[], &[5]),
+    (TWO, r#"["add",["add","a","b"],"b"]"#, &[2], &[32, 44]),
+];
 
 /// A copy of an expression.
 fn copied(alloc: Global, expr: &Expr) -> Result<Expr, AllocError>
@@ -33,120 +110,37 @@ fn copied(alloc: Global, expr: &Expr) -> Result<Expr, AllocError>
     }
 }
 
-/// Asserts that the copy of an expression has these values, and so has the expression.
-fn has_values(
-    rt: &impl Abort,
+/// Asserts that an expression has these values, by workers and alone, and so has its copy.
+fn has_values<RT: Threads + Wait + Abort + Sync>(
+    rt: &RT,
     alloc: Global,
+    (version, inputs, count): Over,
     expr: &str,
     sizes: &[u64],
     values: &[i64],
 ) -> Result<(), Fail> {
-    let text = format!(in alloc;
-        "{{\"version\":2,\"workers\":1,\"block\":1,\"inputs\":{INPUTS},\"expr\":{expr}}}"
-    )?;
+    let text = request(alloc, version, inputs, expr)?;
     let request = read_request(alloc, text.as_bytes())?;
-    let whole = eval_plain(alloc, &request.expr, &request.inputs)?;
+    let tensor = eval(rt, alloc, &request)?;
+    let plain = eval_plain(alloc, &request.expr, &request.inputs)?;
     let copy = copied(alloc, &request.expr)?;
     let again = eval_plain(alloc, &copy, &request.inputs)?;
-    let found = (again.dims().as_slice(), again.values(), whole.values());
-    assert_eq!(rt; found, (sizes, values, values), "{expr}");
+    assert_eq!(rt;
+        (
+            (request.workers, request.block, request.inputs.len()),
+            [tensor.dims().as_slice(), again.dims().as_slice()],
+            [tensor.values(), plain.values(), again.values()],
+        ),
+        ((2, 4, count), [sizes, sizes], [values, values, values]),
+        "{expr}"
+    );
     Ok(())
 }
 
-/// An operation of each kind, with arguments that tell them apart.
 #[test]
-fn copies_of_operations_on_one_tensor(rt: HostRuntime) -> Result<(), Fail> {
-    for (expr, sizes, values) in [
-        (
-            r#"["abs","a"]"#,
-            [2, 3].as_slice(),
-            [1, 4, 2, 5, 3, 6].as_slice(),
-        ),
-        (
-            r#"["constant","k",-7]"#,
-            [2].as_slice(),
-            [-7, -7].as_slice(),
-        ),
-        (
-            r#"["broadcast","k",[2]]"#,
-            [4].as_slice(),
-            [10, 1, 10, 1].as_slice(),
-        ),
-        (
-            r#"["slice","a",[1,1],[1,2]]"#,
-            [1, 2].as_slice(),
-            [5, 6].as_slice(),
-        ),
-        (
-            r#"["shuffle","a",[1,0]]"#,
-            [3, 2].as_slice(),
-            [1, 2, -3, -4, 5, 6].as_slice(),
-        ),
-        (
-            r#"["reshape","a",[6]]"#,
-            [6].as_slice(),
-            [1, -4, 2, 5, -3, 6].as_slice(),
-        ),
-        (r#"["chip","a",2,1]"#, [2].as_slice(), [-3, 6].as_slice()),
-        (
-            r#"["reverse","a",[true,false]]"#,
-            [2, 3].as_slice(),
-            [-4, 1, 5, 2, 6, -3].as_slice(),
-        ),
-        (
-            r#"["stride","a",[2,2]]"#,
-            [1, 2].as_slice(),
-            [1, -3].as_slice(),
-        ),
-        (
-            r#"["pad","k",[[1,2]]]"#,
-            [5].as_slice(),
-            [0, 10, 1, 0, 0].as_slice(),
-        ),
-        (r#"["maximum","a",[1]]"#, [2].as_slice(), [2, 6].as_slice()),
-    ] {
-        has_values(&rt, rt.alloc(), expr, sizes, values)?;
+fn tensors_of_requests_and_their_copies(rt: HostRuntime) -> Result<(), Fail> {
+    for (over, expr, sizes, values) in TENSORS {
+        has_values(&rt, rt.alloc(), over, expr, sizes, values)?;
     }
     Ok(())
-}
-
-#[test]
-fn copies_of_operations_on_more_tensors(rt: HostRuntime) -> Result<(), Fail> {
-    for (expr, sizes, values) in [
-        (
-            r#"["sub","a","b"]"#,
-            [2, 3].as_slice(),
-            [-6, -4, 0, 6, -12, 0].as_slice(),
-        ),
-        (
-            r#"["concat","k","k",0]"#,
-            [4].as_slice(),
-            [10, 1, 10, 1].as_slice(),
-        ),
-        (
-            r#"["contract","k","a",[[0,0]]]"#,
-            [3].as_slice(),
-            [6, 25, -24].as_slice(),
-        ),
-        (
-            r#"["convolve","a","k",[1]]"#,
-            [2, 2].as_slice(),
-            [12, -35, 17, 56].as_slice(),
-        ),
-        (
-            r#"["select",["lt","a","b"],"b","a"]"#,
-            [2, 3].as_slice(),
-            [7, 0, 2, 5, 9, 6].as_slice(),
-        ),
-    ] {
-        has_values(&rt, rt.alloc(), expr, sizes, values)?;
-    }
-    Ok(())
-}
-
-/// A node of each arity over others.
-#[test]
-fn copy_of_a_tree(rt: HostRuntime) -> Result<(), Fail> {
-    let tree = r#"["select",["lt","a","b"],["neg",["add","a","b"]],["constant","a",5]]"#;
-    has_values(&rt, rt.alloc(), tree, &[2, 3], &[-8, 4, 5, 5, -6, 5])
 }

@@ -6,15 +6,9 @@
 #![tactic(auto)]
 
 #[cfg(test)]
-mod bytes;
-#[cfg(test)]
 mod copies;
 #[cfg(test)]
 mod dims;
-#[cfg(test)]
-mod endings;
-#[cfg(test)]
-mod evaluation;
 #[cfg(test)]
 mod faults;
 #[cfg(test)]
@@ -24,18 +18,18 @@ mod plans;
 #[cfg(test)]
 mod ranges;
 #[cfg(test)]
-mod readers;
-#[cfg(test)]
 mod requests;
 #[cfg(test)]
 mod result_dims;
+#[cfg(test)]
+mod runs;
 #[cfg(test)]
 mod shards;
 #[cfg(test)]
 mod step_kernels;
 #[cfg(test)]
+mod streams;
+#[cfg(test)]
 mod tensors;
 #[cfg(test)]
 mod texts;
-#[cfg(test)]
-mod writers;

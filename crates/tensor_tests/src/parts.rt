@@ -12,56 +12,52 @@ use std::test::Fail;
 use tensor_ops::{Binary, Expr, PartEvaluator, Reducer, Unary};
 
 /// A value's place, its first index list and the one after the last, and what these give.
-#[derive(Drop)]
-struct Part(u64, u64, u64, i64);
+type Part = (u64, u64, u64, i64);
+
+const SUMS: [Part; 4] = [(0, 0, 3, 6), (0, 0, 2, 3), (1, 2, 3, 6), (1, 1, 1, 0)];
+
+const PRODUCTS: [Part; 3] = [(2, 0, 2, 18), (2, 1, 2, 6), (2, 2, 2, 1)];
+
+const CONTRACTION: [Part; 5] = [
+    (0, 0, 3, 22),
+    (0, 0, 2, 7),
+    (0, 2, 3, 15),
+    (3, 0, 3, 64),
+    (3, 3, 3, 0),
+];
 
 /// Asserts what these parts of an expression's values are.
-fn gives(rt: &impl Abort, alloc: Global, expr: &Expr, parts: &[Part]) -> Result<(), Fail>
+fn gives(
+    rt: &impl Abort,
+    alloc: Global,
+    name: &str,
+    expr: &Expr,
+    parts: &[Part],
+) -> Result<(), Fail>
     requires inputs { IsTrue (has_inputs (term_of expr.now) 4) }
     requires parts { IsTrue (has_parts (term_of expr.now)) }
 {
     let inputs = four_inputs(alloc)?;
     let dims = expr.dims(&inputs)?;
     let evaluator = PartEvaluator::over(alloc, expr, &inputs, &[])?;
-    for Part(place, first, last, value) in parts {
-        if *place >= dims.size() || *first > *last || *last > evaluator.inner() {
+    for &(place, first, last, value) in parts {
+        if place >= dims.size() || first > last || last > evaluator.inner() {
             return Err("there is no such part".into());
         }
-        let found = evaluator.part(*place, *first, *last)?;
-        assert_eq!(rt; found, *value);
+        let found = evaluator.part(place, first, last)?;
+        assert_eq!(rt; found, value, "{name} at {place}, {first} to {last}");
     }
     Ok(())
 }
 
 #[test]
-fn parts_of_sums(rt: HostRuntime) -> Result<(), Fail> {
-    let sums = Unary::Reduce(Reducer::Sum, &[1]).over(rt.alloc(), Expr::Input(0))?;
-    let parts = [
-        Part(0, 0, 3, 6),
-        Part(0, 0, 2, 3),
-        Part(1, 2, 3, 6),
-        Part(1, 1, 1, 0),
-    ];
-    gives(&rt, rt.alloc(), &sums, &parts)
-}
-
-#[test]
-fn parts_of_products(rt: HostRuntime) -> Result<(), Fail> {
-    let products = Unary::Reduce(Reducer::Prod, &[0]).over(rt.alloc(), Expr::Input(0))?;
-    let parts = [Part(2, 0, 2, 18), Part(2, 1, 2, 6), Part(2, 2, 2, 1)];
-    gives(&rt, rt.alloc(), &products, &parts)
-}
-
-#[test]
-fn parts_of_a_contraction(rt: HostRuntime) -> Result<(), Fail> {
+fn parts_of_sums_and_products(rt: HostRuntime) -> Result<(), Fail> {
+    let alloc = rt.alloc();
+    let sums = Unary::Reduce(Reducer::Sum, &[1]).over(alloc, Expr::Input(0))?;
+    gives(&rt, alloc, "sums", &sums, &SUMS)?;
+    let products = Unary::Reduce(Reducer::Prod, &[0]).over(alloc, Expr::Input(0))?;
+    gives(&rt, alloc, "products", &products, &PRODUCTS)?;
     let (first, second) = (Expr::Input(0), Expr::Input(1));
-    let contraction = Binary::Contract(&[(1, 0)]).over(rt.alloc(), first, second)?;
-    let parts = [
-        Part(0, 0, 3, 22),
-        Part(0, 0, 2, 7),
-        Part(0, 2, 3, 15),
-        Part(3, 0, 3, 64),
-        Part(3, 3, 3, 0),
-    ];
-    gives(&rt, rt.alloc(), &contraction, &parts)
+    let contraction = Binary::Contract(&[(1, 0)]).over(alloc, first, second)?;
+    gives(&rt, alloc, "a contraction", &contraction, &CONTRACTION)
 }

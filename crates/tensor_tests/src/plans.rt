@@ -73,10 +73,14 @@ fn has_steps(rt: &impl Abort, alloc: Global, expr: &Expr, count: usize) -> Resul
     work_out(alloc, plan.steps(), &mut tensors)?;
     assert_eq!(rt; tensors.len() as usize, count + 4);
     let last = tensors.get(tensors.len() - 1);
-    assert_eq!(rt; last.dims().as_slice(), whole.dims().as_slice());
-    assert_eq!(rt; last.values(), whole.values());
     let step = &plan.steps()[count - 1];
-    assert_eq!(rt; step.dims().as_slice(), whole.dims().as_slice());
+    let dims = whole.dims().as_slice();
+    let found = (
+        last.dims().as_slice(),
+        step.dims().as_slice(),
+        last.values(),
+    );
+    assert_eq!(rt; found, (dims, dims, whole.values()));
     Ok(())
 }
 
@@ -88,23 +92,19 @@ pub(crate) fn contraction(alloc: Global, first: Expr) -> Result<Expr, AllocError
     Binary::Contract(&[(1, 0)]).over(alloc, first, Expr::Input(1))
 }
 
-#[test]
-fn steps_of_the_root_alone(rt: HostRuntime) -> Result<(), Fail> {
-    let alloc = rt.alloc();
-    has_steps(&rt, alloc, &Expr::Input(0), 1)?;
-    has_steps(&rt, alloc, &contraction(alloc, Expr::Input(0))?, 1)
-}
-
 /// A sum is a step, and so is what adds to it.
 #[test]
-fn steps_of_a_sum_and_more(rt: HostRuntime) -> Result<(), Fail> {
+fn steps_of_few_operations(rt: HostRuntime) -> Result<(), Fail> {
     let alloc = rt.alloc();
+    has_steps(&rt, alloc, &Expr::Input(0), 1)?;
+    has_steps(&rt, alloc, &contraction(alloc, Expr::Input(0))?, 1)?;
     let sum = Unary::Reduce(Reducer::Sum, &[0]).over(alloc, Expr::Input(2))?;
     let both = Binary::Pairwise(BinaryScalar::Add).over(alloc, sum, Expr::Input(3))?;
     has_steps(&rt, alloc, &both, 2)
 }
 
-/// A negation, its contraction, the squares of that, their greatest, and its product with an input.
+/// A negation, its contraction, the squares of that, their greatest, and its product with an input;
+/// and a negation, its convolution, and zeroes round that.
 #[test]
 fn steps_of_nested_operations(rt: HostRuntime) -> Result<(), Fail> {
     let alloc = rt.alloc();
@@ -113,13 +113,7 @@ fn steps_of_nested_operations(rt: HostRuntime) -> Result<(), Fail> {
     let squares = Unary::Each(UnaryScalar::Square).over(alloc, contracted)?;
     let greatest = Unary::Reduce(Reducer::Max, &[1]).over(alloc, squares)?;
     let product = Binary::Pairwise(BinaryScalar::Mul).over(alloc, greatest, Expr::Input(2))?;
-    has_steps(&rt, alloc, &product, 5)
-}
-
-/// A negation, its convolution, and zeroes round that.
-#[test]
-fn steps_of_a_convolution(rt: HostRuntime) -> Result<(), Fail> {
-    let alloc = rt.alloc();
+    has_steps(&rt, alloc, &product, 5)?;
     let negation = Unary::Each(UnaryScalar::Neg).over(alloc, Expr::Input(0))?;
     let slid = Binary::Convolve(&[0]).over(alloc, negation, Expr::Input(2))?;
     let framed = Unary::Pad(&[(1, 0), (0, 1)]).over(alloc, slid)?;

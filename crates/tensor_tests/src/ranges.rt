@@ -16,7 +16,7 @@ fn gives(
     first: u32,
     values: &[i64],
 ) -> Result<(), Fail> {
-    let text = request(alloc, inputs, expr)?;
+    let text = request(alloc, 1, inputs, expr)?;
     let request = read_request(alloc, text.as_bytes())?;
     let first = u64::from(first);
     let last = first + values.len() as u64;

@@ -22,11 +22,11 @@ fn reads_a_request(rt: HostRuntime) -> Result<(), Fail> {
     let numbers = (request.workers, request.block, inputs.len());
     assert_eq!(rt; numbers, (2, 4, 2));
     let values = (inputs.get(0).values(), inputs.get(1).values());
-    assert_eq!(rt; values, ([5, 6].as_slice(), [-7].as_slice()));
     let operands = match &request.expr {
         Expr::Add(left, right) => (input_of(left), input_of(right)),
         _ => (None, None),
     };
-    assert_eq!(rt; operands, (Some(1), Some(1)));
+    let known = ([5, 6].as_slice(), [-7].as_slice());
+    assert_eq!(rt; (values, operands), (known, (Some(1), Some(1))));
     Ok(())
 }

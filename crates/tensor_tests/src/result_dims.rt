@@ -29,31 +29,27 @@ fn fault_of(
     Ok(moved.dims(inputs).err())
 }
 
+/// Movements of 2 by 3 that there are no dims of, and why, by number.
+const FAULTS: [(Movement<'static>, ExprFault, u8); 3] = [
+    (Movement::Shuffle(&[0, 1, 2]), ExprFault::ShapeMismatch, 1),
+    (Movement::Chip(2, 0), ExprFault::OutOfRange, 2),
+    (Movement::Reshape(&[1048577]), ExprFault::TooLarge, 3),
+];
+
 #[test]
 fn dims_that_there_are_none_of(rt: HostRuntime) -> Result<(), Fail> {
     let inputs = two_by_three(rt.alloc())?;
-    let found = [
-        fault_of(rt.alloc(), &inputs, Movement::Shuffle(&[0, 1, 2]))?,
-        fault_of(rt.alloc(), &inputs, Movement::Chip(2, 0))?,
-        fault_of(rt.alloc(), &inputs, Movement::Reshape(&[1048577]))?,
-    ];
-    let faults = [
-        ExprFault::ShapeMismatch,
-        ExprFault::OutOfRange,
-        ExprFault::TooLarge,
-    ];
-    assert_eq!(rt; found, [Some(faults[0]), Some(faults[1]), Some(faults[2])]);
-    assert_eq!(rt;
-        [faults[0] as u8, faults[1] as u8, faults[2] as u8],
-        [1, 2, 3]
-    );
+    for (movement, fault, number) in FAULTS {
+        let found = fault_of(rt.alloc(), &inputs, movement)?;
+        assert_eq!(rt; (found, fault as u8), (Some(fault), number));
+    }
     Ok(())
 }
 
 #[test]
 fn dims_over_those_of_the_operands(rt: HostRuntime) -> Result<(), Fail> {
     let inputs = r#"{"a":{"dims":[2,3],"data":[1,2,3,4,5,6]}}"#;
-    let text = request(rt.alloc(), inputs, r#"["chip",["add","a","a"],2,1]"#)?;
+    let text = request(rt.alloc(), 1, inputs, r#"["chip",["add","a","a"],2,1]"#)?;
     let request = read_request(rt.alloc(), text.as_bytes())?;
     match &request.expr {
         Expr::Chip(operand, _, _) => {
@@ -65,14 +61,6 @@ fn dims_over_those_of_the_operands(rt: HostRuntime) -> Result<(), Fail> {
         _ => assert!(rt; false, "the expression is no chip"),
     }
     Ok(())
-}
-
-/// The fault of a reshape of the input to so many ones.
-fn fault_at_rank(alloc: Global, inputs: &Inputs, rank: usize) -> Result<Option<ExprFault>, Fail>
-    requires { length inputs.now.tensors ≡ 1 }
-{
-    let ones = vec![in alloc; 1; rank]?;
-    fault_of(alloc, inputs, Movement::Reshape(&ones))
 }
 
 /// One number, in results of this rank at most.
@@ -89,15 +77,15 @@ fn one_number(alloc: Global, limit: u32) -> Result<Inputs, Fail>
 fn results_within_the_rank_of_the_inputs(rt: HostRuntime) -> Result<(), Fail> {
     let six = one_number(rt.alloc(), 6)?;
     let eight = one_number(rt.alloc(), 8)?;
-    assert_eq!(rt; (six.rank_limit(), eight.rank_limit()), (6, 8));
     let found = [
-        fault_at_rank(rt.alloc(), &six, 6)?,
-        fault_at_rank(rt.alloc(), &six, 7)?,
-        fault_at_rank(rt.alloc(), &eight, 8)?,
-        fault_at_rank(rt.alloc(), &eight, 9)?,
+        fault_of(rt.alloc(), &six, Movement::Reshape(&[1; 6]))?,
+        fault_of(rt.alloc(), &six, Movement::Reshape(&[1; 7]))?,
+        fault_of(rt.alloc(), &eight, Movement::Reshape(&[1; 8]))?,
+        fault_of(rt.alloc(), &eight, Movement::Reshape(&[1; 9]))?,
     ];
+    let limits = (six.rank_limit(), eight.rank_limit());
     let large = Some(ExprFault::TooLarge);
-    assert_eq!(rt; found, [None, large, None, large]);
+    assert_eq!(rt; (limits, found), ((6, 8), [None, large, None, large]));
     Ok(())
 }
 
@@ -107,7 +95,7 @@ fn dims_of_the_largest_contraction(rt: HostRuntime) -> Result<(), Fail> {
     let square = r#"["broadcast","a",[1024,1024]]"#;
     let expr = format!(in rt.alloc(); r#"["contract",{square},{square},[[1,0]]]"#)?;
     let inputs = r#"{"a":{"dims":[1,1],"data":[1]}}"#;
-    let text = request(rt.alloc(), inputs, expr.as_str())?;
+    let text = request(rt.alloc(), 1, inputs, expr.as_str())?;
     let request = read_request(rt.alloc(), text.as_bytes())?;
     let dims = request.expr.dims(&request.inputs)?;
     assert_eq!(rt; dims.as_slice(), [1024, 1024].as_slice());

@@ -71,13 +71,28 @@ fn values_of_a_step_in_two_ranges(rt: HostRuntime) -> Result<(), Fail> {
     Ok(())
 }
 
-/// What is answered for the squares on so many workers, by blocks of so many places.
-fn run_squares<RT: Threads + Wait + Sync>(
+/// Numbers of workers, blocks, and why the plan of the squares isn't run. By number: the block
+/// before the workers.
+const RUNS: [(u32, u64, Option<ForFault>); 9] = [
+    (1, 1, None),
+    (1, 100, None),
+    (2, 1, None),
+    (3, 3, None),
+    (64, 2, None),
+    (0, 0, Some(ForFault::BadBlock)),
+    (1, 0, Some(ForFault::BadBlock)),
+    (0, 1, Some(ForFault::Pool(PoolFault::BadWorkers))),
+    (257, 1, Some(ForFault::Pool(PoolFault::BadWorkers))),
+];
+
+/// Asserts what is answered for the squares on so many workers, by blocks of so many places.
+fn runs_squares<RT: Threads + Wait + Abort + Sync>(
     rt: &RT,
     alloc: Global,
     workers: u32,
     block: u64,
-) -> Result<Result<Vec<i64>, ForFault>, Fail> {
+    fault: Option<ForFault>,
+) -> Result<(), Fail> {
     let inputs = four_inputs(alloc)?;
     let expr = squares(alloc)?;
     expr.dims(&inputs)?;
@@ -89,32 +104,20 @@ fn run_squares<RT: Threads + Wait + Sync>(
         workers,
         partitions: Vec::new(alloc),
     };
-    match run_plan(rt, alloc, &setup, block, &plan, &inputs) {
-        Ok(tensor) => Ok(Ok(tensor.values().to_vec(alloc)?)),
-        Err(fault) => Ok(Err(fault)),
-    }
+    let ended = run_plan(rt, alloc, &setup, block, &plan, &inputs);
+    let found = match &ended {
+        Ok(tensor) => (tensor.values(), None),
+        Err(fault) => ([].as_slice(), Some(*fault)),
+    };
+    let values: &[i64] = if fault.is_none() { &SQUARES } else { &[] };
+    assert_eq!(rt; found, (values, fault), "{workers} workers by {block}");
+    Ok(())
 }
 
 #[test]
 fn tensor_of_a_plan(rt: HostRuntime) -> Result<(), Fail> {
-    for (workers, block) in [(1, 1), (1, 100), (2, 1), (3, 3), (64, 2)] {
-        let values = run_squares(&rt, rt.alloc(), workers, block)??;
-        assert_eq!(rt; values.as_slice(), SQUARES.as_slice());
-    }
-    Ok(())
-}
-
-/// By number: the block before the workers.
-#[test]
-fn faults_of_a_plan(rt: HostRuntime) -> Result<(), Fail> {
-    for (workers, block, fault) in [
-        (0, 0, ForFault::BadBlock),
-        (1, 0, ForFault::BadBlock),
-        (0, 1, ForFault::Pool(PoolFault::BadWorkers)),
-        (257, 1, ForFault::Pool(PoolFault::BadWorkers)),
-    ] {
-        let ended = run_squares(&rt, rt.alloc(), workers, block)?;
-        assert_eq!(rt; ended.err(), Some(fault));
+    for (workers, block, fault) in RUNS {
+        runs_squares(&rt, rt.alloc(), workers, block, fault)?;
     }
     Ok(())
 }

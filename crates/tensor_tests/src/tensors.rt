@@ -21,11 +21,11 @@ fn value_at_an_index_list(rt: HostRuntime) -> Result<(), Fail> {
 #[test]
 fn inputs_by_number(rt: HostRuntime) -> Result<(), Fail> {
     let mut inputs = Inputs::new(Vec::new(rt.alloc()));
-    assert_eq!(rt; (inputs.is_empty(), inputs.len()), (true, 0));
+    let before = (inputs.is_empty(), inputs.len());
     inputs.push(Tensor::new(Dims::new(&[2])?, vec![in rt.alloc(); 7, 8]?))?;
     inputs.push(Tensor::new(Dims::new(&[])?, vec![in rt.alloc(); 9]?))?;
-    assert_eq!(rt; (inputs.is_empty(), inputs.len()), (false, 2));
-    assert_eq!(rt; inputs.rank_limit(), 6);
+    let after = (inputs.is_empty(), inputs.len(), inputs.rank_limit());
+    assert_eq!(rt; (before, after), ((true, 0), (false, 2, 6)));
     let values = (inputs.get(0).values(), inputs.get(1).values());
     assert_eq!(rt; values, ([7, 8].as_slice(), [9].as_slice()));
     Ok(())

@@ -1,7 +1,7 @@
 -- The World keeps its sizes, and each seat stays one of the tables.
 use Rattle.std.proofs.Common.{◌≡◌, ◌+◌, All, length}
-use Rattle.event_count.specs.Seats.{sizes_of, IsSeatOf}
-use Rattle.run_queue.specs.SlotSeats.{table_of, rows_id, row_count_of}
+use Rattle.event_count.specs.Seats.{IsSeatOf}
+use Rattle.run_queue.specs.SlotSeats.{table_of, rows_id}
 use Rattle.pool_part_tests.proofs.replays.replay.Given as goal
 
 abbrev pub invariant-loop-next : goal.invariant-loop-next
@@ -9,9 +9,6 @@ invariant-loop-next g l = record {
   workers : length l.world.phases ≡ l.tables.sizes.workers;
   actors : length l.world.owed ≡ l.tables.sizes.workers + l.tables.sizes.notifiers;
   lengths : length l.world.lengths ≡ l.tables.sizes.rows;
-  same : l.tables.sizes ≡ l.initial.tables.sizes;
-  seats : All (IsSeatOf l.tables.count) l.tables.seats.items;
-  waiters : (sizes_of l.tables.count).waiters ≡ l.tables.sizes.workers;
-  row_seats : All (λ s. table_of s ≡ rows_id l.tables.rows) l.tables.row_seats.items;
-  rows : row_count_of l.tables.rows ≡ l.tables.sizes.rows;
+  of_count : All (IsSeatOf l.tables.count) l.seats.of_count.items;
+  of_rows : All (λ s. table_of s ≡ rows_id l.tables.rows) l.seats.of_rows.items;
 }

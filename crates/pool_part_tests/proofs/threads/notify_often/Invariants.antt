@@ -8,5 +8,5 @@ invariant-loop g l = record {
   finite : (goal.iterator-loop g).is_finite l.iterator';
   of : IsSeatOf l.count l.seat;
   idle : IsIdle l.seat;
-  told : l.told ≤ l.wanted;
+  told : l.told ≤ l.run.notices;
 }

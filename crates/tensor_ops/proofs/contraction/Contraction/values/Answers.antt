@@ -27,5 +27,5 @@ returns g c =
     (λ k below.
     ap (λ k. get_or all k (pos 0)) (omega arith)
     ∙ get_or_append_left out (drop (length out) c.in_ok-values.values.items) (pos 0) k (omega arith)
-    ∙ c.fill.ensures.each k (omega (arith, c.fill.ensures.len)))
+    ∙ c.in_ok-fill.ensures.each k (omega (arith, c.fill.ensures.len)))
     ∙ ap (λ n. map (contraction_value c.args.self.now) (range_with_len c.args.first n)) count

@@ -22,6 +22,6 @@ loop-place-preserved c =
           ∙ l.len;
       each = get_or-written first place count out part l.above within c.fill_columns.ensures.len
           (tiled_value c.args.self.now) l.each
-          (λ k few. c.fill_columns.ensures.each k few
+          (λ k few. c.in_ok-fill_columns.ensures.each k few
           ∙ ap (tiled_value c.args.self.now) (line-place (4 * c.args.self.now.rows) place k));
     }

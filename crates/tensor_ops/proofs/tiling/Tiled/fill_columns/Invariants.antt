@@ -1,12 +1,18 @@
--- The rows of the tiles before s.
-use Rattle.std.proofs.Common.{◌≡◌, ℕ, ◌+◌, ◌*◌, ◌%◌, ◌<◌, length}
+-- The sums of the chunks before c.
+use Rattle.std.proofs.Common.{◌≡◌, ℕ, ◌+◌, ◌*◌, ◌<◌, length}
+use Rattle.tensor_shape.specs.Wrap.{wrap}
+use Rattle.tensor_ops.specs.Chunks.{before, chunk_start}
 use Rattle.tensor_ops.specs.Places.{value_in}
-use Rattle.tensor_ops.specs.Tiling.{tiled_value}
+use Rattle.tensor_ops.specs.Products.{sum_to}
+use Rattle.tensor_ops.specs.Rows.{row_length}
+use Rattle.tensor_ops.proofs.ChunkSums.{product_at}
 use Rattle.tensor_ops.proofs.tiling.Tiled.fill_columns.Given as goal
 
-abbrev pub invariant-loop-s : goal.invariant-loop-s
-invariant-loop-s l = record {
+abbrev pub invariant-loop-c : goal.invariant-loop-c
+invariant-loop-c l = record {
   len : length l.out ≡ length l.initial.out;
-  each : (k : ℕ) → k < length l.initial.out → (l.from + k) % l.self.rows < l.s * 4
-      → value_in l.out k ≡ tiled_value l.self (l.panel * (4 * l.self.rows) + (l.from + k));
+  sums : (k : ℕ) → k < length l.initial.out → before l.c (value_in l.out k)
+      ≡ wrap (sum_to (product_at l.self.first l.self.second
+      (l.panel * (4 * l.self.rows) + (l.from + k)))
+      (chunk_start (row_length l.self.first) l.c));
 }

@@ -1,0 +1,6 @@
+-- The seat stays one of the rows.
+use Rattle.std.proofs.Common.{◌≡◌}
+use Rattle.pool_part_tests.proofs.rows.fill.Given as goal
+
+abbrev pub invariant-loop-job : goal.invariant-loop-job
+invariant-loop-job g l = g.Q.Rows.rows_of l.seat ≡ g.Q.Rows.rows_of l.initial.seat

@@ -1,0 +1,180 @@
+//! The calls of a row of one thread and of an owner's row of slots, and what they answer.
+ghost use Rattle.std.specs.Prelude.{◌≡◌};
+ghost use Rattle.run_queue.specs.SlotSeats.{table_of, number_in, rows_id, row_count_of};
+
+use crate::told::expect;
+use run_queue::{Deque, SlotRows, SlotSeat};
+use std::alloc::Global;
+use std::process::Abort;
+use std::sync::Wait;
+
+/// A call on a row, and what it answers.
+#[derive(Clone, Copy)]
+enum Call {
+    /// So many jobs, from 0 on, are pushed at the front, which has room for them.
+    Fills(u32),
+    PushFront(u32, Result<(), u32>),
+    PushBack(u32, Result<(), u32>),
+    PopFront(Option<u32>),
+    PopBack(Option<u32>),
+    Len(usize),
+}
+
+/// Calls on a new row. So many jobs are left then.
+struct Story {
+    name: &'static str,
+    calls: &'static [Call],
+    left: usize,
+}
+
+const STORIES: [Story; 2] = [
+    Story {
+        name: "full row gives the job back",
+        calls: &[
+            Call::Fills(1024),
+            Call::PushFront(5000, Err(5000)),
+            Call::PushBack(5001, Err(5001)),
+            Call::Len(1024),
+            Call::PopBack(Some(0)),
+            Call::PushBack(5002, Ok(())),
+            Call::PopBack(Some(5002)),
+            Call::PushFront(5003, Ok(())),
+            Call::PopFront(Some(5003)),
+            Call::PopFront(Some(1023)),
+            Call::Len(1022),
+        ],
+        left: 1022,
+    },
+    Story {
+        name: "both ends",
+        calls: &[
+            Call::Len(0),
+            Call::PopFront(None),
+            Call::PopBack(None),
+            Call::PushFront(1, Ok(())),
+            Call::PushFront(2, Ok(())),
+            Call::PushBack(3, Ok(())),
+            Call::PopFront(Some(2)),
+            Call::PopBack(Some(3)),
+            Call::Len(1),
+            // The one that is left lies where both positions of a row of slots began.
+            Call::PopBack(Some(1)),
+            Call::PopFront(None),
+            Call::Len(0),
+        ],
+        left: 0,
+    },
+];
+
+// Whether a row has room for so many jobs.
+fn fill_row(row: &mut Deque<u32>, jobs: u32) -> bool {
+    let mut has_room = true;
+    for job in 0..jobs {
+        has_room = row.push_front(job) == Ok(()) && has_room;
+    }
+    has_room
+}
+
+// Whether a row answers as the call says.
+fn row_answers(row: &mut Deque<u32>, call: Call) -> bool {
+    match call {
+        Call::Fills(jobs) => fill_row(row, jobs),
+        Call::PushFront(job, told) => row.push_front(job) == told,
+        Call::PushBack(job, told) => row.push_back(job) == told,
+        Call::PopFront(told) => row.pop_front() == told,
+        Call::PopBack(told) => row.pop_back() == told,
+        Call::Len(told) => row.len() == told && row.is_empty() == (told == 0),
+    }
+}
+
+// Makes the calls of a story on a row, and stops where one is answered otherwise.
+fn tell_row<R: Abort>(rt: &R, alloc: Global, story: &Story) {
+    let Ok(mut row) = Deque::new(alloc) else {
+        panic!(rt; "no row")
+    };
+    let mut place: u64 = 0;
+    for call in story.calls {
+        expect(rt, row_answers(&mut row, *call), story.name, place);
+        place = place.saturating_add(1);
+    }
+    expect(rt, row.len() == story.left, story.name, place);
+}
+
+// Whether the row of slots of this owner has room for so many jobs.
+fn fill_slots(rows: &SlotRows<u32>, owner: &mut SlotSeat<u32>, jobs: u32) -> bool
+    requires of { table_of owner.old ≡ rows_id rows.now }
+    requires row { row_count_of rows.now ≡ 1 }
+    requires number { number_in owner.old ≡ 0 }
+    ensures of { table_of owner.new ≡ table_of owner.old }
+    ensures number { number_in owner.new ≡ 0 }
+{
+    let mut has_room = true;
+    for job in 0..jobs {
+        has_room = rows.push_front(owner, job) == Ok(()) && has_room;
+    }
+    has_room
+}
+
+// Whether rows of slots answer the owner of the one row as the call says.
+fn slots_answer<R: Wait>(
+    rt: &R,
+    rows: &SlotRows<u32>,
+    owner: &mut SlotSeat<u32>,
+    call: Call,
+) -> bool
+    requires of { table_of owner.old ≡ rows_id rows.now }
+    requires row { row_count_of rows.now ≡ 1 }
+    requires number { number_in owner.old ≡ 0 }
+    ensures of { table_of owner.new ≡ table_of owner.old }
+    ensures number { number_in owner.new ≡ 0 }
+{
+    match call {
+        Call::Fills(jobs) => fill_slots(rows, owner, jobs),
+        Call::PushFront(job, told) => rows.push_front(owner, job) == told,
+        Call::PushBack(job, told) => rows.push_back(rt, owner, 0, job) == told,
+        Call::PopFront(told) => rows.pop_front(owner) == told,
+        Call::PopBack(told) => rows.pop_back(rt, owner, 0) == told,
+        Call::Len(told) => rows.length(owner, 0) == told as u64,
+    }
+}
+
+// The owner of the one row makes the calls of a story.
+fn make_calls<R: Wait + Abort>(
+    rt: &R,
+    rows: &SlotRows<u32>,
+    owner: &mut SlotSeat<u32>,
+    story: &Story,
+)
+    requires of { table_of owner.old ≡ rows_id rows.now }
+    requires row { row_count_of rows.now ≡ 1 }
+    ensures of { table_of owner.new ≡ table_of owner.old }
+{
+    assert!(rt; owner.number() == 0);
+    let mut place: u64 = 0;
+    for call in story.calls {
+        expect(rt, slots_answer(rt, rows, owner, *call), story.name, place);
+        place = place.saturating_add(1);
+    }
+}
+
+// Makes the calls of a story on a row of slots, and closes it.
+fn tell_slots<R: Wait + Abort>(rt: &R, alloc: Global, story: &Story) {
+    let Ok((rows, mut seats)) = SlotRows::<u32>::open(alloc, 1, 0) else {
+        panic!(rt; "no rows")
+    };
+    assert!(rt; seats.len() == 1);
+    make_calls(rt, &rows, &mut seats[0], story);
+    assert!(rt;
+        rows.close(seats).len() == story.left,
+        "{} leaves jobs",
+        story.name
+    );
+}
+
+#[test]
+fn calls_on_a_row_of_one_thread_and_of_slots(rt: HostRuntime) {
+    for story in &STORIES {
+        tell_row(&rt, rt.alloc(), story);
+        tell_slots(&rt, rt.alloc(), story);
+    }
+}

@@ -1,0 +1,183 @@
+//! The settings of pools in which each task is run once.
+use crate::runs::{Kind, RUN, Run, Tasks, expect_each_once, expect_run, run_tasks};
+use crate::setups::setup_of;
+use crate::tasks::looking;
+use crate::watch::{Watch, Way, wait_for};
+use event_count::LockedCount;
+use run_queue::LockedRows;
+use std::sync::Arc;
+use std::sync::atomic::{AtomicU64, Ordering};
+use std::test::Fail;
+use worker_pool::{BoxedJob, PoolFault, VecLists, with_root};
+
+/// Two tasks, the pool being cancelled between them.
+const BETWEEN: Run = Run {
+    name: "a cancel between two",
+    first: 1,
+    tasks: 2,
+    times: 1000,
+    ..RUN
+};
+
+/// One task more than a row has places, while the worker is held.
+const FULL: Run = Run {
+    name: "a full row",
+    way: Way::Held,
+    first: 1025,
+    tasks: 1025,
+    ..RUN
+};
+
+/// Two tasks that two workers run at one time.
+const MEETING: Run = Run {
+    name: "two tasks meet",
+    workers: 2,
+    scheduled: Tasks::Meeting,
+    first: 2,
+    tasks: 2,
+    ..RUN
+};
+
+const RUNS: [Run; 9] = [
+    MEETING,
+    Run {
+        name: "two tasks meet over slots",
+        kind: Kind::OverSlots,
+        ..MEETING
+    },
+    BETWEEN,
+    Run {
+        name: "a cancel between two on two workers",
+        workers: 2,
+        ..BETWEEN
+    },
+    Run {
+        name: "a cancel between two on 64 workers",
+        workers: 64,
+        ..BETWEEN
+    },
+    // The caller runs the one more.
+    Run {
+        by_workers: Some(1024),
+        ..FULL
+    },
+    Run {
+        name: "a full row over slots",
+        kind: Kind::OverSlots,
+        ..FULL
+    },
+    // So a pool that keeps its jobs elsewhere than in its rows is found out.
+    Run {
+        name: "rows that take no task",
+        kind: Kind::OwnRows,
+        by_workers: Some(0),
+        ..RUN
+    },
+    // The worker goes to sleep once at most. After that it turns on, and runs what comes.
+    Run {
+        name: "a worker that can not sleep",
+        kind: Kind::Worn,
+        way: Way::Apart,
+        first: 16,
+        tasks: 16,
+        ..RUN
+    },
+];
+
+#[test]
+fn each_task_is_run_once(rt: HostRuntime) -> Result<(), Fail> {
+    for run in RUNS {
+        expect_run(&rt, rt.alloc(), run)?;
+    }
+    Ok(())
+}
+
+/// Pools in which three tasks are scheduled: their workers, the rows of their partitions, how many
+/// workers are started if not all are, and how many tasks the workers run if that is known.
+const SETTINGS: [(&str, u32, &[(u32, u32)], Option<u32>, Option<u64>); 9] = [
+    ("one worker", 1, &[], None, None),
+    ("two workers", 2, &[], None, None),
+    ("64 workers", 64, &[], None, None),
+    ("a partition for each", 2, &[(0, 1), (1, 2)], None, None),
+    ("none of two started", 2, &[], Some(0), Some(0)),
+    ("one of two started", 2, &[], Some(1), None),
+    ("two of two started", 2, &[], Some(2), None),
+    ("three of two started", 2, &[], Some(3), None),
+    ("all of two started", 2, &[], Some(u32::MAX), None),
+];
+
+/// What the workers wait at, and how many tasks are scheduled before the pool is cancelled.
+const MOMENTS: [(Kind, u64); 4] = [
+    (Kind::UnderLocks, 3),
+    (Kind::UnderLocks, 0),
+    (Kind::OverSlots, 3),
+    (Kind::OverSlots, 0),
+];
+
+// In an open pool each task is run once; a cancel before the first may leave it.
+#[test]
+fn three_tasks_in_each_setting(rt: HostRuntime) -> Result<(), Fail> {
+    for (name, workers, ranges, starts, by_workers) in SETTINGS {
+        for (kind, first) in MOMENTS {
+            let run = Run {
+                name,
+                kind,
+                workers,
+                ranges,
+                starts,
+                first,
+                by_workers,
+                ..RUN
+            };
+            expect_run(&rt, rt.alloc(), run)?;
+        }
+    }
+    Ok(())
+}
+
+/// How often the opener looks whether the task runs while all workers are held.
+const EARLY_LOOKS: u64 = 1_000_000;
+
+// The workers are let go once the task could have run. It is run by one of them, and by none before
+// its turn 0 was let through.
+#[test]
+fn a_gate_that_holds_the_first_turns(rt: HostRuntime) -> Result<(), Fail> {
+    let alloc = rt.alloc();
+    let run = Run {
+        name: "a root while all workers are held",
+        workers: 2,
+        first: 1,
+        tasks: 1,
+        by_workers: Some(1),
+        ..RUN
+    };
+    let setup = setup_of(alloc, run.workers, run.ranges)?;
+    let watch = Watch::new(alloc, Way::Held, None)?;
+    let ran = Arc::new(alloc, AtomicU64::new(0))?;
+    let root = looking(alloc, &ran, &watch.let_go)?;
+    let closed = with_root::<LockedCount, LockedRows<BoxedJob>, VecLists, _, _, _, _, _>(
+        &rt,
+        alloc,
+        &setup,
+        &(),
+        &watch,
+        root,
+        || {
+            wait_for(&ran, EARLY_LOOKS);
+            watch.let_go.store(1, Ordering::SeqCst);
+        },
+    )?;
+    expect_each_once(&rt, alloc, run, &closed, watch.seen())
+}
+
+// Rows for more than one worker find no memory.
+#[test]
+fn rows_that_find_no_memory(rt: HostRuntime) -> Result<(), Fail> {
+    let alloc = rt.alloc();
+    let setup = setup_of(alloc, 2, &[])?;
+    let watch = Watch::new(alloc, Way::AtOnce, None)?;
+    let (first, cancelled) = (Vec::new(alloc), Vec::new(alloc));
+    let closed = run_tasks(&rt, alloc, Kind::OwnRows, &setup, &watch, first, cancelled);
+    assert_eq!(rt; closed.err(), Some(PoolFault::NoMemory));
+    Ok(())
+}

@@ -1,0 +1,225 @@
+//! Jobs that fork into trees, and the pools that run them.
+use crate::bodies::run_all;
+use crate::setups::setup_of;
+use crate::watch::{Watch, Way};
+use crate::worn::Worn;
+use event_count::{EventCount, LockedCount};
+use run_queue::{LockedRows, SlotRows};
+use std::alloc::{AllocError, Global};
+use std::process::Abort;
+use std::sync::Wait;
+use std::test::Fail;
+use std::thread::Threads;
+use worker_pool::{Closed, Job, NoGate, PoolFault, Progress, Setup, VecLists, with_root};
+
+/// The leaves of a tree, each by its place. A tree of height 0 is a leaf. The leaf at the context's
+/// place finds no memory.
+#[derive(Drop)]
+pub(crate) struct Tree {
+    place: u64,
+    height: u32,
+}
+
+impl Job<Global> for Tree {
+    type Ctx = Option<u64>;
+
+    type Out = u64;
+
+    type Abandoned = ();
+
+    ghost weight_of = { λ tree. tree.height };
+
+    ghost allows = { λ _ _ _. Unit {0} };
+
+    ghost abandons = { λ _ _ _. Unit {0} };
+
+    fn weight(&self) -> u64 {
+        u64::from(self.height)
+    }
+
+    fn step(
+        self,
+        _alloc: Global,
+        refused: &Option<u64>,
+    ) -> Result<Progress<Tree, u64>, AllocError> {
+        let Some(height) = self.height.checked_sub(1) else {
+            if Some(self.place) == *refused {
+                return Err(AllocError);
+            }
+            return Ok(Progress::Done(self.place));
+        };
+        let place = self.place.wrapping_mul(2);
+        let kid = Tree { place, height };
+        let place = place.wrapping_add(1);
+        let rest = Tree { place, height };
+        Ok(Progress::Fork { kid, rest })
+    }
+
+    fn abandon(self, _refused: &Option<u64>) {}
+}
+
+/// How a pool for a tree is opened, what its workers wait at, and take jobs from.
+#[derive(Clone, Copy)]
+pub(crate) enum Kind {
+    /// For the tree, under locks.
+    Planted,
+    UnderLocks,
+    OverSlots,
+    /// Over slots, where each worker can go to sleep once at most.
+    Worn,
+}
+
+/// What a pool leaves of a tree of this height, of which the leaf at a place finds no memory.
+pub(crate) fn grow<RT: Threads + Wait + Sync>(
+    rt: &RT,
+    alloc: Global,
+    kind: Kind,
+    setup: &Setup,
+    height: u32,
+    refused: Option<u64>,
+) -> Result<Closed<Tree>, PoolFault> {
+    let watch = Watch::new(alloc, Way::AtOnce, None)?;
+    let none = Vec::new(alloc);
+    let root = Tree { place: 0, height };
+    if matches!(kind, Kind::Planted) {
+        return with_root::<LockedCount, LockedRows<Tree>, VecLists, RT, Tree, Global, NoGate, _>(
+            rt,
+            alloc,
+            setup,
+            &refused,
+            &NoGate,
+            root,
+            || {},
+        );
+    }
+    let mut first = Vec::with_capacity(alloc, 1)?;
+    first.push_reserved(root);
+    match kind {
+        Kind::OverSlots => run_all::<EventCount, SlotRows<Tree>, VecLists, RT, Tree>(
+            rt, alloc, setup, &refused, &watch, first, none,
+        ),
+        Kind::Worn => run_all::<Worn, SlotRows<Tree>, VecLists, RT, Tree>(
+            rt, alloc, setup, &refused, &watch, first, none,
+        ),
+        _ => run_all::<LockedCount, LockedRows<Tree>, VecLists, RT, Tree>(
+            rt, alloc, setup, &refused, &watch, first, none,
+        ),
+    }
+}
+
+/// The first place that isn't the next leaf's, where one leaf is left out.
+fn first_wrong(places: &[u64], left_out: Option<u64>) -> Option<u64> {
+    let mut next = 0u64;
+    for place in places {
+        if Some(next) == left_out {
+            next = next.wrapping_add(1);
+        }
+        if *place != next {
+            return Some(*place);
+        }
+        next = next.wrapping_add(1);
+    }
+    None
+}
+
+/// A pool leaves each of so many leaves once, in a list for each of its workers and one for the
+/// caller. A leaf without memory is counted.
+fn expect_leaves<RT>(
+    rt: &RT,
+    alloc: Global,
+    (name, kind, workers, height, leaves): (&str, Kind, u32, u32, u64),
+    refused: Option<u64>,
+) -> Result<(), Fail>
+where
+    RT: Threads + Wait + Abort + Sync,
+{
+    let setup = setup_of(alloc, workers, &[])?;
+    let closed = grow(rt, alloc, kind, &setup, height, refused)?;
+    let lists = closed.outs.len() as u64;
+    let rest = (closed.left.len(), closed.refused);
+    let mut places = Vec::new(alloc);
+    for list in closed.outs {
+        places.extend(list)?;
+    }
+    places.sort_unstable();
+    let found = (
+        lists,
+        places.len() as u64,
+        rest,
+        first_wrong(&places, refused),
+    );
+    let without = if refused.is_some() { 1 } else { 0 };
+    let wanted = (u64::from(workers) + 1, leaves, (0, without), None);
+    assert_eq!(rt; found, wanted, "{name} on {workers} workers, {refused:?}");
+    Ok(())
+}
+
+/// Pools, their workers, the heights of their trees, how many leaves these have, and how often a
+/// pool is opened for them.
+const TREES: [(&str, Kind, u32, u32, u64, u32); 10] = [
+    ("scheduled", Kind::UnderLocks, 1, 16, 65_536, 1),
+    ("scheduled", Kind::UnderLocks, 2, 16, 65_536, 1),
+    ("scheduled", Kind::UnderLocks, 64, 16, 65_536, 1),
+    ("planted", Kind::Planted, 1, 16, 65_536, 1),
+    ("planted", Kind::Planted, 2, 16, 65_536, 1),
+    ("planted", Kind::Planted, 64, 16, 65_536, 1),
+    ("a million over slots", Kind::OverSlots, 8, 20, 1_048_576, 1),
+    (
+        "a million under locks",
+        Kind::UnderLocks,
+        8,
+        20,
+        1_048_576,
+        1,
+    ),
+    ("without sleep", Kind::Worn, 4, 12, 4_096, 1),
+    ("again and again", Kind::OverSlots, 1, 0, 1, 10_000),
+];
+
+#[test]
+fn each_leaf_of_trees(rt: HostRuntime) -> Result<(), Fail> {
+    for (name, kind, workers, height, leaves, times) in TREES {
+        for _ in 0..times {
+            let tree = (name, kind, workers, height, leaves);
+            expect_leaves(&rt, rt.alloc(), tree, None)?;
+        }
+    }
+    Ok(())
+}
+
+/// The workers of pools, and how often one is opened for a leaf.
+const OPENINGS: [(u32, u32); 2] = [
+    (2, 10_000),
+    // Fewer, since starting 256 threads takes longest.
+    (256, 100),
+];
+
+// One test of all openings would take too long.
+#[test]
+fn pools_that_are_opened_again_and_again(rt: HostRuntime) -> Result<(), Fail> {
+    for (workers, times) in OPENINGS {
+        for _ in 0..times {
+            let leaf = ("a leaf over slots", Kind::OverSlots, workers, 0, 1);
+            expect_leaves(&rt, rt.alloc(), leaf, None)?;
+        }
+    }
+    Ok(())
+}
+
+/// The same of trees of which each of the 64 leaves in turn finds no memory.
+const HUNGRY: [(&str, Kind, u32, u32, u64); 4] = [
+    ("over slots", Kind::OverSlots, 1, 6, 63),
+    ("over slots", Kind::OverSlots, 2, 6, 63),
+    ("under locks", Kind::UnderLocks, 1, 6, 63),
+    ("under locks", Kind::UnderLocks, 2, 6, 63),
+];
+
+#[test]
+fn each_leaf_without_memory(rt: HostRuntime) -> Result<(), Fail> {
+    for tree in HUNGRY {
+        for place in 0..64 {
+            expect_leaves(&rt, rt.alloc(), tree, Some(place))?;
+        }
+    }
+    Ok(())
+}
