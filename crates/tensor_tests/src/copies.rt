@@ -128,10 +128,10 @@ fn has_values<RT: Threads + Wait + Abort + Sync>(
     assert_eq!(rt;
         (
             (request.workers, request.block, request.inputs.len()),
-            [tensor.dims().as_slice(), again.dims().as_slice()],
-            [tensor.values(), plain.values(), again.values()],
+            (tensor.dims().as_slice(), again.dims().as_slice()),
+            (tensor.values(), plain.values(), again.values()),
         ),
-        ((2, 4, count), [sizes, sizes], [values, values, values]),
+        ((2, 4, count), (sizes, sizes), (values, values, values)),
         "{expr}"
     );
     Ok(())

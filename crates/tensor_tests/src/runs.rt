@@ -220,20 +220,33 @@ const ENDINGS: [(&str, &[u8], u64, usize, u8, Option<&str>, &str); 5] = [
     ),
 ];
 
+// The ending of a text of which so many calls give a byte, and what a writer of such room took.
+fn served<RT: Threads + Wait + Sync>(
+    rt: &RT,
+    alloc: Global,
+    text: &[u8],
+    good_calls: u64,
+    room: usize,
+) -> (Ending, Vec<u8>) {
+    let mut giving = Giving::by(1, text);
+    giving.good_calls = good_calls;
+    let mut taking = Taking::all(alloc);
+    taking.room = room;
+    let mut reader = CountedReader::new(giving);
+    let mut writer = CountedWriter::new(taking);
+    let ending = serve(rt, alloc, &mut reader, &mut writer);
+    (ending, writer.writer.taken)
+}
+
 // Where the writer fails the front of the line is written for which there was room.
 #[test]
 fn endings_of_lines(rt: HostRuntime) {
     for (name, text, good_calls, room, status, complaint, line) in ENDINGS {
-        let mut giving = Giving::by(1, text);
-        giving.good_calls = good_calls;
-        let mut taking = Taking::all(rt.alloc());
-        taking.room = room;
-        let mut reader = CountedReader::new(giving);
-        let mut writer = CountedWriter::new(taking);
-        let ending = serve(&rt, rt.alloc(), &mut reader, &mut writer);
+        let (ending, taken) = served(&rt, rt.alloc(), text, good_calls, room);
         let wanted = Ending { status, complaint };
-        let taken = writer.writer.taken.as_slice();
-        let front = line.as_bytes().get(..line.len().min(room));
-        assert_eq!(rt; (ending, Some(taken)), (wanted, front), "{name}");
+        assert_eq!(rt; ending, wanted, "{name}");
+        let bytes = line.as_bytes();
+        let front = &bytes[..bytes.len().min(room)];
+        assert_eq!(rt; taken.as_slice(), front, "{name}");
     }
 }
