@@ -14,7 +14,7 @@ use crate::cases::Cases;
 use std::{fs, io};
 
 /// The files of cases.
-const FILES: [&str; 19] = [
+const FILES: [&str; 20] = [
     "arguments.cases",
     "chains.cases",
     "check_order.cases",
@@ -22,6 +22,7 @@ const FILES: [&str; 19] = [
     "contractions.cases",
     "fault_order.cases",
     "faults.cases",
+    "moved_operands.cases",
     "movements.cases",
     "nested.cases",
     "pieces.cases",

@@ -1,6 +1,6 @@
 //! The line of a tensor, as compact JSON (RFC 8259).
 
-ghost use Rattle.std.specs.Prelude.{◌≡◌, ℤ, List, pos, ◌++◌, map, IfOk, OnOk};
+ghost use Rattle.std.specs.Prelude.{◌≡◌, ℤ, pos, ◌++◌, map, IfOk, OnOk};
 ghost use Rattle.serde_json.specs.View.{view};
 ghost use Rattle.tensor_runner.specs.Answer.{numbers_text, tensor_line};
 ghost use Rattle.tensor_runner.specs.Line.{bracketed, integer};
@@ -53,28 +53,24 @@ fn push_piece(alloc: Global, numbers: &[i64], line: &mut Vec<u8>) -> Result<(), 
 fn signed_text(alloc: Global, numbers: &[i64]) -> Result<Vec<u8>, AllocError>
     ensures { IfOk result (λ text. text.items ≡ bracketed numbers.now) }
 {
-    let mut values = Vec::with_capacity(alloc, numbers.len())?;
-    for number in numbers {
-        values.push_reserved(Value::from(*number));
-    }
-    array_text(alloc, values)
+    array_text(alloc, numbers)
 }
 
 /// Numbers from 0 up as an array.
 fn unsigned_text(alloc: Global, numbers: &[u64]) -> Result<Vec<u8>, AllocError>
     ensures { IfOk result (λ text. text.items ≡ bracketed (map pos numbers.now)) }
 {
-    let mut values = Vec::with_capacity(alloc, numbers.len())?;
-    for number in numbers {
-        values.push_reserved(Value::from(*number));
-    }
-    array_text(alloc, values)
+    array_text(alloc, numbers)
 }
 
-/// The text of an array of numbers.
-fn array_text(alloc: Global, values: Vec<Value>) -> Result<Vec<u8>, AllocError>
-    ensures { (numbers : List ℤ) → map view values.items ≡ map integer numbers
-        → IfOk result (λ text. text.items ≡ bracketed numbers) }
+/// Numbers of a type as an array, which stand for what they are as values.
+fn array_text<N: Copy + Into<Value>>(alloc: Global, numbers: &[N]) -> Result<Vec<u8>, AllocError>
+    ensures { (f : N → ℤ) → ((x : N) (v : Value) → N.converts x v → view v ≡ integer (f x))
+        → IfOk result (λ text. text.items ≡ bracketed (map f numbers.now)) }
 {
+    let mut values = Vec::with_capacity(alloc, numbers.len())?;
+    for number in numbers {
+        values.push_reserved((*number).into());
+    }
     Value::Array(values).to_vec(alloc)
 }
