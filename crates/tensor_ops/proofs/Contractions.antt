@@ -15,11 +15,11 @@ use Rattle.tensor_shape.specs.Legal.{highest_rank}
 use Rattle.tensor_shape.specs.Index.{size_of, place, index_of}
 use Rattle.tensor_shape.specs.Wrap.{wrap}
 use Rattle.tensor_ops.specs.Contraction.{firsts, seconds, outer_dims, contracted, contracted_dims}
-use Rattle.tensor_ops.specs.Places.{value_in}
 use Rattle.tensor_ops.specs.Products.{sum_to, IsOperand, rows_dot}
 use Rattle.tensor_ops.specs.Woven.{dims_at, other_dims, woven}
 use Rattle.tensor_ops.proofs.Dropped.{length-axes}
 use Rattle.tensor_ops.proofs.Known.{contraction-known}
+use Rattle.tensor_ops.proofs.Operands.{operand-same}
 use Rattle.tensor_ops.proofs.ProductSums.{sum_to-ext}
 use Rattle.tensor_ops.proofs.Splits.{size_of-append}
 use Rattle.tensor_ops.proofs.TilePlaces.{some_factor}
@@ -65,16 +65,17 @@ contracted-sum_to pairs ds es a b is =
     ∙ ap wrap (fold-sum_to (λ q. product (index_of dims q)) (size_of dims))
 
 -- a count and values that are those of a contraction
-pub record IsContraction (pairs : List (ℕ × ℕ)) (ds es : List ℕ) (a b : List ℤ) (count : ℕ)
+pub record IsContraction (pairs : List (ℕ × ℕ)) (ds es : List ℕ) (a b : ℕ → ℤ) (count : ℕ)
     (value : ℕ → ℤ) : Type 0 where
   pub total : count ≡ size_of (outer_dims pairs ds es)
   pub each : (p : ℕ) → p < count
-      → value p ≡ contracted pairs ds es (λ js. value_in a (place ds js))
-      (λ js. value_in b (place es js)) (index_of (outer_dims pairs ds es) p)
+      → value p ≡ contracted pairs ds es (λ js. a (place ds js))
+      (λ js. b (place es js)) (index_of (outer_dims pairs ds es) p)
 
 -- two operands as rows, so many of so many values
-module _ (pairs : List (ℕ × ℕ)) (ds es : List ℕ) (a b : List ℤ) (m n w n' : ℕ)
-    (first second : ℕ → ℕ → ℤ) (axes others : List ℕ) (legal : IsOk (contracted_dims highest_rank pairs ds es))
+module _ (pairs : List (ℕ × ℕ)) (ds es : List ℕ) (a b : ℕ → ℤ) (m n w n' : ℕ)
+    (first second : ℕ → ℕ → ℤ) (axes others : List ℕ)
+    (legal : IsOk (contracted_dims highest_rank pairs ds es))
     (is_first_at : IsOperand m n first a ds axes) (are_firsts : axes ≡ firsts pairs)
     (is_second_at : IsOperand w n' second b es others) (are_seconds : others ≡ seconds pairs) where
   is_first : IsOperand m n first a ds (firsts pairs)
@@ -93,7 +94,7 @@ module _ (pairs : List (ℕ × ℕ)) (ds es : List ℕ) (a b : List ℤ) (m n w 
   -- the products of the rows of both operands are the contraction
   rows_dot-contracted : (p : ℕ) → p < w * m
       → rows_dot m n first second p
-      ≡ contracted pairs ds es (λ js. value_in a (place ds js)) (λ js. value_in b (place es js))
+      ≡ contracted pairs ds es (λ js. a (place ds js)) (λ js. b (place es js))
       (index_of (outer_dims pairs ds es) p)
   rows_dot-contracted p within =
       let kept = other_dims (firsts pairs) ds in
@@ -116,22 +117,22 @@ module _ (pairs : List (ℕ × ℕ)) (ds es : List ℕ) (a b : List ℤ) (m n w 
       let here : q < n = omega (arith, is_first.len) in
       let there : q < n' = omega (arith, is_second.len, ap size_of same_dims) in
       let left : first (p % m) q
-      ≡ value_in a (place ds (woven (firsts pairs) ds (index_of dims q)
+      ≡ a (place ds (woven (firsts pairs) ds (index_of dims q)
       (take (length kept) is))) =
       is_first.each (p % m) q row here
-      ∙ ap (λ l. value_in a (place ds (woven (firsts pairs) ds (index_of dims q) l))) (sym top) in
+      ∙ ap (λ l. a (place ds (woven (firsts pairs) ds (index_of dims q) l))) (sym top) in
       let right : second (p / m) q
-      ≡ value_in b (place es (woven (seconds pairs) es (index_of dims q)
+      ≡ b (place es (woven (seconds pairs) es (index_of dims q)
       (drop (length kept) is))) =
       is_second.each (p / m) q column there
-      ∙ ap (λ ds. value_in b (place es (woven (seconds pairs) es (index_of ds q) (index_of other
+      ∙ ap (λ ds. b (place es (woven (seconds pairs) es (index_of ds q) (index_of other
       (p / m)))))
       (sym same_dims)
-      ∙ ap (λ l. value_in b (place es (woven (seconds pairs) es (index_of dims q) l)))
+      ∙ ap (λ l. b (place es (woven (seconds pairs) es (index_of dims q) l)))
       (sym bottom) in
       cc (left, right)))
-      ∙ sym (contracted-sum_to pairs ds es (λ js. value_in a (place ds js))
-      (λ js. value_in b (place es js)) is)
+      ∙ sym (contracted-sum_to pairs ds es (λ js. a (place ds js))
+      (λ js. b (place es js)) is)
 
   -- the result has a value for each row of the first and each row of the second
   row_count-outer_dims : w * m ≡ size_of (outer_dims pairs ds es)
@@ -173,3 +174,19 @@ module _ (pairs : List (ℕ × ℕ)) (ds es : List ℕ) (a b : List ℤ) (m n w 
             rows_dot-turned p one (omega (arith, count, some))
             ∙ rows-contraction.each p (omega (arith, count));
       }
+
+-- so do rows that hold other values, which are those of both operands at all places
+pub same-contraction : (pairs : List (ℕ × ℕ)) (ds es : List ℕ) (a b of on : ℕ → ℤ) (m n w n' : ℕ)
+    (first second : ℕ → ℕ → ℤ) (axes others : List ℕ)
+    → IsOk (contracted_dims highest_rank pairs ds es)
+    → ((p : ℕ) → p < size_of ds → of p ≡ a p) → ((p : ℕ) → p < size_of es → on p ≡ b p)
+    → IsOperand m n first of ds axes → axes ≡ firsts pairs
+    → IsOperand w n' second on es others → others ≡ seconds pairs
+    → IsContraction pairs ds es a b (w * m) (rows_dot m n first second)
+same-contraction pairs ds es a b of on m n w n' first second axes others legal left right is_first
+    are_firsts is_second are_seconds =
+    let known = contraction-known pairs ds es legal in
+    rows-contraction pairs ds es a b m n w n' first second axes others legal
+    (operand-same m n first of a ds axes (rw are_firsts known.first) left is_first) are_firsts
+    (operand-same w n' second on b es others (rw are_seconds known.second) right is_second)
+    are_seconds

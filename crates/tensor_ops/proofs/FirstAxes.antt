@@ -6,10 +6,9 @@ use Rattle.std.proofs.lemmas.List.FromFn.{get_or-range_with_len, length-range_wi
 use Rattle.std.proofs.Math.Nat.{mod-eq_of_lt}
 use Rattle.std.specs.List.{range_with_len}
 use Rattle.tensor_shape.specs.Index.{size_of}
-use Rattle.tensor_ops.specs.Offsets.{offset_of}
+use Rattle.tensor_ops.specs.Offsets.{offset_of, HasOffsets}
 use Rattle.tensor_ops.specs.Reduction.{are_axes}
 use Rattle.tensor_ops.specs.Woven.{dims_at}
-use Rattle.tensor_ops.proofs.Operands.{HasOffsets}
 use Rattle.tensor_ops.proofs.Others.{get_or-are_axes}
 use Rattle.tensor_ops.proofs.Splits.{offset_of-range}
 

@@ -1,8 +1,10 @@
+pub mod Apart
 pub mod AxisLists
 pub mod Chains
 pub mod ChunkSums
 pub mod Combined
 pub mod CombinedRows
+pub mod CombinedRuns
 pub mod Contractions
 pub mod Convolutions
 pub mod Convolved
@@ -19,6 +21,7 @@ pub mod InTurns
 pub mod Joints
 pub mod Known
 pub mod LaneSums
+pub mod LedRows
 pub mod Legality
 pub mod ListWrites
 pub mod Mapped

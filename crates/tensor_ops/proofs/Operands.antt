@@ -1,11 +1,12 @@
 -- Where the values of an operand's rows lie.
-use Rattle.std.proofs.Common.{◌≡◌, ℕ, ◌+◌, ◌-◌, ◌<◌, List, length, filter, not, slice_index, true}
+use Rattle.std.proofs.Common.{◌≡◌, ℕ, ℤ, ◌+◌, ◌-◌, ◌<◌, List, length, filter, not, slice_index, true}
 use Rattle.std.proofs.Common.{ap, subst, ◌∙◌, arith}
 use Rattle.std.specs.List.{range_with_len}
 use Rattle.tensor_shape.specs.Index.{size_of, place, index_of}
 use Rattle.tensor_shape.proofs.Places.{IsIndexOf-index_of, place-below-size_of}
 use Rattle.tensor_ops.specs.Movement.{is_among}
-use Rattle.tensor_ops.specs.Offsets.{offset_of}
+use Rattle.tensor_ops.specs.Offsets.{offset_of, HasOffsets, HasTables}
+use Rattle.tensor_ops.specs.Products.{IsOperand}
 use Rattle.tensor_ops.specs.Reduction.{are_axes}
 use Rattle.tensor_ops.specs.Woven.{dims_at, other_dims, others, woven}
 use Rattle.tensor_ops.proofs.Weaving.{IsIndexOf-woven, place-woven}
@@ -23,13 +24,28 @@ module _ (ds axes : List ℕ) (legal : are_axes (length ds) axes ≡ true) (x q 
       omega (arith, both)
 
   -- and one of the operand's
-  pub offset_of-below : offset_of (others axes (length ds)) ds x + offset_of axes ds q < size_of ds
-  offset_of-below =
-      let inside = place-below-size_of ds _ (IsIndexOf-woven axes ds legal (index_of
-      (dims_at axes ds) q)
+  pub woven-below :
+      place ds (woven axes ds (index_of (dims_at axes ds) q) (index_of (other_dims axes ds) x))
+      < size_of ds
+  woven-below =
+      place-below-size_of ds _ (IsIndexOf-woven axes ds legal (index_of (dims_at axes ds) q)
       (index_of (other_dims axes ds) x) (IsIndexOf-index_of (dims_at axes ds) q value)
-      (IsIndexOf-index_of (other_dims axes ds) x row)) in
-      omega (arith, offset_of-woven, inside)
+      (IsIndexOf-index_of (other_dims axes ds) x row))
+
+  pub offset_of-below : offset_of (others axes (length ds)) ds x + offset_of axes ds q < size_of ds
+  offset_of-below = omega (arith, offset_of-woven, woven-below)
+
+-- rows of values that are the same at all places of the operand
+pub operand-same : (rows width : ℕ) (value : ℕ → ℕ → ℤ) (of other : ℕ → ℤ) (ds axes : List ℕ)
+    → are_axes (length ds) axes ≡ true → ((p : ℕ) → p < size_of ds → of p ≡ other p)
+    → IsOperand rows width value of ds axes → IsOperand rows width value other ds axes
+operand-same rows width value of other ds axes legal same is = record {
+  count = is.count;
+  len = is.len;
+  each = λ x q row below.
+      is.each x q row below
+      ∙ same _ (woven-below ds axes legal x q (omega (arith, is.count)) (omega (arith, is.len)));
+}
 
 -- the kept axes, from those that were found
 pub kept-others : (axes ds sizes found kept : List ℕ) → sizes ≡ ds → kept ≡ found
@@ -41,17 +57,6 @@ kept-others axes ds sizes found kept same is by_test =
       arith,
       ap length same,
     ))
-
--- a table of the places of all index lists at some axes
-pub record HasOffsets (offsets axes ds : List ℕ) : Type 0 where
-  pub len : length offsets ≡ size_of (dims_at axes ds)
-  pub each : (p : ℕ) → p < size_of (dims_at axes ds) → slice_index offsets p ≡ offset_of axes ds p
-
--- tables of an operand's rows and of their offsets
-pub record HasTables (starts offsets axes ds : List ℕ) : Type 0 where
-  pub legal : are_axes (length ds) axes ≡ true
-  pub rows : HasOffsets starts (others axes (length ds)) ds
-  pub values : HasOffsets offsets axes ds
 
 pub has_tables : (starts offsets kept axes ds : List ℕ) → are_axes (length ds) axes ≡ true
     → kept ≡ others axes (length ds) → HasOffsets starts kept ds → HasOffsets offsets axes ds
@@ -88,3 +93,16 @@ module _ (starts offsets axes ds : List ℕ) (tables : HasTables starts offsets 
         offset_of-below ds axes tables.legal x q (omega (arith, tables.rows.len))
             (omega (arith, tables.values.len)),
       )
+
+-- the values at the places that two tables add up to are the operand's
+pub tables-operand : (starts offsets axes ds : List ℕ) (value : ℕ → ℕ → ℤ) (of : ℕ → ℤ)
+    → HasTables starts offsets axes ds
+    → ((x q : ℕ) → x < length starts → q < length offsets
+    → value x q ≡ of (slice_index starts x + slice_index offsets q))
+    → IsOperand (length starts) (length offsets) value of ds axes
+tables-operand starts offsets axes ds value of tables same = record {
+  count = tables.rows.len;
+  len = tables.values.len;
+  each = λ x q row below.
+      same x q row below ∙ ap of (sum_of_tables-woven starts offsets axes ds tables x q row below);
+}

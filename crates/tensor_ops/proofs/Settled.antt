@@ -4,13 +4,14 @@ use Rattle.std.proofs.Common.{refl, ap, sym, subst, ◌∙◌, arith, inl, inr, 
 use Rattle.std.proofs.lemmas.Bool.{cases_Bool}
 use Rattle.std.proofs.lemmas.Result.{IfOk-weaker}
 use Rattle.std.proofs.Math.Nat.{mul-le-mul_left}
-use Rattle.tensor_shape.specs.Index.{size_of}
+use Rattle.tensor_shape.specs.Index.{size_of, place, index_of}
 use Rattle.tensor_shape.proofs.Places.{place-index_of}
 use Rattle.tensor_shape.specs.Legal.{most_elements}
 use Rattle.tensor_ops.specs.Joining.{span, IsJoint}
 use Rattle.tensor_ops.specs.Loops.{either_way, selected}
-use Rattle.tensor_ops.specs.Meaning.{meaning, count_of, IsSound}
-use Rattle.tensor_ops.specs.Placing.{Gives, IsJoined, meaning_at}
+use Rattle.tensor_ops.specs.Meaning.{meaning, count_of, IsSound, IsListOf}
+use Rattle.tensor_ops.specs.Places.{value_in}
+use Rattle.tensor_ops.specs.Placing.{Gives, HasValues, IsJoined, meaning_at}
 use Rattle.tensor_ops.specs.Scalars.{applied}
 use Rattle.tensor_ops.specs.Settling.{Follows, meaning_along}
 use Rattle.tensor_ops.specs.Splicing.{spliced, HaveTurns}
@@ -241,3 +242,28 @@ joined-takes a start from axes along given same few fewer reaches some inside =
         ),
       ),
     )
+
+-- the values of a list along axes whose places are those of dims
+pub values-along : (placed : Placed) (items : List ℤ) (start : ℕ) (axes : List Axis) (ds : List ℕ)
+    → IsListOf placed items → walk_size axes ≡ size_of ds
+    → HasValues (walk_size axes) (λ p. value_in items (reached start axes p)) ds
+    (λ index. meaning_along placed start axes (place ds index))
+values-along placed items start axes ds is size = record {
+  whole = size;
+  each = λ p below.
+      sym (is.each (reached start axes p))
+      ∙ ap (meaning_along placed start axes) (sym (place-index_of ds p below));
+}
+
+-- and those of what follows an expression along them
+pub values-followed : (count : ℕ) (of : ℕ → ℤ) (walk placed : Placed) (start : ℕ)
+    (axes : List Axis) (ds : List ℕ) → walk_size axes ≡ size_of ds
+    → Follows walk (walk_size axes) (meaning_along placed start axes)
+    → HasValues count of ds (meaning_at walk ds)
+    → HasValues count of ds (λ index. meaning_along placed start axes (place ds index))
+values-followed count of walk placed start axes ds size follows values = record {
+  whole = values.whole;
+  each = λ p below.
+      values.each p below
+      ∙ follows.means (place ds (index_of ds p)) (omega (arith, place-index_of ds p below, size));
+}

@@ -19,6 +19,7 @@ use Rattle.tensor_ops.specs.Woven.{dims_at}
 use Rattle.tensor_ops.proofs.Moved.{scattered-below, length-scattered}
 use Rattle.tensor_ops.proofs.Moves.{zeros, get_or-zeros, scattered-other}
 use Rattle.tensor_ops.proofs.Others.{are_axes-first}
+use Rattle.tensor_ops.proofs.TilePlaces.{some_factor}
 use Rattle.tensor_ops.proofs.Walks.{some_size}
 use Rattle.tensor_ops.proofs.Weaving.{place-scattered, length-zeros, shuffled_dims-set}
 
@@ -140,6 +141,22 @@ size_of-dims_at-le axes ds once =
       bulk_of-dims_at-le
           (length ds) axes ds refl once,
     )
+
+-- where all dims have elements, so have some of them
+some-dim : (ds : List ℕ) (s : ℕ) → s < length ds → 0 < size_of ds → 0 < get_or ds s 0
+some-dim [] s within some = absurd (omega arith)
+some-dim (d ∷ ds) zero within some = some_size d (size_of ds) 0 some
+some-dim (d ∷ ds) (suc s) within some =
+    some-dim ds s (omega arith) (some_factor d (size_of ds) 0 some)
+
+pub some-dims_at : (axes ds : List ℕ) → are_axes (length ds) axes ≡ true → 0 < size_of ds
+    → 0 < size_of (dims_at axes ds)
+some-dims_at [] ds once some = omega arith
+some-dims_at (s ∷ ss) ds once some =
+    let axis = are_axes-first (length ds) s ss once in
+    let first : 0 < get_or ds s 0 = some-dim ds s axis.below some in
+    let next : 0 + 1 ≤ size_of (dims_at ss ds) = omega (arith, some-dims_at ss ds axis.rest some) in
+    omega (arith, first, mul-le-mul_left (get_or ds s 0) next)
 
 -- the places under an axis more
 pub offset_of-more : (s : ℕ) (ss ds places moved : List ℕ) → are_axes (length ds) (s ∷ ss) ≡ true

@@ -26,7 +26,7 @@ use Rattle.tensor_ops.proofs.SameTensors.{agree-unary, agree-binary}
 use Rattle.tensor_ops.proofs.SameValues.{Agree, reduced-other, contracted-other}
 
 -- the result dims of a reduction, and of a contraction
-reduced-shape : (axes ds rs : List ℕ) → reduced_dims axes ds ≡ Ok rs → other_dims axes ds ≡ rs
+pub reduced-shape : (axes ds rs : List ℕ) → reduced_dims axes ds ≡ Ok rs → other_dims axes ds ≡ rs
 reduced-shape axes ds rs dims =
     ap (λ r. result_unwrap_or r []) (sym (reduction-known axes ds (rw dims refl)).dims ∙ dims)
 
@@ -98,6 +98,22 @@ values-agree count at ds f values js is_index =
 pub values-placed : (placed : Placed) (ds : List ℕ) (f : List ℕ → ℤ) → Gives placed ds f
     → HasValues (count_of placed) (meaning placed) ds f
 values-placed placed ds f gives = record { whole = gives.count; each = gives.means }
+
+pub values-own : (placed : Placed) (ds : List ℕ) → count_of placed ≡ size_of ds
+    → HasValues (count_of placed) (meaning placed) ds (meaning_at placed ds)
+values-own placed ds count = record {
+  whole = count;
+  each = λ p below. ap (meaning placed) (sym (place-index_of ds p below));
+}
+
+-- its values at index lists are those that it gives
+pub values-given : (count : ℕ) (at : ℕ → ℤ) (placed : Placed) (ds : List ℕ) (f : List ℕ → ℤ)
+    → HasValues count at ds (meaning_at placed ds) → Gives placed ds f → HasValues count at ds f
+values-given count at placed ds f values gives = record {
+  whole = values.whole;
+  each = λ p below.
+      values.each p below ∙ ap (meaning placed) (place-index_of ds p below) ∙ gives.means p below;
+}
 
 pub values-list : (placed : Placed) (items : List ℤ) (ds : List ℕ) → IsListOf placed items
     → count_of placed ≡ size_of ds

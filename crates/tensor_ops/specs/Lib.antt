@@ -21,6 +21,7 @@ pub mod Loops
 pub mod Meaning
 pub mod Movement
 pub mod Offsets
+pub mod Operand
 pub mod Padding
 pub mod Pairs
 pub mod Pairing

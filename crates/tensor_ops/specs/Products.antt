@@ -11,19 +11,19 @@ abbrev pub sum_to : (ℕ → ℤ) → ℕ → ℤ
 sum_to f zero = pos 0
 sum_to f (suc n) = sum_to f n +ℤ f n
 
--- the value of an operand at paired index list q and kept index list x, both by their places
-abbrev pub operand_value : List ℤ → List ℕ → List ℕ → ℕ → ℕ → ℤ
-operand_value values ds axes x q =
-    value_in values
-    (place ds (woven axes ds (index_of (dims_at axes ds) q) (index_of (other_dims axes ds) x)))
+-- the value of an operand at paired index list q and kept index list x, both by their places; from
+-- its values at places
+abbrev pub operand_value : (ℕ → ℤ) → List ℕ → List ℕ → ℕ → ℕ → ℤ
+operand_value at ds axes x q =
+    at (place ds (woven axes ds (index_of (dims_at axes ds) q) (index_of (other_dims axes ds) x)))
 
 -- so many rows of so many values are those of an operand: a row for each kept index list, in it a
 -- value for each paired one
-pub record IsOperand (rows width : ℕ) (value : ℕ → ℕ → ℤ) (values : List ℤ) (ds axes : List ℕ)
+pub record IsOperand (rows width : ℕ) (value : ℕ → ℕ → ℤ) (at : ℕ → ℤ) (ds axes : List ℕ)
     : Type 0 where
   pub count : rows ≡ size_of (other_dims axes ds)
   pub len : width ≡ size_of (dims_at axes ds)
-  pub each : (x q : ℕ) → x < rows → q < width → value x q ≡ operand_value values ds axes x q
+  pub each : (x q : ℕ) → x < rows → q < width → value x q ≡ operand_value at ds axes x q
 
 -- the value at a place of a result whose places pass so many rows of the first operand the fastest:
 -- the sum of so many products of a row of the first and one of the second

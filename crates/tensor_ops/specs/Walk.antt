@@ -1,5 +1,6 @@
 -- Walks: the operand's places in the order of the result's, by a size and a step an axis.
-use Rattle.std.specs.Prelude.{ℕ, ◌<◌, ◌≤◌, ◌+◌, ◌-◌, ◌*◌, ◌/◌, ◌%◌, List, [], ◌∷◌, slice_index, if◌then◌else◌}
+use Rattle.std.specs.Prelude.{◌≡◌, ℕ, ◌<◌, ◌≤◌, ◌+◌, ◌-◌, ◌*◌, ◌/◌, ◌%◌, List, [], ◌∷◌, length}
+use Rattle.std.specs.Prelude.{slice_index, if◌then◌else◌, false}
 use Rattle.tensor_ops.specs.declared.walk.Axis.{Axis}
 use Rattle.tensor_ops.specs.declared.walk.Row.{Row}
 
@@ -30,3 +31,15 @@ place_in row k = row.start + steps_to row.axis (row.from + k) * row.axis.step
 pub record IsRowIn (row : Row) (count : ℕ) : Type 0 where
   pub whole : row.from + row.count ≤ row.axis.size
   pub inside : (k : ℕ) → k < row.count → place_in row k < count
+
+-- along each axis the indices of two places, added up, stay within it, and no axis falls
+abbrev pub AreApart : List Axis → ℕ → ℕ → Type 0
+AreApart [] a b = Unit {0}
+AreApart (x ∷ rest) a b =
+    (x.falls ≡ false)
+    × ((a % x.size + b % x.size < x.size) × AreApart rest (a / x.size) (b / x.size))
+
+-- the same of each two places of two lists, by so many each
+abbrev pub AreAllApart : List Axis → ℕ → List ℕ → List ℕ → Type 0
+AreAllApart axes before starts offsets = (x q : ℕ) → x < length starts → q < length offsets
+    → AreApart axes (slice_index starts x / before) (slice_index offsets q / before)

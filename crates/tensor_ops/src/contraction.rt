@@ -1,7 +1,6 @@
 //! Contractions by ranges of the places of their result.
 
 ghost use Rattle.std.specs.Prelude.{◌≡◌, ◌<◌, ◌≤◌, ◌+◌, ◌-◌, ℕ, length, map, IfOk, IsOk, OnOk};
-ghost use Rattle.std.specs.Cow.{cow_slice_items};
 ghost use Rattle.std.specs.List.{range_with_len};
 ghost use Rattle.tensor_shape.specs.Legal.{highest_rank};
 ghost use Rattle.tensor_shape.specs.Index.{size_of, place, index_of};
@@ -11,13 +10,13 @@ ghost use Rattle.tensor_ops.specs.Places.{value_in};
 
 use crate::contraction_dims::paired_axes;
 use crate::dots::Dots;
+use crate::operand::Operand;
 use crate::rows::Rows;
 use crate::slid_dots::SlidDots;
 use crate::strip_dots::StripDots;
 use crate::strips::{Strips, strip_width};
 use crate::tiling::Tiled;
 use std::alloc::{AllocError, Allocator, Global};
-use std::borrow::CowSlice;
 use tensor_shape::Dims;
 
 /// From so many rows of the second operand on tiles are used, of which fewer would leave columns
@@ -54,6 +53,7 @@ impl Drop for Contraction<'_> {
 
 impl<'a> Contraction<'a> {
     ghost use Rattle.tensor_ops.specs.Contracting.{contraction_count, contraction_value};
+    ghost use Rattle.tensor_ops.specs.Operand.{operand_at, operand_count};
 
     /// The contraction of two operands of these dims over pairs of their axes, whose values it
     /// holds. Takes a number for each kept index list of each operand, and one for each paired one,
@@ -61,36 +61,38 @@ impl<'a> Contraction<'a> {
     /// index list and the second four or more, the first is packed: a cell for each value, of 4
     /// bytes where all values of both fit them, else of 8, up to a multiple of four kept index
     /// lists, and for cells of 8 bytes a number for each of these and each chunk of 512 products.
+    /// What is read along a walk is not stored, but where the rows are taken as slices or a carry
+    /// along the walk comes between a row's start and its values.
     pub(crate) fn of(
         alloc: Global,
         first_dims: &Dims,
-        first: CowSlice<'a, i64, Global>,
+        first: Operand<'a>,
         second_dims: &Dims,
-        second: CowSlice<'a, i64, Global>,
+        second: Operand<'a>,
         pairs: &[(u64, u64)],
     ) -> Result<Contraction<'a>, AllocError>
         requires dims { IsOk (contracted_dims highest_rank pairs.now first_dims.now second_dims.now) }
-        requires first { length (cow_slice_items first) ≡ size_of first_dims.now }
-        requires second { length (cow_slice_items second) ≡ size_of second_dims.now }
+        requires first { operand_count first ≡ size_of first_dims.now }
+        requires second { operand_count second ≡ size_of second_dims.now }
         ensures count { IfOk result (λ c. contraction_count c
             ≡ size_of (outer_dims pairs.now first_dims.now second_dims.now)) }
         ensures each { IfOk result (λ c. (p : ℕ) → p < contraction_count c
             → contraction_value c p ≡ contracted pairs.now first_dims.now second_dims.now
-            (λ js. value_in (cow_slice_items first.entry) (place first_dims.now js))
-            (λ js. value_in (cow_slice_items second.entry) (place second_dims.now js))
+            (λ js. operand_at first.entry (place first_dims.now js))
+            (λ js. operand_at second.entry (place second_dims.now js))
             (index_of (outer_dims pairs.now first_dims.now second_dims.now) p)) }
     {
         let (firsts, seconds) = paired_axes(pairs, first_dims).unwrap();
         let (first_axes, second_axes) = (firsts.as_slice(), seconds.as_slice());
+        let (first_count, second_count) = (first_dims.size() as usize, second_dims.size() as usize);
         let width = strip_width(first_dims, first_axes);
         let second_width = strip_width(second_dims, second_axes);
-        let (one, few) = (
-            first.as_slice().len() == width,
-            second.as_slice().len() < TILE * width,
-        );
+        let (one, few) = (first_count == width, second_count < TILE * width);
         if SHORTEST_STRIP <= width && SHORTEST_STRIP <= second_width && (one || few) {
-            let left = Strips::of(alloc, first_dims, first, first_axes)?;
-            let right = Strips::of(alloc, second_dims, second, second_axes)?;
+            let list = first.into_list(alloc, first_count)?;
+            let left = Strips::of(alloc, first_dims, list, first_axes)?;
+            let other = second.into_list(alloc, second_count)?;
+            let right = Strips::of(alloc, second_dims, other, second_axes)?;
             return Ok(Contraction::InStrips(StripDots::of(left, right)));
         }
         let first = Rows::of(alloc, first_dims, first, first_axes)?;

@@ -1,24 +1,26 @@
 //! Reductions and contractions of placed operands.
 
-ghost use Rattle.std.specs.Prelude.{◌≡◌, length, Ok, IsOk, IfOk};
-ghost use Rattle.std.specs.Cow.{cow_slice_items};
+ghost use Rattle.std.specs.Prelude.{◌≡◌, Ok, IsOk, IfOk};
 ghost use Rattle.tensor_shape.specs.Legal.{highest_rank};
 ghost use Rattle.tensor_shape.specs.Index.{size_of};
 ghost use Rattle.tensor_ops.specs.Contracting.{contraction_count, contraction_value};
 ghost use Rattle.tensor_ops.specs.Contraction.{contracted, contracted_dims};
 ghost use Rattle.tensor_ops.specs.Meaning.{count_of, IsSound};
-ghost use Rattle.tensor_ops.specs.Places.{value_in};
 ghost use Rattle.tensor_ops.specs.Placing.{Gives, HasValues, meaning_at};
 ghost use Rattle.tensor_ops.specs.Reduced.{places_of_result, reduction_at};
 ghost use Rattle.tensor_ops.specs.Reduction.{reduced, reduced_dims};
+ghost use Rattle.tensor_ops.specs.ValueRuns.{run_combined};
+ghost use Rattle.tensor_ops.specs.declared.reducer.Reducer.{Reducer};
 
 use crate::contraction::Contraction;
 use crate::contraction_dims::contracted_dims;
+use crate::index_parts::all_among;
 use crate::part::Part;
 use crate::placed::Placed;
 use crate::reducer::Reducer;
 use crate::reduction::Reduction;
 use crate::reduction_dims::reduced_dims;
+use crate::value_runs::ValueRuns;
 use std::alloc::{AllocError, Global};
 use std::borrow::CowSlice;
 use tensor_shape::{Dims, MAX_RANK};
@@ -44,6 +46,29 @@ pub(crate) fn reduction_of<'a>(
     Ok((reduction, dims))
 }
 
+/// The runs of an operand that a reduction over axes combines, one a place of its result, and its
+/// result dims.
+pub(crate) fn runs_of<'a>(
+    alloc: Global,
+    axes: &[u64],
+    operand: Part<'a>,
+    room: &mut usize,
+) -> Result<(ValueRuns<'a>, Dims), AllocError>
+    requires sound { IsSound operand.placed }
+    requires count { count_of operand.placed ≡ size_of operand.dims }
+    requires dims { IsOk (reduced_dims axes.now operand.dims) }
+    ensures dims { IfOk result (λ r. reduced_dims axes.now operand.entry.dims ≡ Ok r.1) }
+    ensures values { IfOk result (λ r. (reducer : Reducer)
+        → HasValues r.0.count (run_combined reducer r.0) r.1
+        (reduced reducer axes.now operand.entry.dims
+        (meaning_at operand.entry.placed operand.entry.dims))) }
+{
+    let dims = reduced_dims(axes, &operand.dims).unwrap();
+    let dropped = all_among(axes, operand.dims.rank());
+    let runs = ValueRuns::along(alloc, dropped.as_slice(), operand, room)?;
+    Ok((runs, dims))
+}
+
 /// A contraction of two operands over pairs of axes, and its result dims.
 pub(crate) fn contraction_of<'a>(
     alloc: Global,
@@ -64,8 +89,8 @@ pub(crate) fn contraction_of<'a>(
         (meaning_at second.entry.placed second.entry.dims))) }
 {
     let dims = contracted_dims(MAX_RANK, pairs, &first.dims, &second.dims).unwrap();
-    let left = first.placed.into_values(alloc, &first.dims)?;
-    let right = second.placed.into_values(alloc, &second.dims)?;
+    let left = first.placed.into_operand(alloc, &first.dims)?;
+    let right = second.placed.into_operand(alloc, &second.dims)?;
     let contraction = Contraction::of(alloc, &first.dims, left, &second.dims, right, pairs)?;
     Ok((contraction, dims))
 }

@@ -4,14 +4,34 @@ ghost use Rattle.std.specs.Prelude.{◌≡◌, ◌<◌, ◌≤◌, ◌+◌, ◌*
 ghost use Rattle.std.specs.Prelude.{IsTrue, IfOk};
 ghost use Rattle.tensor_shape.specs.Index.{size_of, index_of};
 ghost use Rattle.tensor_shape.specs.Legal.{most_elements, IsLegal};
-ghost use Rattle.tensor_ops.specs.Offsets.{offset_of};
+ghost use Rattle.tensor_ops.specs.Offsets.{offset_of, HasTables};
 ghost use Rattle.tensor_ops.specs.Reduction.{are_axes};
 ghost use Rattle.tensor_ops.specs.Stepped.{stepped};
 ghost use Rattle.tensor_ops.specs.Woven.{dims_at};
 
 use crate::movement_dims::shuffled;
+use crate::woven::others;
 use std::alloc::{AllocError, Global};
 use tensor_shape::Dims;
+
+/// Where the rows of an operand of these dims start, whose paired axes are these, in their order, and
+/// how far the values of a row are from there. Takes a number for each row, and one for each value of
+/// a row.
+pub(crate) fn tables(
+    alloc: Global,
+    dims: &Dims,
+    axes: &[u64],
+) -> Result<(Vec<usize>, Vec<usize>), AllocError>
+    requires { IsTrue (are_axes (length dims.now) axes.now) }
+    ensures tables { IfOk result (λ t. HasTables t.0.items t.1.items axes.now dims.now) }
+    ensures few { IfOk result (λ t. length t.0.items ≤ most_elements) }
+    ensures short { IfOk result (λ t. length t.1.items ≤ most_elements) }
+{
+    let rank = dims.as_slice().len();
+    let kept = others(axes, 0, rank as u64);
+    let starts = offsets(alloc, dims, kept.as_slice())?;
+    Ok((starts, offsets(alloc, dims, axes)?))
+}
 
 /// The places of the index lists with all numbers at some axes and 0 at the others, the first of
 /// these axes the fastest. Added to the place of an index list that is 0 at these axes they are the

@@ -2,6 +2,7 @@
 //! values are asked for by place. The values are worked out by loops over places.
 
 pub(crate) mod chaining;
+pub(crate) mod operands;
 pub(crate) mod settling;
 
 ghost use Rattle.std.specs.Prelude.{◌≡◌, ◌<◌, ◌≤◌, ◌-◌, ◌+◌, ◌++◌, ℕ, pos, length, map, vec_len};
@@ -116,15 +117,8 @@ impl<'a> Placed<'a> {
         ensures { IfOk result (λ v. HasValues (length (cow_slice_items v))
             (value_in (cow_slice_items v)) dims.now (meaning_at self.entry dims.now)) }
     {
-        match self {
-            Placed::Lent(values) => Ok(CowSlice::Borrowed(values)),
-            Placed::Kept(values) => Ok(CowSlice::Owned(values)),
-            placed => {
-                let settled = settled_over(alloc, placed, dims)?;
-                let values = settled.values(alloc, alloc, 0, dims.size() as usize)?;
-                Ok(CowSlice::Owned(values))
-            }
-        }
+        let settled = settled_over(alloc, self, dims)?;
+        settled.worked_out(alloc, dims)
     }
 
     /// Whether a value takes no operation: it is in a list, at its place or along a walk.

@@ -1,16 +1,18 @@
 //! An operand of a contraction as rows: a row for each index list of the axes that are kept, and
 //! in it a value for each index list of the paired ones. The kernel of a convolution is one row.
 
-ghost use Rattle.std.specs.Prelude.{◌≡◌, ◌<◌, ◌≤◌, ℕ, length};
+ghost use Rattle.std.specs.Prelude.{◌≡◌, ◌<◌, ◌≤◌, length};
 ghost use Rattle.std.specs.Prelude.{IsTrue, IfOk};
 ghost use Rattle.std.specs.Cow.{cow_slice_items};
 ghost use Rattle.tensor_shape.specs.Index.{size_of};
 ghost use Rattle.tensor_shape.specs.Legal.{most_elements};
 ghost use Rattle.tensor_ops.specs.Panels.{AreInside};
+ghost use Rattle.tensor_ops.specs.Places.{value_in};
 ghost use Rattle.tensor_ops.specs.Reduction.{are_axes};
 
-use crate::offsets::offsets;
-use crate::woven::others;
+use crate::led::{are_apart, lead};
+use crate::offsets::tables;
+use crate::operand::{Operand, Routed};
 use std::alloc::{AllocError, Global};
 use std::borrow::CowSlice;
 use tensor_shape::Dims;
@@ -27,13 +29,35 @@ pub(crate) struct Rows<'a> {
 }
 
 impl<'a> Rows<'a> {
+    ghost use Rattle.tensor_ops.specs.Operand.{operand_at, operand_count, routed_count};
+    ghost use Rattle.tensor_ops.specs.Operand.{routed_value};
     ghost use Rattle.tensor_ops.specs.Products.{IsOperand};
     ghost use Rattle.tensor_ops.specs.Rows.{row_count, row_length, row_value};
     ghost use Rattle.tensor_ops.specs.Slid.{IsOneRow};
 
     /// An operand of these dims, whose paired axes are these, in their order. Takes a number for
-    /// each of its rows, and one for each value of a row.
+    /// each of its rows, and one for each value of a row. A list along a route is not stored once
+    /// more, but where a carry along it comes between a row's start and its values.
     pub(crate) fn of(
+        alloc: Global,
+        dims: &Dims,
+        operand: Operand<'a>,
+        axes: &[u64],
+    ) -> Result<Rows<'a>, AllocError>
+        requires axes { IsTrue (are_axes (length dims.now) axes.now) }
+        requires values { operand_count operand ≡ size_of dims.now }
+        ensures { IfOk result (λ rows.
+            IsOperand (row_count rows) (row_length rows) (row_value rows)
+            (operand_at operand.entry) dims.now axes.now) }
+    {
+        match operand {
+            Operand::InOrder(values) => Rows::in_order(alloc, dims, values, axes),
+            Operand::Along(routed) => Rows::along(alloc, dims, routed, axes),
+        }
+    }
+
+    /// An operand whose values lie in order.
+    fn in_order(
         alloc: Global,
         dims: &Dims,
         values: CowSlice<'a, i64, Global>,
@@ -43,16 +67,47 @@ impl<'a> Rows<'a> {
         requires values { length (cow_slice_items values) ≡ size_of dims.now }
         ensures { IfOk result (λ rows.
             IsOperand (row_count rows) (row_length rows) (row_value rows)
-            (cow_slice_items values.entry) dims.now axes.now) }
+            (value_in (cow_slice_items values.entry)) dims.now axes.now) }
     {
-        let rank = dims.as_slice().len();
-        let kept = others(axes, 0, rank as u64);
-        let starts = offsets(alloc, dims, kept.as_slice())?;
-        let moves = offsets(alloc, dims, axes)?;
+        let (starts, offsets) = tables(alloc, dims, axes)?;
         Ok(Rows {
             values,
             starts,
-            offsets: moves,
+            offsets,
+        })
+    }
+
+    /// An operand whose values lie in a list along a route, which both tables are led along: the
+    /// offsets from no start, since each is added to a row's.
+    fn along(
+        alloc: Global,
+        dims: &Dims,
+        routed: Routed<'a>,
+        axes: &[u64],
+    ) -> Result<Rows<'a>, AllocError>
+        requires axes { IsTrue (are_axes (length dims.now) axes.now) }
+        requires values { routed_count routed ≡ size_of dims.now }
+        ensures { IfOk result (λ rows.
+            IsOperand (row_count rows) (row_length rows) (row_value rows)
+            (routed_value routed.entry) dims.now axes.now) }
+    {
+        let (mut starts, mut offsets) = tables(alloc, dims, axes)?;
+        let route = &routed.route;
+        let count = dims.size() as usize;
+        if count == 0 || !are_apart(route.axes.as_slice(), 1, &starts, &offsets) {
+            let values = routed.into_list(alloc, count)?;
+            return Ok(Rows {
+                values,
+                starts,
+                offsets,
+            });
+        }
+        lead(&mut starts, route.start, route.axes.as_slice());
+        lead(&mut offsets, 0, route.axes.as_slice());
+        Ok(Rows {
+            values: routed.list,
+            starts,
+            offsets,
         })
     }
 

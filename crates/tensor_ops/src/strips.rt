@@ -47,7 +47,7 @@ impl<'a> Strips<'a> {
         requires values { length (cow_slice_items values) ≡ size_of dims.now }
         ensures { IfOk result (λ strips.
             IsOperand (strip_count strips) strips.width (strip_value strips)
-            (cow_slice_items values.entry) dims.now axes.now) }
+            (value_in (cow_slice_items values.entry)) dims.now axes.now) }
     {
         let rank = dims.as_slice().len();
         let kept = others(axes, 0, rank as u64);

@@ -321,7 +321,7 @@ fn row_of(start: usize, axis: Axis, slower: &[Axis], place: usize) -> WalkRow
 
 /// The operand's place for one place.
 #[inline(always)]
-fn reached(start: usize, axes: &[Axis], place: usize) -> usize
+pub(crate) fn reached(start: usize, axes: &[Axis], place: usize) -> usize
     requires within { place < walk_size axes.now }
     requires fits { reached start axes.now place < 2 ^ 32 }
     ensures { result ≡ reached start axes.now place }

@@ -1,7 +1,7 @@
 -- Tensors that nobody reads any more need not be there, and what is read once need not be stored.
-use Rattle.std.proofs.Common.{◌≡◌, ℕ, zero, suc, ◌+◌, ◌-◌, ◌<◌, ◌≤◌, List, [], ◌∷◌, ◌++◌, length}
+use Rattle.std.proofs.Common.{◌≡◌, ℕ, zero, suc, ◌+◌, ◌<◌, ◌≤◌, List, [], ◌∷◌, ◌++◌, length}
 use Rattle.std.proofs.Common.{true, false, ◌||◌, ◌⊎◌, Ok, IsOk, is_ok}
-use Rattle.std.proofs.Common.{take, drop, refl, ap, sym, subst, ◌∙◌, arith, inl, inr}
+use Rattle.std.proofs.Common.{drop, refl, ap, sym, subst, ◌∙◌, arith, inl, inr}
 use Rattle.std.proofs.lemmas.Bool.{cases_lt, or_left, or_right, or_cases}
 use Rattle.std.proofs.lemmas.List.{length-append, get_or_append_left, append_assoc}
 use Rattle.std.proofs.Math.Seq.{get_or-append_seam}
@@ -9,7 +9,6 @@ use Rattle.std.specs.Prelude.{nat_eq}
 use Rattle.tensor_ops.specs.Index.{IsIndexOf}
 use Rattle.tensor_ops.specs.Contents.{Contents, input_of, nothing, value_at}
 use Rattle.tensor_ops.specs.Legal.{highest_rank}
-use Rattle.tensor_ops.specs.Parts.{has_parts}
 use Rattle.tensor_ops.specs.Result.{dims_of, shape_of}
 use Rattle.tensor_ops.specs.Term.{Term, input, has_inputs}
 use Rattle.tensor_ops.specs.Value.{tensor_of}
@@ -21,11 +20,12 @@ use Rattle.tensor_reduce.specs.Plan.{term_of_step, dims_of_step, terms_in, worke
 use Rattle.tensor_reduce.specs.Plan.{IsReady, AreReady}
 use Rattle.tensor_reduce.specs.Reading.{reads, are_reading, through, AreHeldFor, AreHeld}
 use Rattle.tensor_reduce.specs.Reading.{IsReadThrough}
+use Rattle.tensor_reduce.specs.Steps.{is_combining}
 use Rattle.tensor_reduce.specs.declared.step.Step.{Step}
 use Rattle.tensor_reduce.proofs.Planned.{last_tensor-append}
 use Rattle.tensor_reduce.proofs.Through.{other-number, same-read, same-through, names-through}
 use Rattle.tensor_reduce.proofs.Through.{ReadDirectly, ReadDirectly-single, ReadDirectly-through}
-use Rattle.tensor_reduce.proofs.Through.{reads-through, has_parts-through}
+use Rattle.tensor_reduce.proofs.Through.{reads-through, is_combining-through}
 
 -- a tensor more
 input_of-before : (tensors : List Contents) (t : Contents) (n : ℕ) → n < length tensors
@@ -192,15 +192,15 @@ held-all left all ready = record {
 
 -- a step that reads the one before it as that is worked out
 module _ (s r : Step) (later : List Step) (held all : List Contents)
-    (are : AreHeldFor (s ∷ r ∷ later) held all) (parts : has_parts (term_of_step r) ≡ true)
+    (are : AreHeldFor (s ∷ r ∷ later) held all) (combining : is_combining (term_of_step r) ≡ true)
     (n : ℕ) (place : n ≡ length all) where
   abbrev pub joined-two : Term
   joined-two = through n (term_of_step s) (term_of_step r)
 
   same-two : IsSameTensor joined-two held (term_of_step r) (more s (r ∷ later) held all are)
   same-two =
-      same-through held (more s (r ∷ later) held all are) n (term_of_step s) (term_of_step r) parts
-      (ReadDirectly-single n (term_of_step r) parts are.ready.1.0.single)
+      same-through held (more s (r ∷ later) held all are) n (term_of_step s) (term_of_step r)
+      combining (ReadDirectly-single n (term_of_step r) combining are.ready.1.0.single)
       (ap is_ok are.ready.1.0.dims) (same-operand s (r ∷ later) held all are n place)
       (λ m reading. read-other s (r ∷ later) held all are n place m
       (or_left (reads m (term_of_step r)) (are_reading m later) reading))
@@ -213,8 +213,8 @@ module _ (s r : Step) (later : List Step) (held all : List Contents)
       names-through n (length held) (term_of_step s) (term_of_step r)
       (ap (has_inputs (term_of_step s)) are.as_many ∙ are.ready.0.inputs)
       (ap (has_inputs (term_of_step r)) (sym count) ∙ are.ready.1.0.inputs)
-      (omega (arith, place, are.as_many)) parts
-      (ReadDirectly-single n (term_of_step r) parts are.ready.1.0.single)
+      (omega (arith, place, are.as_many)) combining
+      (ReadDirectly-single n (term_of_step r) combining are.ready.1.0.single)
 
   pub dims-two : dims_of highest_rank joined-two held ≡ Ok (dims_of_step r)
   dims-two = same-two.dims ∙ are.ready.1.0.dims
@@ -231,8 +231,9 @@ module _ (s r : Step) (later : List Step) (held all : List Contents)
 
 -- a step that so reads both before it
 module _ (s r c : Step) (later : List Step) (held all : List Contents)
-    (are : AreHeldFor (s ∷ r ∷ c ∷ later) held all) (parts : has_parts (term_of_step c) ≡ true)
-    (n : ℕ) (place : n ≡ length all) (apart : reads n (term_of_step r) ≡ false) where
+    (are : AreHeldFor (s ∷ r ∷ c ∷ later) held all)
+    (combining : is_combining (term_of_step c) ≡ true) (n : ℕ) (place : n ≡ length all)
+    (apart : reads n (term_of_step r) ≡ false) where
   abbrev one : List Contents
   one = all ++ tensor_of (term_of_step s) all ∷ []
 
@@ -248,16 +249,16 @@ module _ (s r c : Step) (later : List Step) (held all : List Contents)
   abbrev pub joined-three : Term
   joined-three = through n (term_of_step s) inner
 
-  parts-inner : has_parts inner ≡ true
-  parts-inner = has_parts-through (n + 1) (term_of_step r) (term_of_step c) parts
+  combining-inner : is_combining inner ≡ true
+  combining-inner = is_combining-through (n + 1) (term_of_step r) (term_of_step c) combining
 
   direct-inner : ReadDirectly n inner
   direct-inner =
-      ReadDirectly-through n (n + 1) (term_of_step r) (term_of_step c) parts
+      ReadDirectly-through n (n + 1) (term_of_step r) (term_of_step c) combining
       are.ready.1.1.0.single apart
 
   dims-inner : dims_of highest_rank inner one ≡ Ok (dims_of_step c)
-  dims-inner = dims-two r c later one one all-one parts (n + 1) place-one
+  dims-inner = dims-two r c later one one all-one combining (n + 1) place-one
 
   read-inner : (m : ℕ) → reads m inner ≡ true → nat_eq m n ≡ false
       → input_of held m ≡ input_of one m
@@ -275,7 +276,7 @@ module _ (s r c : Step) (later : List Step) (held all : List Contents)
 
   same-three : IsSameTensor joined-three held inner one
   same-three =
-      same-through held one n (term_of_step s) inner parts-inner direct-inner
+      same-through held one n (term_of_step s) inner combining-inner direct-inner
       (ap is_ok dims-inner) (same-operand s (r ∷ c ∷ later) held all are n place) read-inner
 
   pub names-three : has_inputs joined-three (length held) ≡ true
@@ -284,11 +285,8 @@ module _ (s r c : Step) (later : List Step) (held all : List Contents)
       names-through n (length held) (term_of_step s) inner
       (ap (has_inputs (term_of_step s)) are.as_many ∙ are.ready.0.inputs)
       (ap (has_inputs inner) (sym count)
-      ∙ names-two r c later one one all-one parts (n + 1) place-one)
-      (omega (arith, place, are.as_many)) parts-inner direct-inner
-
-  pub parts-three : has_parts joined-three ≡ true
-  parts-three = has_parts-through n (term_of_step s) inner parts-inner
+      ∙ names-two r c later one one all-one combining (n + 1) place-one)
+      (omega (arith, place, are.as_many)) combining-inner direct-inner
 
   pub dims-three : dims_of highest_rank joined-three held ≡ Ok (dims_of_step c)
   dims-three = same-three.dims ∙ dims-inner
@@ -298,6 +296,6 @@ module _ (s r c : Step) (later : List Step) (held all : List Contents)
       → IsReadThrough 2 (s ∷ r ∷ c ∷ later) all t
   IsReadThrough-three t made unread unread_too = (
     ap (λ k. are_reading k later) (sym place) ∙ unread,
-    IsReadThrough-two r c later one one all-one parts (n + 1) place-one t
+    IsReadThrough-two r c later one one all-one combining (n + 1) place-one t
         (made ∙ tensor_of-same joined-three inner held one same-three) unread_too,
   )

@@ -6,19 +6,21 @@ use Rattle.std.proofs.lemmas.List.{length-append, length-drop, take_all, append_
 use Rattle.std.proofs.lemmas.List.{drop-drop, drop_more}
 use Rattle.tensor_ops.specs.Contents.{Contents}
 use Rattle.tensor_ops.specs.Legal.{highest_rank}
-use Rattle.tensor_ops.specs.Parts.{has_parts}
 use Rattle.tensor_ops.specs.Result.{dims_of}
 use Rattle.tensor_ops.specs.Term.{Term, has_inputs}
 use Rattle.tensor_ops.specs.Value.{tensor_of}
 use Rattle.tensor_reduce.specs.Plan.{term_of_step, dims_of_step, IsReady}
 use Rattle.tensor_reduce.specs.Reading.{reads, are_reading, through, AreHeldFor, AreHeld}
 use Rattle.tensor_reduce.specs.Reading.{IsReadThrough, GivesReadThrough, HasMore}
+use Rattle.tensor_reduce.specs.Steps.{is_combining}
+use Rattle.tensor_reduce.specs.Ways.{IsWayFor}
 use Rattle.tensor_reduce.specs.declared.read_through.ReadThrough.{ReadThrough}
 use Rattle.tensor_reduce.specs.declared.step.Step.{Step}
+use Rattle.tensor_reduce.specs.declared.way.Way.{Way}
 use Rattle.tensor_reduce.proofs.Held.{IsReady-held, tensor_of-held, AreHeld-read}
 use Rattle.tensor_reduce.proofs.Held.{names-two, dims-two, IsReadThrough-two}
-use Rattle.tensor_reduce.proofs.Held.{parts-three, names-three, dims-three}
-use Rattle.tensor_reduce.proofs.Held.{IsReadThrough-three}
+use Rattle.tensor_reduce.proofs.Held.{names-three, dims-three, IsReadThrough-three}
+use Rattle.tensor_reduce.proofs.Ways.{IsWayFor-combining, IsWayFor-through}
 
 -- tensors, one more of them at a time
 pub HasMore-none : (tensors : List Contents) → HasMore 0 tensors tensors
@@ -135,37 +137,45 @@ module _ (left : List Step) (s r : Step) (two : 2 ≤ length left) (first : s �
     (behind : from ≡ length inputs) (t a b : Term)
     (is : t ≡ through (from + length earlier) a b) (is_first : a ≡ term_of_step s)
     (is_second : b ≡ term_of_step r) (all : List Contents)
-    (are : AreHeldFor left (inputs ++ earlier) all) (parts : has_parts (term_of_step r) ≡ true)
-  where
-    abbrev later : List Step
-    later = take (length left - 2) (drop 2 left)
+    (are : AreHeldFor left (inputs ++ earlier) all) (way : Way)
+    (for : IsWayFor way (term_of_step r)) where
+  abbrev later : List Step
+  later = take (length left - 2) (drop 2 left)
 
-    there : AreHeldFor (s ∷ r ∷ later) (inputs ++ earlier) all
-    there = subst (λ l. AreHeldFor l (inputs ++ earlier) all) (two-steps left s r two first next) are
+  there : AreHeldFor (s ∷ r ∷ later) (inputs ++ earlier) all
+  there = subst (λ l. AreHeldFor l (inputs ++ earlier) all) (two-steps left s r two first next) are
 
-    at : from + length earlier ≡ length all
-    at = next-number inputs earlier from behind ∙ are.as_many
+  at : from + length earlier ≡ length all
+  at = next-number inputs earlier from behind ∙ are.as_many
 
-    term-is : t ≡ through (from + length earlier) (term_of_step s) (term_of_step r)
-    term-is = is ∙ ap (λ u. through (from + length earlier) u b) is_first
-        ∙ ap (through (from + length earlier) (term_of_step s)) is_second
+  term-is : t ≡ through (from + length earlier) (term_of_step s) (term_of_step r)
+  term-is = is ∙ ap (λ u. through (from + length earlier) u b) is_first
+      ∙ ap (through (from + length earlier) (term_of_step s)) is_second
 
-    pub names-one : has_inputs t (length (inputs ++ earlier)) ≡ true
-    names-one =
-        ap (λ u. has_inputs u (length (inputs ++ earlier))) term-is
-        ∙ names-two s r later (inputs ++ earlier) all there parts (from + length earlier) at
+  combining : is_combining (term_of_step r) ≡ true
+  combining = IsWayFor-combining way (term_of_step r) for
 
-    pub dims-one : dims_of highest_rank t (inputs ++ earlier) ≡ Ok (dims_of_step r)
-    dims-one =
-        ap (λ u. dims_of highest_rank u (inputs ++ earlier)) term-is
-        ∙ dims-two s r later (inputs ++ earlier) all there parts (from + length earlier) at
+  pub way-one : IsWayFor way t
+  way-one =
+      subst (IsWayFor way) (sym term-is)
+      (IsWayFor-through way (from + length earlier) (term_of_step s) (term_of_step r) for)
 
-    pub IsReadThrough-one : (x : Contents) → x ≡ tensor_of t (inputs ++ earlier)
-        → are_reading (from + length earlier) later ≡ false → IsReadThrough 1 left all x
-    IsReadThrough-one x made unread =
-        subst (λ l. IsReadThrough 1 l all x) (sym (two-steps left s r two first next))
-        (IsReadThrough-two s r later (inputs ++ earlier) all there parts (from + length earlier) at x
-        (made ∙ ap (λ u. tensor_of u (inputs ++ earlier)) term-is) unread)
+  pub names-one : has_inputs t (length (inputs ++ earlier)) ≡ true
+  names-one =
+      ap (λ u. has_inputs u (length (inputs ++ earlier))) term-is
+      ∙ names-two s r later (inputs ++ earlier) all there combining (from + length earlier) at
+
+  pub dims-one : dims_of highest_rank t (inputs ++ earlier) ≡ Ok (dims_of_step r)
+  dims-one =
+      ap (λ u. dims_of highest_rank u (inputs ++ earlier)) term-is
+      ∙ dims-two s r later (inputs ++ earlier) all there combining (from + length earlier) at
+
+  pub IsReadThrough-one : (x : Contents) → x ≡ tensor_of t (inputs ++ earlier)
+      → are_reading (from + length earlier) later ≡ false → IsReadThrough 1 left all x
+  IsReadThrough-one x made unread =
+      subst (λ l. IsReadThrough 1 l all x) (sym (two-steps left s r two first next))
+      (IsReadThrough-two s r later (inputs ++ earlier) all there combining
+      (from + length earlier) at x (made ∙ ap (λ u. tensor_of u (inputs ++ earlier)) term-is) unread)
 
 -- the third, which reads through both before it
 module _ (left : List Step) (s r c : Step) (three : 3 ≤ length left) (first : s ≡ get_or left 0 s)
@@ -174,7 +184,8 @@ module _ (left : List Step) (s r c : Step) (three : 3 ≤ length left) (first : 
     (is : t ≡ through (from + length earlier) a (through (from + length earlier + 1) b d))
     (is_first : a ≡ term_of_step s) (is_second : b ≡ term_of_step r)
     (is_third : d ≡ term_of_step c) (all : List Contents)
-    (are : AreHeldFor left (inputs ++ earlier) all) (parts : has_parts (term_of_step c) ≡ true)
+    (are : AreHeldFor left (inputs ++ earlier) all) (way : Way)
+    (for : IsWayFor way (term_of_step c))
     (apart : reads (from + length earlier) (term_of_step r) ≡ false) where
   abbrev rest : List Step
   rest = take (length left - 3) (drop 3 left)
@@ -196,25 +207,30 @@ module _ (left : List Step) (s r c : Step) (three : 3 ≤ length left) (first : 
       ∙ ap (λ u. through number (term_of_step s) (through (number + 1) u d)) is_second
       ∙ ap (λ u. through number (term_of_step s) (through (number + 1) (term_of_step r) u)) is_third
 
-  pub parts-both : has_parts t ≡ true
-  parts-both =
-      ap has_parts is_term
-      ∙ parts-three s r c rest (inputs ++ earlier) all held parts number is_number apart
+  is_combination : is_combining (term_of_step c) ≡ true
+  is_combination = IsWayFor-combining way (term_of_step c) for
+
+  pub way-both : IsWayFor way t
+  way-both =
+      subst (IsWayFor way) (sym is_term)
+      (IsWayFor-through way number (term_of_step s)
+      (through (number + 1) (term_of_step r) (term_of_step c))
+      (IsWayFor-through way (number + 1) (term_of_step r) (term_of_step c) for))
 
   pub names-both : has_inputs t (length (inputs ++ earlier)) ≡ true
   names-both =
       ap (λ u. has_inputs u (length (inputs ++ earlier))) is_term
-      ∙ names-three s r c rest (inputs ++ earlier) all held parts number is_number apart
+      ∙ names-three s r c rest (inputs ++ earlier) all held is_combination number is_number apart
 
   pub dims-both : dims_of highest_rank t (inputs ++ earlier) ≡ Ok (dims_of_step c)
   dims-both =
       ap (λ u. dims_of highest_rank u (inputs ++ earlier)) is_term
-      ∙ dims-three s r c rest (inputs ++ earlier) all held parts number is_number apart
+      ∙ dims-three s r c rest (inputs ++ earlier) all held is_combination number is_number apart
 
   pub IsReadThrough-both : (x : Contents) → x ≡ tensor_of t (inputs ++ earlier)
       → are_reading number rest ≡ false → are_reading (number + 1) rest ≡ false
       → IsReadThrough 2 left all x
   IsReadThrough-both x made unread unread_too =
       subst (λ l. IsReadThrough 2 l all x) (sym (three-steps left s r c three first next last))
-      (IsReadThrough-three s r c rest (inputs ++ earlier) all held parts number is_number apart x
-      (made ∙ ap (λ u. tensor_of u (inputs ++ earlier)) is_term) unread unread_too)
+      (IsReadThrough-three s r c rest (inputs ++ earlier) all held is_combination number is_number
+      apart x (made ∙ ap (λ u. tensor_of u (inputs ++ earlier)) is_term) unread unread_too)

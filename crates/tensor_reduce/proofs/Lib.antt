@@ -9,3 +9,4 @@ pub mod Planned
 pub mod Sharding
 pub mod ShardedTensors
 pub mod Through
+pub mod Ways

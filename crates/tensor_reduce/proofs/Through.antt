@@ -1,6 +1,6 @@
 -- An operation that reads a term in the place of a tensor, over tensors that are there.
-use Rattle.std.proofs.Common.{◌≡◌, ℕ, ◌+◌, ◌-◌, ◌<◌, ◌≤◌, List}
-use Rattle.std.proofs.Common.{Bool, true, false, ◌||◌, ◌&&◌, if◌then◌else◌, IsOk}
+use Rattle.std.proofs.Common.{◌≡◌, ℕ, ◌+◌, ◌<◌, ◌≤◌, List}
+use Rattle.std.proofs.Common.{true, false, ◌||◌, ◌&&◌, if◌then◌else◌, IsOk}
 use Rattle.std.proofs.Common.{refl, ap, sym, subst, ◌∙◌, arith, ◌⊎◌, inl, inr}
 use Rattle.std.proofs.lemmas.Bool.{cases_Bool, cases_lt, and_parts, and_from, eq-eqb, eqb-true}
 use Rattle.std.proofs.lemmas.Bool.{eqb-false, lt-ltb, ltb-true, or_left, or_right, or_parts, or_cases}
@@ -16,7 +16,7 @@ use Rattle.tensor_ops.proofs.SameTensors.{IsSameTensor, same-input, same-unary}
 use Rattle.tensor_ops.proofs.SameTensors.{same-binary, same-ternary}
 use Rattle.tensor_ops.proofs.Shapes.{with_one-known, with_two-known, with_three-known}
 use Rattle.tensor_reduce.specs.Reading.{reads, instead, through}
-use Rattle.tensor_reduce.specs.Steps.{is_input, is_single}
+use Rattle.tensor_reduce.specs.Steps.{combines, combines_two, is_combining, is_input, is_single}
 
 pub nat_eq-itself : (n : ℕ) → nat_eq n n ≡ true
 nat_eq-itself n = eq-eqb n n refl
@@ -123,31 +123,30 @@ module _ (held all : List Contents) where
         | inr unread ↦ same-unread n (ternary o a b c) unread has there
       ]
 
--- the operands of what has parts are tensors
-one-tensor : (o : Unary) (a b : Term) → has_parts (unary o a) ≡ true → is_single (unary o a) ≡ true
+-- the operands of what combines are tensors
+one-tensor : (o : Unary) (a : Term) → combines o ≡ true → is_single (unary o a) ≡ true
     → is_input a ≡ true
-one-tensor (each o) a b parts single = (cc)
-one-tensor (constant v) a b parts single = (cc)
-one-tensor (movement m) a b parts single = (cc)
-one-tensor (pad pairs) a b parts single = (cc)
-one-tensor (reduce r axes) a b parts single = single
+one-tensor (each o) a combining single = (cc)
+one-tensor (constant v) a combining single = (cc)
+one-tensor (movement m) a combining single = (cc)
+one-tensor (pad pairs) a combining single = (cc)
+one-tensor (reduce r axes) a combining single = single
 
-two-tensors : (o : Binary) (a b : Term) → has_parts (binary o a b) ≡ true
-    → is_single (binary o a b) ≡ true
+two-tensors : (o : Binary) (a b : Term) → combines_two o ≡ true → is_single (binary o a b) ≡ true
     → (is_input a ≡ true) × (is_input b ≡ true)
-two-tensors (pairwise o) a b parts single = (cc)
-two-tensors (concat axis) a b parts single = (cc)
-two-tensors (contract pairs) a b parts single = and_parts (is_input a) (is_input b) single
-two-tensors (convolve axes) a b parts single = (cc)
+two-tensors (pairwise o) a b combining single = (cc)
+two-tensors (concat axis) a b combining single = (cc)
+two-tensors (contract pairs) a b combining single = and_parts (is_input a) (is_input b) single
+two-tensors (convolve axes) a b combining single = and_parts (is_input a) (is_input b) single
 
--- those of what has parts are
-pub ReadDirectly-single : (n : ℕ) (t : Term) → has_parts t ≡ true → is_single t ≡ true
+-- so it reads them directly
+pub ReadDirectly-single : (n : ℕ) (t : Term) → is_combining t ≡ true → is_single t ≡ true
     → ReadDirectly n t
-ReadDirectly-single n (input m) parts single = tt
-ReadDirectly-single n (unary o a) parts single = inl (one-tensor o a a parts single)
-ReadDirectly-single n (binary o a b) parts single =
-    let tensors = two-tensors o a b parts single in (inl tensors.0, inl tensors.1)
-ReadDirectly-single n (ternary o a b c) parts single = tt
+ReadDirectly-single n (input m) combining single = tt
+ReadDirectly-single n (unary o a) combining single = inl (one-tensor o a combining single)
+ReadDirectly-single n (binary o a b) combining single =
+    let tensors = two-tensors o a b combining single in (inl tensors.0, inl tensors.1)
+ReadDirectly-single n (ternary o a b c) combining single = tt
 
 -- also where one of them is read through
 ReadsDirectly-instead : (n k : ℕ) (u a : Term) → is_input a ≡ true → reads n u ≡ false
@@ -165,17 +164,17 @@ ReadsDirectly-instead n k u (unary o a) is_tensor unread = (cc)
 ReadsDirectly-instead n k u (binary o a b) is_tensor unread = (cc)
 ReadsDirectly-instead n k u (ternary o a b c) is_tensor unread = (cc)
 
-pub ReadDirectly-through : (n k : ℕ) (u t : Term) → has_parts t ≡ true → is_single t ≡ true
+pub ReadDirectly-through : (n k : ℕ) (u t : Term) → is_combining t ≡ true → is_single t ≡ true
     → reads n u ≡ false → ReadDirectly n (through k u t)
-ReadDirectly-through n k u (input m) parts single unread = tt
-ReadDirectly-through n k u (unary o a) parts single unread =
-    ReadsDirectly-instead n k u a (one-tensor o a a parts single) unread
-ReadDirectly-through n k u (binary o a b) parts single unread =
-    let tensors = two-tensors o a b parts single in (
+ReadDirectly-through n k u (input m) combining single unread = tt
+ReadDirectly-through n k u (unary o a) combining single unread =
+    ReadsDirectly-instead n k u a (one-tensor o a combining single) unread
+ReadDirectly-through n k u (binary o a b) combining single unread =
+    let tensors = two-tensors o a b combining single in (
       ReadsDirectly-instead n k u a tensors.0 unread,
       ReadsDirectly-instead n k u b tensors.1 unread,
     )
-ReadDirectly-through n k u (ternary o a b c) parts single unread = tt
+ReadDirectly-through n k u (ternary o a b c) combining single unread = tt
 
 -- who reads through a term reads what it reads, and what the operation reads
 reads-instead : (m n : ℕ) (u a : Term) → reads m (instead n u a) ≡ true
@@ -219,18 +218,18 @@ reads-through m n u (ternary o a b c) reading =
     or_right (reads m u) (reads m (ternary o a b c)) reading
 
 module _ (held all : List Contents) (n : ℕ) (u : Term) where
-  -- what has parts, over a term in the place of a tensor
-  pub same-through : (t : Term) → has_parts t ≡ true → ReadDirectly n t
+  -- what combines, over a term in the place of a tensor
+  pub same-through : (t : Term) → is_combining t ≡ true → ReadDirectly n t
       → IsOk (dims_of highest_rank t all)
       → IsSameTensor u held (input n) all
       → ((m : ℕ) → reads m t ≡ true → nat_eq m n ≡ false → input_of held m ≡ input_of all m)
       → IsSameTensor (through n u t) held t all
-  same-through (input m) parts direct has same there = (cc)
-  same-through (unary o a) parts direct has same there =
+  same-through (input m) combining direct has same there = (cc)
+  same-through (unary o a) combining direct has same there =
       let known = with_one-known (unary_dims highest_rank o) (dims_of highest_rank a all) has in
       same-unary held all o (instead n u a) a has
       (same-instead held all n u a direct same known.0 there)
-  same-through (binary o a b) parts direct has same there =
+  same-through (binary o a b) combining direct has same there =
       let known = with_two-known (binary_dims highest_rank o) (dims_of highest_rank a all)
       (dims_of highest_rank b all) has in
       same-binary held all o (instead n u a) a (instead n u b) b has
@@ -238,9 +237,16 @@ module _ (held all : List Contents) (n : ℕ) (u : Term) where
       (λ m r. there m (or_left (reads m a) (reads m b) r)))
       (same-instead held all n u b direct.1 same known.1
       (λ m r. there m (or_right (reads m a) (reads m b) r)))
-  same-through (ternary o a b c) parts direct has same there = (cc)
+  same-through (ternary o a b c) combining direct has same there = (cc)
 
--- its operation has parts too
+-- it combines as before, and has parts as before
+pub is_combining-through : (n : ℕ) (u t : Term) → is_combining t ≡ true
+    → is_combining (through n u t) ≡ true
+is_combining-through n u (input m) combining = combining
+is_combining-through n u (unary o a) combining = combining
+is_combining-through n u (binary o a b) combining = combining
+is_combining-through n u (ternary o a b c) combining = combining
+
 pub has_parts-through : (n : ℕ) (u t : Term) → has_parts t ≡ true → has_parts (through n u t) ≡ true
 has_parts-through n u (input m) parts = parts
 has_parts-through n u (unary o a) parts = parts
@@ -306,14 +312,14 @@ names-instead n count u (ternary o a b c) names there last direct =
     ]
 
 pub names-through : (n count : ℕ) (u t : Term) → has_inputs u count ≡ true
-    → has_inputs t (count + 1) ≡ true → n ≡ count → has_parts t ≡ true → ReadDirectly n t
+    → has_inputs t (count + 1) ≡ true → n ≡ count → is_combining t ≡ true → ReadDirectly n t
     → has_inputs (through n u t) count ≡ true
-names-through n count u (input m) names there last parts direct = (cc)
-names-through n count u (unary o a) names there last parts direct =
+names-through n count u (input m) names there last combining direct = (cc)
+names-through n count u (unary o a) names there last combining direct =
     names-instead n count u a names there last direct
-names-through n count u (binary o a b) names there last parts direct =
+names-through n count u (binary o a b) names there last combining direct =
     let each = and_parts (has_inputs a (count + 1)) (has_inputs b (count + 1)) there in
     and_from (has_inputs (instead n u a) count) (has_inputs (instead n u b) count)
     (names-instead n count u a names each.0 last direct.0)
     (names-instead n count u b names each.1 last direct.1)
-names-through n count u (ternary o a b c) names there last parts direct = (cc)
+names-through n count u (ternary o a b c) names there last combining direct = (cc)

@@ -21,3 +21,4 @@ pub mod Steps
 pub mod Combined
 pub mod Cutting
 pub mod Reading
+pub mod Ways

@@ -20,6 +20,13 @@ combines_two (concat axis) = false
 combines_two (contract pairs) = true
 combines_two (convolve axes) = true
 
+-- whether the last operation of a term does
+abbrev pub is_combining : Term → Bool
+is_combining (input n) = false
+is_combining (unary o a) = combines o
+is_combining (binary o a b) = combines_two o
+is_combining (ternary o a b c) = false
+
 -- a node, where it is a step
 abbrev pub own : Bool → Term → List Term
 own is_step t = if is_step then t ∷ [] else []

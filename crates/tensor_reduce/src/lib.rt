@@ -24,7 +24,9 @@ mod combined;
 mod cutting;
 mod laws;
 mod parts;
+mod places_read;
 mod plan;
+mod ranged;
 mod read_through;
 mod reading;
 mod running;
@@ -33,6 +35,7 @@ mod sharded;
 mod shards;
 mod step;
 mod step_kernel;
+mod way;
 mod workers;
 
 pub use laws::{

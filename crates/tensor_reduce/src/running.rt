@@ -8,12 +8,13 @@ ghost use Rattle.tensor_reduce.specs.Plan.{steps_in, term_of_step, terms_in, wor
 ghost use Rattle.tensor_reduce.specs.Plan.{last_tensor, IsReady, AreReady};
 ghost use Rattle.tensor_reduce.specs.Reading.{AreHeld, HasMore};
 
-use crate::parts::{Cut, leaf_of, places_combined};
+use crate::parts::{is_in_shards, leaf_of};
+use crate::places_read::places_combined;
 use crate::plan::Plan;
+use crate::ranged::of_ranges;
 use crate::read_through::read_through;
 use crate::sharded::of_shards;
 use crate::step::Step;
-use crate::step_kernel::StepKernel;
 use crate::workers::Workers;
 use parallel_for::{ForFault, PoolFault, Setup};
 use std::alloc::Global;
@@ -25,9 +26,11 @@ use tensor_ops::{Dims, Inputs, Tensor};
 /// its places on the workers of a pool that the setup describes.
 ///
 /// A reduction or a contraction of at most 64 values is worked out in shards, each a leaf of its
-/// own. An operand that such a step, or a reduction of long runs, reads alone and in the order of
-/// its places is no tensor of its own: its values are worked out a thousand at a time, as they are
-/// combined.
+/// own. An operand that an inner product reads alone, or a reduction over 16 index lists a value or
+/// more, is no tensor of its own: its values are worked out a thousand at a time, as they are
+/// combined. Nor is one that a contraction of more values reads alone, where it broadcasts, slices,
+/// shuffles, chips or strides an input or the tensor of an earlier step, and both operands have
+/// four rows or more: its values are taken where they lie.
 ///
 /// # Errors
 ///
@@ -150,14 +153,10 @@ fn work_out_step<RT: Threads + Wait + Sync>(
         t ≡ tensor_of (term_of_step step.now) (inputs.now.tensors ++ earlier.now)) }
     ensures faults { IfErr result (λ fault. fault ≡ ForFault.NoMemory) }
 {
-    if let Some(cut) = Cut::of_step(step, workers.block) {
-        return of_shards(workers, cut, step.expr(), step.dims(), inputs, earlier);
+    if is_in_shards(step) {
+        return of_shards(workers, step.expr(), step.dims(), inputs, earlier);
     }
-    let kernel = StepKernel::of(workers.alloc, step, inputs, earlier)?;
-    let dims = step.dims().copied();
     let places = places_combined(step.expr(), inputs, earlier);
-    let size = dims.size();
-    let leaf = leaf_of(size, places, workers.count(), workers.block);
-    let values = workers.items(&kernel, size, leaf)?;
-    Ok(Tensor::new(dims, values))
+    let leaf = leaf_of(step.dims().size(), places, workers.count(), workers.block);
+    of_ranges(workers, leaf, step.expr(), step.dims(), inputs, earlier)
 }

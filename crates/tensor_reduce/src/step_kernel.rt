@@ -1,11 +1,15 @@
 //! The kernel of a step.
 
-ghost use Rattle.std.specs.Prelude.{◌≡◌, ◌++◌, IfOk};
+ghost use Rattle.std.specs.Prelude.{◌≡◌, ◌++◌, length, IfOk, IsOk, IsTrue};
+ghost use Rattle.tensor_ops.specs.Legal.{highest_rank};
+ghost use Rattle.tensor_ops.specs.Result.{dims_of};
+ghost use Rattle.tensor_ops.specs.Term.{has_inputs};
+ghost use Rattle.tensor_ops.specs.Tree.{term_of};
 
 use crate::step::Step;
 use parallel_for::Kernel;
 use std::alloc::{AllocError, Allocator, Global};
-use tensor_ops::{Inputs, Tensor, TensorEvaluator};
+use tensor_ops::{Expr, Inputs, Tensor, TensorEvaluator};
 
 /// Works out the values of a step by ranges of places. It is made once for a step: all workers read
 /// the inputs and the tensors of earlier steps through it, and none of these is copied.
@@ -30,7 +34,25 @@ impl<'a> StepKernel<'a> {
         ensures tensors { IfOk result (λ kernel.
             kernel_tensors kernel ≡ inputs.now.tensors ++ earlier.now) }
     {
-        let evaluator = TensorEvaluator::over(alloc, step.expr(), inputs, earlier)?;
+        StepKernel::over(alloc, step.expr(), inputs, earlier)
+    }
+
+    /// The kernel of an expression over these.
+    pub(crate) fn over(
+        alloc: Global,
+        expr: &'a Expr,
+        inputs: &'a Inputs,
+        earlier: &'a [Tensor],
+    ) -> Result<StepKernel<'a>, AllocError>
+        requires inputs { IsTrue (has_inputs (term_of expr.now)
+            (length (inputs.now.tensors ++ earlier.now))) }
+        requires dims { IsOk (dims_of highest_rank (term_of expr.now)
+            (inputs.now.tensors ++ earlier.now)) }
+        ensures term { IfOk result (λ kernel. kernel_term kernel ≡ term_of expr.now) }
+        ensures tensors { IfOk result (λ kernel.
+            kernel_tensors kernel ≡ inputs.now.tensors ++ earlier.now) }
+    {
+        let evaluator = TensorEvaluator::over(alloc, expr, inputs, earlier)?;
         Ok(StepKernel { evaluator })
     }
 }

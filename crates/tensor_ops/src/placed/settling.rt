@@ -141,7 +141,11 @@ fn walk_along<'a>(
 }
 
 /// A walk over a placed expression.
-fn walk_over<'a>(alloc: Global, placed: Placed<'a>, route: Route) -> Result<Placed<'a>, AllocError>
+pub(crate) fn walk_over<'a>(
+    alloc: Global,
+    placed: Placed<'a>,
+    route: Route,
+) -> Result<Placed<'a>, AllocError>
     requires sound { IsSound placed }
     requires few { count_of placed ≤ most_elements }
     requires inside { (p : ℕ) → p < walk_size route.axes.items

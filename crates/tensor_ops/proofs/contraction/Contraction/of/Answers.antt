@@ -1,6 +1,8 @@
 use Rattle.std.proofs.Common.{◌≡◌, ◌<◌, subst, ◌∙◌, arith}
+use Rattle.tensor_ops.specs.Operand.{operand_at}
 use Rattle.tensor_ops.specs.Rows.{row_count}
-use Rattle.tensor_ops.proofs.Contractions.{rows-contraction, turned-contraction, length-pairs}
+use Rattle.tensor_ops.proofs.Contractions.{rows-contraction, turned-contraction}
+use Rattle.tensor_ops.proofs.Contractions.{same-contraction, length-pairs}
 use Rattle.tensor_ops.proofs.contraction.Contraction.of.Goals as goal
 
 pub unwrap-firsts-requires : goal.unwrap-firsts-requires
@@ -11,19 +13,31 @@ unwrap-firsts-requires c =
 pub returns-then-few-clause-count : goal.returns-then-few-clause-count
 returns-then-few-clause-count c =
     c.of-then-few-2.ensures.count
-    ∙ (rows-contraction c.args.pairs.now c.args.first_dims.now c.args.second_dims.now _ _ _ _ _ _ _
-    _ _ _ c.requires.dims
-    c.in_ok-left.ensures (c.as_slice-first_axes.ensures.value ∙ rw c.unwrap-firsts.ensures at c.paired_axes.ensures.first)
-    c.in_ok-right.ensures (c.as_slice-second_axes.ensures.value ∙ rw c.unwrap-firsts.ensures at c.paired_axes.ensures.second)).total
+    ∙ (same-contraction c.args.pairs.now c.args.first_dims.now c.args.second_dims.now
+    (operand_at c.args.first) (operand_at c.args.second) _ _ _ _ _ _ _ _ _ _ c.requires.dims
+    (λ p below. c.in_ok-list.ensures.each p (omega (arith, c.requires.first)))
+    (λ p below. c.in_ok-other.ensures.each p (omega (arith, c.requires.second)))
+    c.in_ok-left.ensures
+    (c.as_slice-first_axes.ensures.value
+    ∙ rw c.unwrap-firsts.ensures at c.paired_axes.ensures.first)
+    c.in_ok-right.ensures
+    (c.as_slice-second_axes.ensures.value
+    ∙ rw c.unwrap-firsts.ensures at c.paired_axes.ensures.second)).total
 
 pub returns-then-few-clause-each : goal.returns-then-few-clause-each
 returns-then-few-clause-each c p below =
     let within = subst (λ n. p < n) c.of-then-few-2.ensures.count below in
     c.of-then-few-2.ensures.value p
-    ∙ (rows-contraction c.args.pairs.now c.args.first_dims.now c.args.second_dims.now _ _ _ _ _ _ _
-    _ _ _ c.requires.dims
-    c.in_ok-left.ensures (c.as_slice-first_axes.ensures.value ∙ rw c.unwrap-firsts.ensures at c.paired_axes.ensures.first)
-    c.in_ok-right.ensures (c.as_slice-second_axes.ensures.value ∙ rw c.unwrap-firsts.ensures at c.paired_axes.ensures.second)).each p within
+    ∙ (same-contraction c.args.pairs.now c.args.first_dims.now c.args.second_dims.now
+    (operand_at c.args.first) (operand_at c.args.second) _ _ _ _ _ _ _ _ _ _ c.requires.dims
+    (λ p below. c.in_ok-list.ensures.each p (omega (arith, c.requires.first)))
+    (λ p below. c.in_ok-other.ensures.each p (omega (arith, c.requires.second)))
+    c.in_ok-left.ensures
+    (c.as_slice-first_axes.ensures.value
+    ∙ rw c.unwrap-firsts.ensures at c.paired_axes.ensures.first)
+    c.in_ok-right.ensures
+    (c.as_slice-second_axes.ensures.value
+    ∙ rw c.unwrap-firsts.ensures at c.paired_axes.ensures.second)).each p within
 
 pub returns-then-len-lt-TILE-clause-count : goal.returns-then-len-lt-TILE-clause-count
 returns-then-len-lt-TILE-clause-count c =

@@ -1,38 +1,15 @@
-use Rattle.std.proofs.Common.{◌≡◌, ◌-◌, refl, arith}
-use Rattle.tensor_shape.specs.Index.{size_of}
-use Rattle.tensor_ops.specs.Meaning.{meaning, count_of}
+use Rattle.std.proofs.Common.{length}
+use Rattle.std.specs.Cow.{cow_slice_items}
+use Rattle.std.proofs.lemmas.Result.{IfOk-weaker}
+use Rattle.tensor_ops.specs.Places.{value_in}
 use Rattle.tensor_ops.specs.Placing.{meaning_at}
-use Rattle.tensor_ops.specs.declared.placed.Placed.TheVariants.{Lent, Kept}
-use Rattle.tensor_ops.proofs.Worked.{values-placed, values-list, values-worked}
+use Rattle.tensor_ops.proofs.Worked.{values-given}
 use Rattle.tensor_ops.proofs.placed.Placed.into_values.Goals as goal
 
-pub returns-in-Lent : goal.returns-in-Lent
-returns-in-Lent c =
-    let count : count_of (Lent c.in-Lent.values)
-    ≡ size_of c.args.dims.now = rw c.in-Lent.is at c.requires.count in
-    rw c.in-Lent.is
-    (values-list (Lent c.in-Lent.values) c.in-Lent.values.now c.args.dims.now (record {
-      count =
-          refl;
-      each = λ p. refl;
-    }) count)
-
-pub returns-in-Kept : goal.returns-in-Kept
-returns-in-Kept c =
-    let count : count_of (Kept c.in-Kept.values)
-    ≡ size_of c.args.dims.now = rw c.in-Kept.is at c.requires.count in
-    rw c.in-Kept.is
-    (values-list (Kept c.in-Kept.values) c.in-Kept.values.items c.args.dims.now (record {
-      count =
-          refl;
-      each = λ p. refl;
-    }) count)
-
-pub returns-in_ok-values-in_default : goal.returns-in_ok-values-in_default
-returns-in_ok-values-in_default c =
-    let settled = c.in_ok-settled-in_default.settled in
-    values-worked (meaning settled) c.in_ok-values-in_default.values.items
-    (count_of settled) (c.size.result - 0) c.args.dims.now
-    (meaning_at c.args.self c.args.dims.now) (values-placed settled c.args.dims.now
-    (meaning_at c.args.self c.args.dims.now) c.in_ok-settled-in_default.ensures)
-    c.in_ok-values-in_default.ensures (omega (arith, c.size.ensures.value))
+pub returns : goal.returns
+returns c =
+    IfOk-weaker c.worked_out.result _ _
+    (λ v values. values-given (length (cow_slice_items v)) (value_in (cow_slice_items v))
+    c.in_ok-settled.settled c.args.dims.now (meaning_at c.args.self c.args.dims.now) values
+    c.in_ok-settled.ensures)
+    c.worked_out.ensures

@@ -5,7 +5,7 @@ use Rattle.tensor_ops.specs.Result.{dims_of}
 use Rattle.tensor_ops.specs.Term.{Term}
 use Rattle.tensor_ops.specs.Tree.{term_of}
 use Rattle.tensor_ops.proofs.Ranks.{dims_of-wider}
-use Rattle.tensor_reduce.proofs.Planned.{some-steps_of, length-steps_of, AreReady-steps_of}
+use Rattle.tensor_reduce.proofs.Planned.{length-steps_of, AreReady-steps_of}
 use Rattle.tensor_reduce.proofs.Planned.{worked_out-steps_of, last_tensor-steps_of}
 use Rattle.tensor_reduce.proofs.plan.Plan.of.Goals as goal
 

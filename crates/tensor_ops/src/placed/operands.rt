@@ -1,0 +1,116 @@
+//! Placed expressions as operands of contractions.
+
+ghost use Rattle.std.specs.Prelude.{◌≡◌, ◌<◌, ◌≤◌, ℕ, length, IfOk};
+ghost use Rattle.std.specs.Cow.{cow_slice_items};
+ghost use Rattle.tensor_shape.specs.Index.{size_of, place};
+ghost use Rattle.tensor_shape.specs.Legal.{most_elements};
+ghost use Rattle.tensor_ops.specs.Meaning.{count_of, IsSound};
+ghost use Rattle.tensor_ops.specs.Operand.{operand_at, operand_count};
+ghost use Rattle.tensor_ops.specs.Places.{value_in};
+ghost use Rattle.tensor_ops.specs.Placing.{HasValues, meaning_at};
+ghost use Rattle.tensor_ops.specs.Settling.{meaning_along};
+ghost use Rattle.tensor_ops.specs.Walk.{walk_size, reached};
+
+use crate::operand::{Operand, Routed};
+use crate::placed::Placed;
+use crate::placed::settling::{settled_over, walk_over};
+use crate::route::Route;
+use std::alloc::{AllocError, Global};
+use std::borrow::CowSlice;
+use tensor_shape::Dims;
+
+/// How many values a list has at most for each place of a route along which it is read: all of them
+/// are looked at, to see whether they are small. Of a longer list those along the route are stored.
+const MOST_FOR_A_PLACE: usize = 8;
+
+impl<'a> Placed<'a> {
+    /// All its values, where it has these dims: in a list along a route where it is a movement of
+    /// one, and else in order.
+    pub(crate) fn into_operand(self, alloc: Global, dims: &Dims) -> Result<Operand<'a>, AllocError>
+        requires sound { IsSound self }
+        requires count { count_of self ≡ size_of dims.now }
+        ensures { IfOk result (λ o. HasValues (operand_count o) (operand_at o) dims.now
+            (meaning_at self.entry dims.now)) }
+    {
+        let settled = settled_over(alloc, self, dims)?;
+        settled.operand(alloc, dims)
+    }
+
+    /// The same of one that is settled.
+    fn operand(self, alloc: Global, dims: &Dims) -> Result<Operand<'a>, AllocError>
+        requires sound { IsSound self }
+        requires count { count_of self ≡ size_of dims.now }
+        ensures { IfOk result (λ o. HasValues (operand_count o) (operand_at o) dims.now
+            (meaning_at self.entry dims.now)) }
+    {
+        if self.is_sparse(dims.size() as usize) {
+            return Ok(Operand::InOrder(self.worked_out(alloc, dims)?));
+        }
+        match self {
+            Placed::Walk(start, axes, operand) => {
+                let operand = Box::into_inner(operand);
+                operand.along(alloc, Route { start, axes }, dims)
+            }
+            settled => Ok(Operand::InOrder(settled.worked_out(alloc, dims)?)),
+        }
+    }
+
+    /// Whether it is read, at so many places, along a walk in a list that is much longer.
+    fn is_sparse(&self, count: usize) -> bool
+        requires { IsSound self.now }
+    {
+        match self.reading() {
+            Some(reading) => reading.list.len() / MOST_FOR_A_PLACE > count,
+            None => false,
+        }
+    }
+
+    /// What it has at the places of a route, which are those of these dims.
+    fn along(self, alloc: Global, route: Route, dims: &Dims) -> Result<Operand<'a>, AllocError>
+        requires sound { IsSound self }
+        requires few { count_of self ≤ most_elements }
+        requires inside { (p : ℕ) → p < walk_size route.axes.items
+            → reached route.start route.axes.items p < count_of self }
+        requires count { walk_size route.axes.items ≡ size_of dims.now }
+        ensures { IfOk result (λ o. HasValues (operand_count o) (operand_at o) dims.now
+            (λ index. meaning_along self.entry route.start route.axes.items
+            (place dims.now index))) }
+    {
+        match self {
+            Placed::Lent(values) => {
+                let list = CowSlice::Borrowed(values);
+                Ok(Operand::Along(Routed { list, route }))
+            }
+            Placed::Kept(values) => {
+                let list = CowSlice::Owned(values);
+                Ok(Operand::Along(Routed { list, route }))
+            }
+            placed => {
+                let walk = walk_over(alloc, placed, route)?;
+                Ok(Operand::InOrder(walk.worked_out(alloc, dims)?))
+            }
+        }
+    }
+
+    /// All its values in order, where it is settled and has these dims: lent where they are an
+    /// input's.
+    pub(crate) fn worked_out(
+        self,
+        alloc: Global,
+        dims: &Dims,
+    ) -> Result<CowSlice<'a, i64, Global>, AllocError>
+        requires sound { IsSound self }
+        requires count { count_of self ≡ size_of dims.now }
+        ensures { IfOk result (λ v. HasValues (length (cow_slice_items v))
+            (value_in (cow_slice_items v)) dims.now (meaning_at self.entry dims.now)) }
+    {
+        match self {
+            Placed::Lent(values) => Ok(CowSlice::Borrowed(values)),
+            Placed::Kept(values) => Ok(CowSlice::Owned(values)),
+            placed => {
+                let values = placed.values(alloc, alloc, 0, dims.size() as usize)?;
+                Ok(CowSlice::Owned(values))
+            }
+        }
+    }
+}
