@@ -258,20 +258,19 @@ pub(crate) fn is_read_in_runs(axes: &[u64], operand: &Part<'_>) -> bool {
     is_in_order(dropped.as_slice()) || has_short_lists(&operand.placed)
 }
 
-/// Whether all lists that are read are short, and each at its places or along a walk.
+/// Whether all lists that are read are short, and no two stand in turns.
 fn has_short_lists(placed: &Placed<'_>) -> bool {
     match placed {
         Placed::Lent(values) => values.len() <= SHORT_LIST,
         Placed::Kept(values) => values.len() <= SHORT_LIST,
         Placed::Same(_, _) => true,
-        Placed::Unary(_, operand) => has_short_lists(operand),
+        Placed::Unary(_, operand) | Placed::Walk(_, _, operand) => has_short_lists(operand),
         Placed::Binary(_, _, first, second) | Placed::Chain(_, first, second) => {
             has_short_lists(first) && has_short_lists(second)
         }
         Placed::Select(_, first, second, third) => {
             has_short_lists(first) && has_short_lists(second) && has_short_lists(third)
         }
-        Placed::Walk(_, _, operand) => operand.list().is_some() && has_short_lists(operand),
         Placed::Spliced(_, _, _) => false,
     }
 }
