@@ -14,7 +14,7 @@ use crate::cases::Cases;
 use std::{fs, io};
 
 /// The files of cases.
-const FILES: [&str; 20] = [
+const FILES: [&str; 21] = [
     "arguments.cases",
     "chains.cases",
     "check_order.cases",
@@ -28,6 +28,7 @@ const FILES: [&str; 20] = [
     "pieces.cases",
     "ranges.cases",
     "ranks.cases",
+    "reduced_operands.cases",
     "reductions.cases",
     "shards.cases",
     "tensors.cases",
