@@ -234,6 +234,16 @@ void sums_along(const Device& device, const Expression& expression, Index axis, 
   Line().print(sum);
 }
 
+// The sums of x*y+x along an axis of three, added up.
+std::function<void(const Request&)> sums_of_three(Index axis) {
+  return over_two<3>([axis](const auto& device, const auto& a, const auto& b) {
+    const Index first = axis == 0 ? 1 : 0, second = axis == 2 ? 1 : 2;
+    Tensor<2> sums(a.dimension(first), a.dimension(second));
+    sums.device(device) = (a * b + a).sum(Axes<1>{axis});
+    print_sum(device, sums);
+  });
+}
+
 template <class Device>
 void contraction(const Device& device, const Tensor<2>& a) {
   Tensor<2> product(a.dimension(0), a.dimension(1));
@@ -271,6 +281,8 @@ std::map<std::string, std::function<void(const Request&)>> forms() {
   const std::string line = R"(["broadcast","a",[#]])", square = R"(["broadcast","a",[#,#]])";
   const std::string other = R"(["broadcast","b",[#,#]])", cube = R"(["broadcast","a",[#,#,#]])";
   const std::string product = R"(["mul",)" + square + "," + other + "]";
+  const std::string three =
+      R"(["add",["mul",)" + cube + R"(,["broadcast","b",[#,#,#]]],)" + cube + "]";
   const std::string six = R"(["broadcast","a",[#,#,#,#,#,#]])";
   const auto whole = [](const std::string& text) { return R"(["sum",)" + text + ",[0,1]]"; };
   return {
@@ -311,6 +323,9 @@ std::map<std::string, std::function<void(const Request&)>> forms() {
        over_two<2>([](const auto& device, const auto& a, const auto& b) {
          sums_along(device, a * b + a, 1, a.dimension(0));
        })},
+      {whole(R"(["sum",)" + three + ",[0]]"), sums_of_three(0)},
+      {whole(R"(["sum",)" + three + ",[1]]"), sums_of_three(1)},
+      {whole(R"(["sum",)" + three + ",[2]]"), sums_of_three(2)},
       {R"(["prod",)" + square + ",[0,1]]", over<2>([](const auto& device, const auto& a) {
          Tensor<0> product;
          product.device(device) = a.prod();

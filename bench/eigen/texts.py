@@ -50,6 +50,14 @@ def squares(times, expr, lowest_bit=0, bound=2**63):
     return inputs, expr.replace("{a}", a).replace("{b}", b)
 
 
+def sums_of_three(axis):
+    """Sums of x*y+x along an axis of 128 by 128 by 64 places, added up."""
+    a = '["broadcast","a",[8,8,4]]'
+    b = a.replace('"a"', '"b"')
+    inputs = {"a": ([16] * 3, numbers(4096, 3)), "b": ([16] * 3, numbers(4096, 4))}
+    return inputs, whole(f'["sum",["add",["mul",{a},{b}],{a}],[{axis}]]')
+
+
 def cubes(dims, times, expr):
     return {"a": (dims, numbers(math.prod(dims), 5))}, expr.replace(
         "{a}", f'["broadcast","a",{listed(times)}]'
@@ -120,6 +128,18 @@ REQUESTS = {
     "products-over-the-second": (
         "sums of x*y+x over the second axis",
         lambda: squares(16, '["sum",["add",["mul",{a},{b}],{a}],[1]]'),
+    ),
+    "products-over-the-first-of-three": (
+        "sums of x*y+x over the first of three axes",
+        lambda: sums_of_three(0),
+    ),
+    "products-over-the-middle-of-three": (
+        "sums of x*y+x over the middle of three axes",
+        lambda: sums_of_three(1),
+    ),
+    "products-over-the-last-of-three": (
+        "sums of x*y+x over the last of three axes",
+        lambda: sums_of_three(2),
     ),
     "sums-over-the-first": ("sums over the first axis", lambda: squares(16, '["sum",{a},[0]]')),
     "sums-over-the-second": ("sums over the second axis", lambda: squares(16, '["sum",{a},[1]]')),
