@@ -4,7 +4,6 @@ pub mod Chains
 pub mod ChunkSums
 pub mod Combined
 pub mod CombinedRows
-pub mod CombinedRuns
 pub mod Contractions
 pub mod Convolutions
 pub mod Convolved

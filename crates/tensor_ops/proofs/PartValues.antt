@@ -20,7 +20,6 @@ use Rattle.tensor_ops.specs.Folds.{folded}
 use Rattle.tensor_ops.specs.InRuns.{GivesParts}
 use Rattle.tensor_ops.specs.Meaning.{meaning}
 use Rattle.tensor_ops.specs.Movement.{moved, moved_dims, shuffled_dims, scattered}
-use Rattle.tensor_ops.specs.Parts.{reduced_part}
 use Rattle.tensor_ops.specs.Places.{value_in}
 use Rattle.tensor_ops.specs.Placing.{Gives, meaning_at}
 use Rattle.tensor_ops.specs.Products.{sum_to}
@@ -166,29 +165,6 @@ module _ (axes ds es : List ℕ) (f : List ℕ → ℤ) (legal : are_axes (lengt
           ∙ ap f (woven-moved axes ds legal q x in_axes);
     }
 
--- a part of a run along the axes that a reduction drops, combined, is that part of its value
-pub reduced_part-run : (r : Reducer) (axes ds : List ℕ) (f : List ℕ → ℤ) (runs : ValueRuns)
-    → LieInRuns runs ds (among axes (length ds)) f → (p first count : ℕ)
-    → p < size_of (other_dims axes ds)
-    → first + count ≤ size_of (dims_at (among axes (length ds)) ds)
-    → folded r (unit r) (λ q. run_value runs p (first + q)) count
-    ≡ reduced_part r axes ds f (index_of (other_dims axes ds) p) first count
-reduced_part-run r axes ds f runs lies p first count below within =
-    let ys : List ℕ = among axes (length ds) in
-    let is : List ℕ = index_of (other_dims axes ds) p in
-    let others = other_dims-among ds axes in
-    let inside : p < size_of (other_dims ys ds) = omega (arith, ap size_of others) in
-    ap (fold (combine r) (unit r))
-    (map-shifted (λ q. run_value runs p (first + q))
-    (λ k. f (woven ys ds (index_of (dims_at ys ds) k) is)) 0 first count
-    (λ k in_count.
-    let here : first + (0 + k) ≡ first + k = omega arith in
-    ap (run_value runs p) here
-    ∙ lies.each p (first + k) inside (omega arith)
-    ∙ ap (λ d. f (woven ys ds (index_of (dims_at ys ds) (first + k)) (index_of d p))) others)
-    ∙ sym (map-map (λ js. f (woven ys ds js is))
-    (index_of (dims_at ys ds)) (range_with_len first count)))
-
 module _ (inputs : List Contents) where
   -- the value that a run has, where the operand was placed
   run-term : (t : Term) (operand : Placed) (ds axes : List ℕ) (runs : ValueRuns)
@@ -233,10 +209,22 @@ module _ (inputs : List Contents) where
         inner = at.long;
         places = at.many ∙ ap size_of others ∙ ap size_of (sym known.shape);
         parts = λ p first count below within.
-            let inside : p < size_of (other_dims axes es) = omega (arith, ap size_of known.shape) in
-            reduced_part-run r axes es (value t inputs) runs at p first count inside within
-            ∙ ap (λ d. reduced_part r axes es (value t inputs) (index_of d p) first count)
-            (sym known.shape);
+            let in_size : first + count ≤ size_of (dims_at ys es) = within in
+            let is : List ℕ = index_of (shape_of (unary (reduce r axes) t) inputs) p in
+            let is_at : index_of (other_dims ys es) p ≡ is =
+            ap (λ d. index_of d p) (others ∙ sym known.shape) in
+            let inside : p < size_of (other_dims ys es) =
+            omega (arith, ap size_of others, ap size_of known.shape) in
+            ap (fold (combine r) (unit r))
+            (map-shifted (λ q. run_value runs p (first + q))
+            (λ k. value t inputs (woven ys es (index_of (dims_at ys es) k) is)) 0 first count
+            (λ k in_count.
+            let here : first + (0 + k) ≡ first + k = omega arith in
+            ap (run_value runs p) here
+            ∙ at.each p (first + k) inside (omega arith)
+            ∙ ap (λ l. value t inputs (woven ys es (index_of (dims_at ys es) (first + k)) l)) is_at)
+            ∙ sym (map-map (λ js. value t inputs (woven ys es js is))
+            (index_of (dims_at ys es)) (range_with_len first count)));
       }
 
   -- the parts of a contraction

@@ -26,7 +26,7 @@ use Rattle.tensor_ops.proofs.SameTensors.{agree-unary, agree-binary}
 use Rattle.tensor_ops.proofs.SameValues.{Agree, reduced-other, contracted-other}
 
 -- the result dims of a reduction, and of a contraction
-pub reduced-shape : (axes ds rs : List ℕ) → reduced_dims axes ds ≡ Ok rs → other_dims axes ds ≡ rs
+reduced-shape : (axes ds rs : List ℕ) → reduced_dims axes ds ≡ Ok rs → other_dims axes ds ≡ rs
 reduced-shape axes ds rs dims =
     ap (λ r. result_unwrap_or r []) (sym (reduction-known axes ds (rw dims refl)).dims ∙ dims)
 

@@ -4,34 +4,29 @@ use Rattle.std.specs.Coded.{Unit-prop}
 use Rattle.tensor_ops.specs.Contracting.{contraction_count, contraction_value}
 use Rattle.tensor_ops.specs.Meaning.{meaning, count_of, IsSound, IsSound-prop}
 use Rattle.tensor_ops.specs.Reduced.{places_of_result, reduction_at}
-use Rattle.tensor_ops.specs.ValueRuns.{run_combined}
 use Rattle.tensor_ops.specs.declared.root.Root.{Root}
-use Rattle.tensor_ops.specs.declared.root.Root.TheVariants.{Placed, Reduction, Runs, Contraction}
+use Rattle.tensor_ops.specs.declared.root.Root.TheVariants.{Placed, Reduction, Contraction}
 
 -- how many values it has
 abbrev pub root_count : Root → ℕ
 root_count (Placed placed) = count_of placed
 root_count (Reduction r) = places_of_result r
-root_count (Runs r runs) = runs.count
 root_count (Contraction c) = contraction_count c
 
 -- the value at a place
 abbrev pub root_value : Root → ℕ → ℤ
 root_value (Placed placed) p = meaning placed p
 root_value (Reduction r) p = reduction_at r p
-root_value (Runs r runs) p = run_combined r runs p
 root_value (Contraction c) p = contraction_value c p
 
 -- what is asked of a placed expression is there
 abbrev pub IsSoundRoot : Root → Type 0
 IsSoundRoot (Placed placed) = IsSound placed
 IsSoundRoot (Reduction r) = Unit {0}
-IsSoundRoot (Runs r runs) = Unit {0}
 IsSoundRoot (Contraction c) = Unit {0}
 
 -- which is known in one way only
 pub IsSoundRoot-prop : (root : Root) → IsProp (IsSoundRoot root)
 IsSoundRoot-prop (Placed placed) = IsSound-prop placed
 IsSoundRoot-prop (Reduction r) = Unit-prop
-IsSoundRoot-prop (Runs r runs) = Unit-prop
 IsSoundRoot-prop (Contraction c) = Unit-prop

@@ -39,10 +39,8 @@ impl<'a> TensorEvaluator<'a> {
     ghost use Rattle.tensor_ops.specs.Evaluator.{term_evaluated, inputs_evaluated};
 
     /// An evaluator of an expression. Reductions and contractions below its last operation are
-    /// worked out here, and so is what a contraction takes; operands of broadcasts are, too, at
-    /// most 32,768 values of them. What a reduction takes is worked out here where it is read in
-    /// another order than its own, unless it reads short lists alone; and else as values are asked
-    /// for.
+    /// worked out here, and so is what a reduction or a contraction takes; operands of broadcasts
+    /// are, too, at most 32,768 values of them.
     pub fn of(
         alloc: Global,
         expr: &'a Expr,

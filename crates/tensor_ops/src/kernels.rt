@@ -9,18 +9,14 @@ ghost use Rattle.tensor_ops.specs.Meaning.{count_of, IsSound};
 ghost use Rattle.tensor_ops.specs.Placing.{Gives, HasValues, meaning_at};
 ghost use Rattle.tensor_ops.specs.Reduced.{places_of_result, reduction_at};
 ghost use Rattle.tensor_ops.specs.Reduction.{reduced, reduced_dims};
-ghost use Rattle.tensor_ops.specs.ValueRuns.{run_combined};
-ghost use Rattle.tensor_ops.specs.declared.reducer.Reducer.{Reducer};
 
 use crate::contraction::Contraction;
 use crate::contraction_dims::contracted_dims;
-use crate::index_parts::all_among;
 use crate::part::Part;
 use crate::placed::Placed;
 use crate::reducer::Reducer;
 use crate::reduction::Reduction;
 use crate::reduction_dims::reduced_dims;
-use crate::value_runs::ValueRuns;
 use std::alloc::{AllocError, Global};
 use std::borrow::CowSlice;
 use tensor_shape::{Dims, MAX_RANK};
@@ -44,29 +40,6 @@ pub(crate) fn reduction_of<'a>(
     let values = operand.placed.into_values(alloc, &operand.dims)?;
     let reduction = Reduction::of(alloc, reducer, &operand.dims, values, axes)?;
     Ok((reduction, dims))
-}
-
-/// The runs of an operand that a reduction over axes combines, one a place of its result, and its
-/// result dims.
-pub(crate) fn runs_of<'a>(
-    alloc: Global,
-    axes: &[u64],
-    operand: Part<'a>,
-    room: &mut usize,
-) -> Result<(ValueRuns<'a>, Dims), AllocError>
-    requires sound { IsSound operand.placed }
-    requires count { count_of operand.placed ≡ size_of operand.dims }
-    requires dims { IsOk (reduced_dims axes.now operand.dims) }
-    ensures dims { IfOk result (λ r. reduced_dims axes.now operand.entry.dims ≡ Ok r.1) }
-    ensures values { IfOk result (λ r. (reducer : Reducer)
-        → HasValues r.0.count (run_combined reducer r.0) r.1
-        (reduced reducer axes.now operand.entry.dims
-        (meaning_at operand.entry.placed operand.entry.dims))) }
-{
-    let dims = reduced_dims(axes, &operand.dims).unwrap();
-    let dropped = all_among(axes, operand.dims.rank());
-    let runs = ValueRuns::along(alloc, dropped.as_slice(), operand, room)?;
-    Ok((runs, dims))
 }
 
 /// A contraction of two operands over pairs of axes, and its result dims.

@@ -1,12 +1,9 @@
 //! Expressions made ready to be evaluated by ranges of places.
 
-ghost use Rattle.std.specs.Prelude.{◌≡◌, ◌≤◌, ◌-◌, length, map, IsTrue, Ok, IsOk, IfOk};
+ghost use Rattle.std.specs.Prelude.{◌≡◌, ◌≤◌, ◌-◌, length, map, IsTrue, IsOk, IfOk};
 ghost use Rattle.std.specs.List.{range_with_len};
-ghost use Rattle.tensor_shape.specs.Index.{size_of};
 ghost use Rattle.tensor_shape.specs.Legal.{highest_rank};
-ghost use Rattle.tensor_ops.specs.Meaning.{count_of, IsSound};
-ghost use Rattle.tensor_ops.specs.Placing.{Gives, HasValues, meaning_at};
-ghost use Rattle.tensor_ops.specs.Reduction.{reduced, reduced_dims};
+ghost use Rattle.tensor_ops.specs.Placing.{Gives, HasValues};
 ghost use Rattle.tensor_ops.specs.Result.{dims_of, shape_of};
 ghost use Rattle.tensor_ops.specs.Tensors.{tensors_in};
 ghost use Rattle.tensor_ops.specs.Term.{has_inputs};
@@ -16,16 +13,14 @@ ghost use Rattle.tensor_ops.specs.Value.{value};
 use crate::contraction::Contraction;
 use crate::convolution::convolution_of;
 use crate::expr::Expr;
-use crate::kernels::{contraction_of, reduction_of, runs_of};
+use crate::kernels::{contraction_of, reduction_of};
 use crate::node::{Binary, Node, Unary};
 use crate::part::Part;
 use crate::placed::Placed;
 use crate::placed::settling::settled_over;
 use crate::placing::{place, place_two};
-use crate::reducer::Reducer;
 use crate::reduction::Reduction;
 use crate::tensors::Tensors;
-use crate::value_runs::{ValueRuns, is_read_in_runs};
 use std::alloc::{AllocError, Allocator, Global};
 use tensor_shape::Dims;
 
@@ -37,10 +32,7 @@ pub(crate) const KEPT: usize = 32_768;
 /// last operation.
 pub(crate) enum Root<'a> {
     Placed(Placed<'a>),
-    /// A reduction of values that are there.
     Reduction(Reduction<'a>),
-    /// One whose values are worked out as they are combined, a run for each place.
-    Runs(Reducer, ValueRuns<'a>),
     Contraction(Contraction<'a>),
 }
 
@@ -48,7 +40,7 @@ pub(crate) enum Root<'a> {
 impl Drop for Root<'_> {
     fn drop(self) {
         match self {
-            Root::Placed(_) | Root::Reduction(_) | Root::Runs(_, _) | Root::Contraction(_) => {}
+            Root::Placed(_) | Root::Reduction(_) | Root::Contraction(_) => {}
         }
     }
 }
@@ -74,7 +66,8 @@ impl<'a> Root<'a> {
         match expr.node() {
             Node::Unary(Unary::Reduce(reducer, axes), operand) => {
                 let operand = place(alloc, operand, tensors, &mut room)?;
-                Root::reduced(alloc, reducer, axes, operand, &mut room)
+                let (reduction, dims) = reduction_of(alloc, reducer, axes, operand)?;
+                Ok((Root::Reduction(reduction), dims))
             }
             Node::Binary(Binary::Contract(pairs), first, second) => {
                 let (first, second) = place_two(alloc, first, second, tensors, &mut room)?;
@@ -90,32 +83,6 @@ impl<'a> Root<'a> {
                 let part = place_settled(alloc, expr, tensors, &mut room)?;
                 Ok((Root::Placed(part.placed), part.dims))
             }
-        }
-    }
-
-    /// A reduction of an operand over axes, and its result dims.
-    fn reduced(
-        alloc: Global,
-        reducer: Reducer,
-        axes: &[u64],
-        operand: Part<'a>,
-        room: &mut usize,
-    ) -> Result<(Root<'a>, Dims), AllocError>
-        requires sound { IsSound operand.placed }
-        requires count { count_of operand.placed ≡ size_of operand.dims }
-        requires dims { IsOk (reduced_dims axes.now operand.dims) }
-        ensures sound { IfOk result (λ r. IsSoundRoot r.0) }
-        ensures dims { IfOk result (λ r. reduced_dims axes.now operand.entry.dims ≡ Ok r.1) }
-        ensures values { IfOk result (λ r. HasValues (root_count r.0) (root_value r.0) r.1
-            (reduced reducer axes.now operand.entry.dims
-            (meaning_at operand.entry.placed operand.entry.dims))) }
-    {
-        if is_read_in_runs(axes, &operand) {
-            let (runs, dims) = runs_of(alloc, axes, operand, room)?;
-            Ok((Root::Runs(reducer, runs), dims))
-        } else {
-            let (reduction, dims) = reduction_of(alloc, reducer, axes, operand)?;
-            Ok((Root::Reduction(reduction), dims))
         }
     }
 
@@ -137,7 +104,6 @@ impl<'a> Root<'a> {
         match self {
             Root::Placed(placed) => placed.values(alloc, target, first, last),
             Root::Reduction(reduction) => reduction.values(target, first, last),
-            Root::Runs(reducer, runs) => runs.values(alloc, target, *reducer, first, last),
             Root::Contraction(contraction) => contraction.values(target, first, last),
         }
     }

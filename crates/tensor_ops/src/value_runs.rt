@@ -2,7 +2,7 @@
 //! worked out as they are asked for, a piece at a time.
 
 ghost use Rattle.std.specs.Prelude.{◌≡◌, ◌<◌, ◌≤◌, ◌+◌, ◌-◌, ◌*◌, ◌*ℤ◌, ◌++◌, length, map};
-ghost use Rattle.std.specs.Prelude.{true, Ok, IsTrue, IfOk, OnOk, vec_len, vec_capacity};
+ghost use Rattle.std.specs.Prelude.{true, Ok, IsTrue, IfOk};
 ghost use Rattle.std.specs.Cow.{cow_slice_items};
 ghost use Rattle.std.specs.List.{range_with_len};
 ghost use Rattle.tensor_shape.specs.Index.{size_of};
@@ -17,8 +17,8 @@ ghost use Rattle.tensor_ops.specs.Reduction.{are_axes, unit};
 ghost use Rattle.tensor_ops.specs.Term.{shuffle};
 ghost use Rattle.tensor_ops.specs.Woven.{others};
 
-use crate::folds::{add_combined, combined_with};
-use crate::index_parts::{all_among, axes_first, dims_at, other_dims};
+use crate::folds::combined_with;
+use crate::index_parts::{axes_first, dims_at, other_dims};
 use crate::node::Movement;
 use crate::part::Part;
 use crate::placed::settling::settled_over;
@@ -27,11 +27,8 @@ use crate::places::Places;
 use crate::placing::place_movement;
 use crate::reducer::Reducer;
 use crate::strip_dots::sum_with_products;
-use std::alloc::{AllocError, Allocator, Global};
+use std::alloc::{AllocError, Global};
 use std::borrow::CowSlice;
-
-/// How many values a list has at most that is read well in any order: 256 KiB of them.
-const SHORT_LIST: usize = 32_768;
 
 /// Runs of values, one after the other. Nothing of them is held but what the placed expression
 /// reads.
@@ -48,7 +45,7 @@ pub(crate) struct ValueRuns<'a> {
 }
 
 impl<'a> ValueRuns<'a> {
-    ghost use Rattle.tensor_ops.specs.ValueRuns.{run_value, run_combined, LieInRuns};
+    ghost use Rattle.tensor_ops.specs.ValueRuns.{run_value, LieInRuns};
 
     /// The values of an operand along some of its axes: a run for each index list of the others.
     pub(crate) fn along(
@@ -124,98 +121,6 @@ impl<'a> ValueRuns<'a> {
         Ok(value)
     }
 
-    /// What the runs from one to before another give, each combined from the unit, in order, in
-    /// memory of their own allocator.
-    pub(crate) fn values<A: Allocator>(
-        &self,
-        alloc: Global,
-        target: A,
-        reducer: Reducer,
-        first: usize,
-        last: usize,
-    ) -> Result<Vec<i64, A>, AllocError>
-        requires order { first ≤ last }
-        requires within { last ≤ self.now.count }
-        ensures { IfOk result (λ v. v.items
-            ≡ map (run_combined reducer self.now) (range_with_len first (last - first))) }
-    {
-        if self.length > PIECE {
-            self.one_by_one(alloc, target, reducer, first, last)
-        } else {
-            self.together(alloc, target, reducer, first, last)
-        }
-    }
-
-    /// The same, run by run.
-    fn one_by_one<A: Allocator>(
-        &self,
-        alloc: Global,
-        target: A,
-        reducer: Reducer,
-        first: usize,
-        last: usize,
-    ) -> Result<Vec<i64, A>, AllocError>
-        requires order { first ≤ last }
-        requires within { last ≤ self.now.count }
-        ensures { IfOk result (λ v. v.items
-            ≡ map (run_combined reducer self.now) (range_with_len first (last - first))) }
-    {
-        let mut values = Vec::with_capacity(target, last - first)?;
-        for run in first..last {
-            let value = self.combined(alloc, reducer, run, 0, self.length)?;
-            values.push(value)?;
-        }
-        Ok(values)
-    }
-
-    /// The same, where as many runs are worked out together as a piece has room for.
-    fn together<A: Allocator>(
-        &self,
-        alloc: Global,
-        target: A,
-        reducer: Reducer,
-        first: usize,
-        last: usize,
-    ) -> Result<Vec<i64, A>, AllocError>
-        requires order { first ≤ last }
-        requires within { last ≤ self.now.count }
-        ensures { IfOk result (λ v. v.items
-            ≡ map (run_combined reducer self.now) (range_with_len first (last - first))) }
-    {
-        let mut values = Vec::with_capacity(target, last - first)?;
-        let most = (PIECE / self.length.max(1)).max(1);
-        let mut run = first;
-        while run < last {
-            let end = run + (last - run).min(most);
-            self.add_runs(alloc, reducer, run, end, &mut values)?;
-            run = end;
-        }
-        Ok(values)
-    }
-
-    /// Appends what the runs from one to before another give.
-    fn add_runs<A: Allocator>(
-        &self,
-        alloc: Global,
-        reducer: Reducer,
-        first: usize,
-        last: usize,
-        values: &mut Vec<i64, A>,
-    ) -> Result<(), AllocError>
-        requires order { first ≤ last }
-        requires within { last ≤ self.now.count }
-        requires room { vec_len values.old + (last - first) ≤ vec_capacity values.old }
-        ensures items { OnOk result (values.new.items ≡ values.old.items
-            ++ map (run_combined reducer self.now) (range_with_len first (last - first))) }
-        ensures len { OnOk result (vec_len values.new ≡ vec_len values.old + (last - first)) }
-        ensures capacity { OnOk result (vec_capacity values.new ≡ vec_capacity values.old) }
-    {
-        let (from, to) = (self.length * first, self.length * last);
-        let piece = values_at(alloc, &self.placed, &Places::Run(from, to))?;
-        add_combined(reducer, piece.as_slice(), self.length, last - first, values);
-        Ok(())
-    }
-
     /// The sum, modulo 2^64, of the products of the values of a run from one to before another and
     /// those of a run of other values.
     pub(crate) fn multiplied(
@@ -245,33 +150,6 @@ impl<'a> ValueRuns<'a> {
             from = to;
         }
         Ok(sum)
-    }
-}
-
-/// Whether what is combined over axes is better worked out as it is asked for than put into a list
-/// before: it isn't in one, and is read in order, or all that it reads are short lists.
-pub(crate) fn is_read_in_runs(axes: &[u64], operand: &Part<'_>) -> bool {
-    if operand.placed.list().is_some() {
-        return false;
-    }
-    let dropped = all_among(axes, operand.dims.rank());
-    is_in_order(dropped.as_slice()) || has_short_lists(&operand.placed)
-}
-
-/// Whether all lists that are read are short, and no two stand in turns.
-fn has_short_lists(placed: &Placed<'_>) -> bool {
-    match placed {
-        Placed::Lent(values) => values.len() <= SHORT_LIST,
-        Placed::Kept(values) => values.len() <= SHORT_LIST,
-        Placed::Same(_, _) => true,
-        Placed::Unary(_, operand) | Placed::Walk(_, _, operand) => has_short_lists(operand),
-        Placed::Binary(_, _, first, second) | Placed::Chain(_, first, second) => {
-            has_short_lists(first) && has_short_lists(second)
-        }
-        Placed::Select(_, first, second, third) => {
-            has_short_lists(first) && has_short_lists(second) && has_short_lists(third)
-        }
-        Placed::Spliced(_, _, _) => false,
     }
 }
 

@@ -1,11 +1,10 @@
-use Rattle.std.proofs.Common.{◌≡◌, ℕ, ℤ, List, Result, Ok, Err, IfOk, ap, sym, ◌∙◌}
-use Rattle.tensor_ops.specs.Contents.{Contents}
+use Rattle.std.proofs.Common.{◌≡◌, ap, sym, ◌∙◌}
 use Rattle.tensor_ops.specs.Contracting.{contraction_count, contraction_value}
 use Rattle.tensor_ops.specs.Contraction.{contracted}
 use Rattle.tensor_ops.specs.Convolution.{convolved}
-use Rattle.tensor_ops.specs.Placing.{HasValues, meaning_at}
-use Rattle.tensor_ops.specs.Reduction.{reduced, reduced_dims}
-use Rattle.tensor_ops.specs.Root.{root_count, root_value}
+use Rattle.tensor_ops.specs.Placing.{meaning_at}
+use Rattle.tensor_ops.specs.Reduced.{places_of_result, reduction_at}
+use Rattle.tensor_ops.specs.Reduction.{reduced}
 use Rattle.tensor_ops.specs.Tensors.{tensors_in}
 use Rattle.tensor_ops.specs.Term.{unary, reduce, binary, contract, convolve}
 use Rattle.tensor_ops.specs.Tree.{term_of, unary_at, binary_at}
@@ -13,36 +12,24 @@ use Rattle.tensor_ops.specs.Value.{value}
 use Rattle.tensor_ops.proofs.Worked.{values-other, agree-term, agree-terms}
 use Rattle.tensor_ops.proofs.root.Root.of.Goals as goal
 
--- what two facts of a result give
-ok-both : {X E : Type 0} (r : Result X E) (P Q R : X → Type 0) → ((x : X) → P x → Q x → R x)
-    → IfOk r P → IfOk r Q → IfOk r R
-ok-both (Ok x) P Q R both p q = both x p q
-ok-both (Err e) P Q R both p q = tt
-
-pub returns-in_ok-operand-in-Unary-Reduce-default-clause-values :
-    goal.returns-in_ok-operand-in-Unary-Reduce-default-clause-values
-returns-in_ok-operand-in-Unary-Reduce-default-clause-values c =
+pub returns-in_ok-reduction-in-Unary-Reduce-default-clause-values :
+    goal.returns-in_ok-reduction-in-Unary-Reduce-default-clause-values
+returns-in_ok-reduction-in-Unary-Reduce-default-clause-values c =
     let arm = c.in-Unary-Reduce-default in
     let inner = c.in_ok-operand-in-Unary-Reduce-default in
-    let ds : List ℕ = inner.operand.dims in
-    let ts : List Contents = tensors_in c.args.tensors in
-    let op = reduce arm.reducer arm.axes.now in
-    let of_operand : List ℕ → ℤ =
-    reduced arm.reducer arm.axes.now ds (meaning_at inner.operand.placed ds) in
-    let node : unary op (term_of arm.operand.now) ≡ term_of c.args.expr.now =
+    let made = c.in_ok-reduction-in-Unary-Reduce-default in
+    let node : unary (reduce arm.reducer arm.axes.now) (term_of arm.operand.now)
+    ≡ term_of c.args.expr.now =
     ap (λ o. unary (unary_at o) (term_of arm.operand.now)) (sym arm.field-0-is) ∙ arm.ensures in
     rw (← node)
-    (ok-both c.reduced.result
-    (λ r. HasValues (root_count r.0) (root_value r.0) r.1 of_operand)
-    (λ r. reduced_dims arm.axes.now ds ≡ Ok r.1)
-    (λ r. HasValues (root_count r.0) (root_value r.0) r.1
-    (value (unary op (term_of arm.operand.now)) ts))
-    (λ r values dims.
-    values-other (root_count r.0) (root_value r.0) r.1 of_operand
-    (value (unary op (term_of arm.operand.now)) ts) values
-    (agree-term ts (term_of arm.operand.now) op inner.operand.placed ds r.1
-    inner.ensures.placed inner.ensures.dims dims))
-    c.reduced.ensures.values c.reduced.ensures.dims)
+    (values-other (places_of_result made.reduction) (reduction_at made.reduction) made.dims
+    (reduced arm.reducer arm.axes.now inner.operand.dims
+    (meaning_at inner.operand.placed inner.operand.dims))
+    (value (unary (reduce arm.reducer arm.axes.now)
+    (term_of arm.operand.now)) (tensors_in c.args.tensors)) made.ensures.values
+    (agree-term (tensors_in c.args.tensors) (term_of arm.operand.now)
+    (reduce arm.reducer arm.axes.now) inner.operand.placed inner.operand.dims made.dims
+    inner.ensures.placed inner.ensures.dims made.ensures.dims))
 
 pub returns-in_ok-contraction-in-Binary-Contract-default-default-clause-values :
     goal.returns-in_ok-contraction-in-Binary-Contract-default-default-clause-values
