@@ -32,10 +32,10 @@ parts-combining (binary o a b) parts = contraction-combines o parts
 parts-combining (ternary o a b c) parts = parts
 
 pub IsWayFor-combining : (way : Way) (t : Term) → IsWayFor way t → is_combining t ≡ true
-IsWayFor-combining Shards t for = parts-combining t for
+IsWayFor-combining (Shards cut) t for = parts-combining t for
 IsWayFor-combining (Ranges leaf) t for = for.0
 
 pub IsWayFor-through : (way : Way) (n : ℕ) (u t : Term) → IsWayFor way t
     → IsWayFor way (through n u t)
-IsWayFor-through Shards n u t for = has_parts-through n u t for
+IsWayFor-through (Shards cut) n u t for = has_parts-through n u t for
 IsWayFor-through (Ranges leaf) n u t for = (is_combining-through n u t for.0, for.1)

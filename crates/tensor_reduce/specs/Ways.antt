@@ -9,5 +9,5 @@ use Rattle.tensor_reduce.specs.declared.way.Way.TheVariants.{Shards, Ranges}
 -- a way to work out a term that combines: in shards where its values have parts, or by ranges of
 -- one place at least
 abbrev pub IsWayFor : Way → Term → Type 0
-IsWayFor Shards t = IsTrue (has_parts t)
+IsWayFor (Shards cut) t = IsTrue (has_parts t)
 IsWayFor (Ranges leaf) t = IsTrue (is_combining t) × (0 < leaf)

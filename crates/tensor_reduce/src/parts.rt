@@ -5,10 +5,9 @@ ghost use Rattle.tensor_ops.specs.Parts.{has_parts};
 ghost use Rattle.tensor_ops.specs.Tree.{term_of};
 ghost use Rattle.tensor_reduce.specs.Combined.{reducer_of};
 ghost use Rattle.tensor_reduce.specs.Plan.{term_of_step};
-ghost use Rattle.tensor_reduce.specs.Steps.{is_combining};
 
 use crate::step::Step;
-use tensor_ops::{Binary, Expr, Node, Reducer, Unary};
+use tensor_ops::{Binary, Expr, MAX_ELEMENTS, Node, Reducer, Unary};
 
 /// How many values a step has at most that is cut into shards.
 pub(crate) const FEW_VALUES: u64 = 64;
@@ -19,6 +18,39 @@ pub(crate) const SHORT: u64 = 4096;
 /// How many leaves of values that are combinations there are for each worker, so that none waits
 /// long for the last.
 const SHARES: u64 = 4;
+
+/// How the values of a step are cut into shards.
+#[derive(Clone, Copy, Drop)]
+pub(crate) struct Cut {
+    /// How many index lists a shard has, where there are not too many shards.
+    pub(crate) width: u64,
+    /// How many shards are worked out at a time.
+    pub(crate) leaf: u64,
+    ghost wide: { 0 < width },
+    ghost some: { 0 < leaf },
+}
+
+impl Cut {
+    /// Shards of a block of index lists, each a leaf of its own.
+    pub(crate) fn by_blocks(block: u64) -> Cut
+        requires { 0 < block }
+    {
+        Cut {
+            width: block,
+            leaf: 1,
+        }
+    }
+
+    /// A shard for each value, so many of them a leaf.
+    pub(crate) fn by_values(leaf: u64) -> Cut
+        requires { 0 < leaf }
+    {
+        Cut {
+            width: MAX_ELEMENTS,
+            leaf,
+        }
+    }
+}
 
 /// Whether a step's values are worked out in shards: where it has few of them, and what is combined
 /// lies side by side.
@@ -74,8 +106,7 @@ pub(crate) fn comes_as_read(step: &Step) -> bool {
 /// Whether an expression is a reduction, and what is combined lies side by side or is read in any
 /// order.
 pub(crate) fn is_reduction(expr: &Expr, in_any_order: bool) -> bool
-    ensures parts { IsTrue result → IsTrue (has_parts (term_of expr.now)) }
-    ensures combining { IsTrue result → IsTrue (is_combining (term_of expr.now)) }
+    ensures { IsTrue result → IsTrue (has_parts (term_of expr.now)) }
 {
     match expr.node() {
         Node::Unary(Unary::Reduce(_, axes), _) => in_any_order || are_first(axes),

@@ -133,7 +133,7 @@ fn of_way<RT: Threads + Wait + Sync>(
     ensures faults { IfErr result (λ fault. fault ≡ ForFault.NoMemory) }
 {
     match way {
-        Way::Shards => of_shards(workers, expr, dims, inputs, earlier),
+        Way::Shards(cut) => of_shards(workers, cut, expr, dims, inputs, earlier),
         Way::Ranges(leaf) => of_ranges(workers, leaf, expr, dims, inputs, earlier),
     }
 }

@@ -8,7 +8,7 @@ ghost use Rattle.tensor_reduce.specs.Plan.{steps_in, term_of_step, terms_in, wor
 ghost use Rattle.tensor_reduce.specs.Plan.{last_tensor, IsReady, AreReady};
 ghost use Rattle.tensor_reduce.specs.Reading.{AreHeld, HasMore};
 
-use crate::parts::{is_in_shards, leaf_of};
+use crate::parts::{Cut, is_in_shards, leaf_of};
 use crate::places_read::places_combined;
 use crate::plan::Plan;
 use crate::ranged::of_ranges;
@@ -26,7 +26,7 @@ use tensor_ops::{Dims, Inputs, Tensor};
 /// its places on the workers of a pool that the setup describes.
 ///
 /// A reduction or a contraction of at most 64 values is worked out in shards, each a leaf of its
-/// own. An operand that an inner product reads alone, or a reduction over 16 index lists a value or
+/// own. An operand that an inner product reads alone, or a reduction over 64 index lists a value or
 /// more, is no tensor of its own: its values are worked out a thousand at a time, as they are
 /// combined. Nor is one that a contraction of more values reads alone, where it broadcasts, slices,
 /// shuffles, chips or strides an input or the tensor of an earlier step, and both operands have
@@ -154,7 +154,8 @@ fn work_out_step<RT: Threads + Wait + Sync>(
     ensures faults { IfErr result (λ fault. fault ≡ ForFault.NoMemory) }
 {
     if is_in_shards(step) {
-        return of_shards(workers, step.expr(), step.dims(), inputs, earlier);
+        let cut = Cut::by_blocks(workers.block);
+        return of_shards(workers, cut, step.expr(), step.dims(), inputs, earlier);
     }
     let places = places_combined(step.expr(), inputs, earlier);
     let leaf = leaf_of(step.dims().size(), places, workers.count(), workers.block);

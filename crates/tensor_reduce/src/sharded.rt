@@ -11,7 +11,7 @@ ghost use Rattle.tensor_ops.specs.Value.{tensor_of};
 ghost use Rattle.tensor_reduce.specs.Combined.{most_items, shard_places, shard_at_place};
 
 use crate::combined::combined_values;
-use crate::parts::reducer_of;
+use crate::parts::{Cut, reducer_of};
 use crate::shard_kernel::ShardKernel;
 use crate::shards::Shards;
 use crate::workers::Workers;
@@ -24,6 +24,7 @@ use tensor_ops::{Dims, Expr, Inputs, MAX_ELEMENTS, PartEvaluator, Tensor};
 /// and combined. Where all of it is no more than a block it is one leaf.
 pub(crate) fn of_shards<RT: Threads + Wait + Sync>(
     workers: &Workers<'_, RT>,
+    cut: Cut,
     expr: &Expr,
     dims: &Dims,
     inputs: &Inputs,
@@ -40,10 +41,10 @@ pub(crate) fn of_shards<RT: Threads + Wait + Sync>(
 {
     let parts = PartEvaluator::over(workers.alloc, expr, inputs, earlier)?;
     let (inner, values) = (parts.inner(), dims.size());
-    let shards = Shards::of(inner, workers.block);
+    let shards = Shards::of(inner, cut.width);
     let count = shards.count();
     let is_short = inner.saturating_mul(values) <= workers.block;
-    let leaf = if is_short { MAX_ELEMENTS } else { 1 };
+    let leaf = if is_short { MAX_ELEMENTS } else { cut.leaf };
     let found = found_of(workers, ShardKernel { parts, shards }, values * count, leaf)?;
     let combined = combined_values(
         workers.alloc,

@@ -3,9 +3,8 @@
 ghost use Rattle.std.specs.Prelude.{◌<◌, IfSome, IsTrue};
 ghost use Rattle.tensor_ops.specs.Parts.{has_parts};
 ghost use Rattle.tensor_reduce.specs.Plan.{term_of_step};
-ghost use Rattle.tensor_reduce.specs.Steps.{is_combining};
 
-use crate::parts::{FEW_VALUES, SHORT, comes_as_read, has_parts, is_reduction, leaf_of};
+use crate::parts::{Cut, FEW_VALUES, SHORT, comes_as_read, has_parts, is_reduction, leaf_of};
 use crate::step::Step;
 use tensor_ops::{Binary, Dims, Expr, Movement, Node, Unary};
 
@@ -15,13 +14,13 @@ const MANY_ROWS: u64 = 4;
 
 /// Over how many index lists a value is at least that is worked out of values as they come, where
 /// there are many of them.
-const LONG_RUN: u64 = 16;
+const LONG_RUN: u64 = 64;
 
 /// How the values of a step are worked out that reads others through.
 #[derive(Clone, Copy, Drop)]
 pub(crate) enum Way {
     /// In shards.
-    Shards,
+    Shards(Cut),
     /// By ranges of so many places.
     Ranges(u64),
 }
@@ -47,7 +46,7 @@ impl Way {
                 return Way::of_reduction(operand, reader, workers, block);
             }
             if reader.dims().size() == 1 && has_parts(reader.expr()) {
-                return Some(Way::Shards);
+                return Some(Way::Shards(Cut::by_blocks(block)));
             }
         }
         if operand.dims().size() <= SHORT || !lies_in_place(operand.expr()) {
@@ -71,7 +70,7 @@ impl Way {
         ensures { IfSome result (λ way. IsWayFor way (term_of_step reader.now)) }
     {
         if comes_as_read(first) && comes_as_read(second) && is_inner_product(reader) {
-            return Some(Way::Shards);
+            return Some(Way::Shards(Cut::by_blocks(block)));
         }
         let longer = first.dims().size().max(second.dims().size());
         if longer <= SHORT || !lies_in_place(first.expr()) || !lies_in_place(second.expr()) {
@@ -80,24 +79,24 @@ impl Way {
         Way::of_contraction(first, reader, number, workers, block)
     }
 
-    /// A reduction whose operand's values are each worked out once: few values in shards, and many
-    /// by ranges where no fewer workers have something to do than if the operand were a tensor.
+    /// A reduction whose operand's values are each worked out once: few values in shards of a block,
+    /// and many each in one where no fewer workers have something to do than if the operand were a
+    /// tensor.
     fn of_reduction(operand: &Step, reader: &Step, workers: u64, block: u64) -> Option<Way>
         requires block { 0 < block }
         requires parts { IsTrue (has_parts (term_of_step reader.now)) }
-        requires combining { IsTrue (is_combining (term_of_step reader.now)) }
         ensures { IfSome result (λ way. IsWayFor way (term_of_step reader.now)) }
     {
         let (values, places) = (reader.dims().size(), operand.dims().size());
         if values <= FEW_VALUES {
-            return Some(Way::Shards);
+            return Some(Way::Shards(Cut::by_blocks(block)));
         }
         let leaf = leaf_of(values, places, workers, block);
         let all_work = values.div_ceil(leaf) >= places.div_ceil(block).min(workers);
         if !all_work || places < LONG_RUN * values {
             return None;
         }
-        Some(Way::Ranges(leaf))
+        Some(Way::Shards(Cut::by_values(leaf)))
     }
 
     /// A contraction of many values and of operands of many rows, of which this operand is the
