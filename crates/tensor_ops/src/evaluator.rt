@@ -39,8 +39,8 @@ impl<'a> TensorEvaluator<'a> {
     ghost use Rattle.tensor_ops.specs.Evaluator.{term_evaluated, inputs_evaluated};
 
     /// An evaluator of an expression. Reductions and contractions below its last operation are
-    /// worked out here, and so is what a reduction or a contraction takes; operands of broadcasts
-    /// are, too, at most 32,768 values of them.
+    /// worked out here, and so is what a reduction or a contraction takes, but for what a contraction
+    /// takes of a list along a walk; operands of broadcasts are, too, at most 32,768 values of them.
     pub fn of(
         alloc: Global,
         expr: &'a Expr,
