@@ -1,5 +1,5 @@
 -- Rows of a list along a route, whose tables are led along it.
-use Rattle.std.proofs.Common.{◌≡◌, ℕ, ℤ, ◌+◌, ◌<◌, ◌≤◌, List, length, slice_index, ap, sym, subst, arith}
+use Rattle.std.proofs.Common.{◌≡◌, ℕ, ℤ, ◌+◌, ◌<◌, ◌≤◌, List, length, slice_index, ap, sym, subst, ◌∙◌, arith}
 use Rattle.tensor_shape.specs.Index.{size_of}
 use Rattle.tensor_ops.specs.Offsets.{HasTables}
 use Rattle.tensor_ops.specs.Panels.{AreInside}
@@ -13,6 +13,17 @@ use Rattle.tensor_ops.proofs.Operands.{sum_of_tables-below, tables-operand}
 use Rattle.tensor_ops.proofs.Others.{are_axes-others}
 use Rattle.tensor_ops.proofs.Steps.{some-dims_at}
 use Rattle.tensor_ops.proofs.Walks.{reached-start}
+
+-- a table that is led along axes is led along a route that has the same
+pub IsLed-along : (start : ℕ) (axes route : List Axis) (places led : List ℕ) → axes ≡ route
+    → length led ≡ length places
+    → ((k : ℕ) → k < length places
+    → slice_index led k ≡ reached start axes (slice_index places k))
+    → IsLed start route places led
+IsLed-along start axes route places led same len each = record {
+  len = len;
+  each = λ k below. each k below ∙ ap (λ axes. reached start axes (slice_index places k)) same;
+}
 
 -- where there are values, all places of both tables are the operand's
 module _ (starts offsets axes ds : List ℕ) (tables : HasTables starts offsets axes ds)

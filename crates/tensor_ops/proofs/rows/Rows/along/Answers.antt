@@ -1,11 +1,10 @@
-use Rattle.std.proofs.Common.{ℕ, ℤ, ◌+◌, ◌<◌, length, slice_index, ap, refl, ◌∙◌, arith}
+use Rattle.std.proofs.Common.{ℕ, ℤ, ◌+◌, ◌<◌, length, slice_index, refl, arith}
 use Rattle.std.specs.Cow.{cow_slice_items}
 use Rattle.tensor_shape.specs.Index.{size_of}
 use Rattle.tensor_ops.specs.Operand.{routed_value}
 use Rattle.tensor_ops.specs.Places.{value_in}
-use Rattle.tensor_ops.specs.Walk.{reached, AreAllApart}
-use Rattle.tensor_ops.proofs.Apart.{IsLed}
-use Rattle.tensor_ops.proofs.LedRows.{starts-below, offsets-below, reached-none, led-inside, led-operand}
+use Rattle.tensor_ops.specs.Walk.{AreAllApart}
+use Rattle.tensor_ops.proofs.LedRows.{IsLed-along, starts-below, offsets-below, reached-none, led-inside, led-operand}
 use Rattle.tensor_ops.proofs.Operands.{sum_of_tables-below, tables-operand, operand-same}
 use Rattle.tensor_ops.proofs.rows.Rows.along.Goals as goal
 
@@ -96,18 +95,12 @@ invariant_of-result-2 c =
     let apart : AreAllApart route 1 starts offsets =
     rw (c.as_slice.ensures.value, c.deref.ensures.value, c.deref-else-count-eq0.ensures.value) at
     (c.if-not-are_apart.ensures refl) in
-    let first : IsLed start route starts c.lead.new.places.items = record {
-      len = c.lead.ensures.len;
-      each = λ k below.
-          c.lead.ensures.each k below
-          ∙ ap (λ axes. reached start axes (slice_index starts k)) c.as_slice-2.ensures.value;
-    } in
-    let second : IsLed 0 route offsets c.lead-2.new.places.items = record {
-      len = c.lead-2.ensures.len;
-      each = λ k below.
-          c.lead-2.ensures.each k below
-          ∙ ap (λ axes. reached 0 axes (slice_index offsets k)) c.as_slice-3.ensures.value;
-    } in
+    let first =
+    IsLed-along start _ route starts c.lead.new.places.items c.as_slice-2.ensures.value
+    c.lead.ensures.len c.lead.ensures.each in
+    let second =
+    IsLed-along 0 _ route offsets c.lead-2.new.places.items c.as_slice-3.ensures.value
+    c.lead-2.ensures.len c.lead-2.ensures.each in
     record {
       inside = led-inside (cow_slice_items c.args.routed.list) start route starts offsets
           c.lead.new.places.items c.lead-2.new.places.items c.args.axes.now c.args.dims.now
@@ -126,18 +119,12 @@ returns c =
     let apart : AreAllApart route 1 starts offsets =
     rw (c.as_slice.ensures.value, c.deref.ensures.value, c.deref-else-count-eq0.ensures.value) at
     (c.if-not-are_apart.ensures refl) in
-    let first : IsLed start route starts c.lead.new.places.items = record {
-      len = c.lead.ensures.len;
-      each = λ k below.
-          c.lead.ensures.each k below
-          ∙ ap (λ axes. reached start axes (slice_index starts k)) c.as_slice-2.ensures.value;
-    } in
-    let second : IsLed 0 route offsets c.lead-2.new.places.items = record {
-      len = c.lead-2.ensures.len;
-      each = λ k below.
-          c.lead-2.ensures.each k below
-          ∙ ap (λ axes. reached 0 axes (slice_index offsets k)) c.as_slice-3.ensures.value;
-    } in
+    let first =
+    IsLed-along start _ route starts c.lead.new.places.items c.as_slice-2.ensures.value
+    c.lead.ensures.len c.lead.ensures.each in
+    let second =
+    IsLed-along 0 _ route offsets c.lead-2.new.places.items c.as_slice-3.ensures.value
+    c.lead-2.ensures.len c.lead-2.ensures.each in
     led-operand (cow_slice_items c.args.routed.list) start route starts offsets
     c.lead.new.places.items c.lead-2.new.places.items c.args.axes.now c.args.dims.now
     c.in_ok-starts.ensures.tables apart first second
