@@ -4,6 +4,7 @@ pub mod Chains
 pub mod ChunkSums
 pub mod Combined
 pub mod CombinedRows
+pub mod CombinedRuns
 pub mod Contractions
 pub mod Convolutions
 pub mod Convolved

@@ -4,12 +4,16 @@ use Rattle.std.specs.Prelude.{List, length, map}
 use Rattle.std.specs.Prelude.{slice_index}
 use Rattle.std.specs.List.{fold, range_with_len}
 use Rattle.tensor_ops.specs.Places.{value_in}
-use Rattle.tensor_ops.specs.Reduction.{combine}
+use Rattle.tensor_ops.specs.Reduction.{combine, unit}
 use Rattle.tensor_ops.specs.declared.reducer.Reducer.{Reducer}
 
 -- a value, and the first n of others combined with it, one after the other
 abbrev pub folded : Reducer → ℤ → (ℕ → ℤ) → ℕ → ℤ
 folded r x others n = fold (combine r) x (map others (range_with_len 0 n))
+
+-- the values of a run, combined from the unit, where runs of n values lie one after the other
+abbrev pub run_folded : Reducer → (ℕ → ℤ) → ℕ → ℕ → ℤ
+run_folded r values n run = folded r (unit r) (λ q. values (q + n * run)) n
 
 -- each value of a row is its old one, combined with the first n of others that belong to its place
 pub record IsCombined (r : Reducer) (old new : List ℤ)

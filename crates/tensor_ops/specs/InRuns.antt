@@ -33,6 +33,10 @@ run_part (Multiplied a b) p first count =
     wrap (sum_to (λ q. run_value a (p % a.count) (first + q)
     *ℤ run_value b (p / a.count) (first + q)) count)
 
+-- what the whole runs of a place give
+abbrev pub run_whole : InRuns → ℕ → ℤ
+run_whole r p = run_part r p 0 (run_length r)
+
 -- the runs that are multiplied have equally many values
 abbrev pub HaveOneLength : InRuns → Type 0
 HaveOneLength (Combined r runs) = Unit {0}

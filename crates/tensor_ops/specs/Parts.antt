@@ -114,3 +114,7 @@ part_at (ternary o a b c) inputs is first count = pos 0
 -- and of the one at a place of its result
 abbrev pub part_value : Term → List Contents → ℕ → ℕ → ℕ → ℤ
 part_value t inputs p first count = part_at t inputs (index_of (shape_of t inputs) p) first count
+
+-- and what all index lists give that it is over
+abbrev pub whole_value : Term → List Contents → ℕ → ℤ
+whole_value t inputs p = part_value t inputs p 0 (inner_size t inputs)

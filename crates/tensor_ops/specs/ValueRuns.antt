@@ -1,13 +1,19 @@
 -- Values that lie in runs.
 use Rattle.std.specs.Prelude.{◌≡◌, ℕ, ℤ, ◌+◌, ◌*◌, ◌<◌, List}
 use Rattle.tensor_shape.specs.Index.{size_of, index_of}
+use Rattle.tensor_ops.specs.Folds.{run_folded}
 use Rattle.tensor_ops.specs.Meaning.{meaning}
 use Rattle.tensor_ops.specs.Woven.{dims_at, other_dims, woven}
+use Rattle.tensor_ops.specs.declared.reducer.Reducer.{Reducer}
 use Rattle.tensor_ops.specs.declared.value_runs.ValueRuns.{ValueRuns}
 
 -- value q of run x
 abbrev pub run_value : ValueRuns → ℕ → ℕ → ℤ
 run_value r x q = meaning r.placed (q + r.length * x)
+
+-- the values of run x, combined from the unit
+abbrev pub run_combined : Reducer → ValueRuns → ℕ → ℤ
+run_combined reducer r x = run_folded reducer (meaning r.placed) r.length x
 
 -- they are the values of a function at index lists of these dims: a run for each index list of the
 -- other axes, in it a value for each of these axes

@@ -1,11 +1,14 @@
 //! Values combined one after the other into the values of a row.
 
-ghost use Rattle.std.specs.Prelude.{◌≡◌, ◌<◌, ◌+◌, ◌*◌, ◌^◌, ℕ, length, slice_index};
-ghost use Rattle.tensor_ops.specs.Folds.{folded, IsCombined, offset_at};
+ghost use Rattle.std.specs.Prelude.{◌≡◌, ◌<◌, ◌≤◌, ◌+◌, ◌*◌, ◌^◌, ◌++◌, ℕ, length, map};
+ghost use Rattle.std.specs.Prelude.{slice_index, vec_len, vec_capacity};
+ghost use Rattle.std.specs.List.{range_with_len};
+ghost use Rattle.tensor_ops.specs.Folds.{folded, run_folded, IsCombined, offset_at};
 ghost use Rattle.tensor_ops.specs.Places.{value_in};
 ghost use Rattle.tensor_ops.specs.Reduction.{combine};
 
 use crate::reducer::Reducer;
+use std::alloc::Allocator;
 
 /// The shortest row that is combined as a row. Shorter ones are combined value by value.
 const SHORTEST_COMBINED_ROW: usize = 8;
@@ -144,6 +147,55 @@ fn all_with(reducer: Reducer, value: i64, others: &[i64]) -> i64
         all = reducer.combine(all, others[t]);
     }
     all
+}
+
+/// Appends what each of so many runs gives, one after the other, where its values are combined from
+/// the unit.
+pub(crate) fn add_combined<A: Allocator>(
+    reducer: Reducer,
+    values: &[i64],
+    run: usize,
+    count: usize,
+    combined: &mut Vec<i64, A>,
+)
+    requires within { run * count ≤ length values.now }
+    requires room { vec_len combined.old + count ≤ vec_capacity combined.old }
+    ensures items { combined.new.items ≡ combined.old.items
+        ++ map (run_folded reducer (value_in values.now) run) (range_with_len 0 count) }
+    ensures len { vec_len combined.new ≡ vec_len combined.old + count }
+    ensures capacity { vec_capacity combined.new ≡ vec_capacity combined.old }
+{
+    match reducer {
+        Reducer::Sum => add_each(Reducer::Sum, values, run, count, combined),
+        Reducer::Prod => add_each(Reducer::Prod, values, run, count, combined),
+        Reducer::Max => add_each(Reducer::Max, values, run, count, combined),
+        Reducer::Min => add_each(Reducer::Min, values, run, count, combined),
+        Reducer::All => add_each(Reducer::All, values, run, count, combined),
+        Reducer::Any => add_each(Reducer::Any, values, run, count, combined),
+    }
+}
+
+/// The same by one reducer, which is known where this is compiled.
+#[inline(always)]
+fn add_each<A: Allocator>(
+    reducer: Reducer,
+    values: &[i64],
+    run: usize,
+    count: usize,
+    combined: &mut Vec<i64, A>,
+)
+    requires within { run * count ≤ length values.now }
+    requires room { vec_len combined.old + count ≤ vec_capacity combined.old }
+    ensures items { combined.new.items ≡ combined.old.items
+        ++ map (run_folded reducer (value_in values.now) run) (range_with_len 0 count) }
+    ensures len { vec_len combined.new ≡ vec_len combined.old + count }
+    ensures capacity { vec_capacity combined.new ≡ vec_capacity combined.old }
+{
+    for index in 0..count {
+        let start = run * index;
+        let all = all_with(reducer, reducer.unit(), &values[start..start + run]);
+        combined.push_reserved(all);
+    }
 }
 
 /// A value, and so many that lie a step apart combined with it.

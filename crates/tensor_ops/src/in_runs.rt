@@ -1,7 +1,8 @@
 //! Reductions and contractions whose operands are placed in runs: parts of their values are worked
 //! out from parts of runs.
 
-ghost use Rattle.std.specs.Prelude.{◌≡◌, ◌<◌, ◌≤◌, ◌+◌, ◌-◌, ℕ, length, IsTrue, IsOk, IfOk};
+ghost use Rattle.std.specs.Prelude.{◌≡◌, ◌<◌, ◌≤◌, ◌+◌, ◌-◌, ℕ, length, map, IsTrue, IsOk, IfOk};
+ghost use Rattle.std.specs.List.{range_with_len};
 ghost use Rattle.tensor_shape.specs.Legal.{highest_rank};
 ghost use Rattle.tensor_ops.specs.Parts.{has_parts};
 ghost use Rattle.tensor_ops.specs.Result.{dims_of};
@@ -13,12 +14,13 @@ use crate::contraction_dims::paired_axes;
 use crate::expr::Expr;
 use crate::index_parts::all_among;
 use crate::node::{Binary, Node, Unary};
+use crate::placed::PIECE;
 use crate::placing::{place, place_two};
 use crate::reducer::Reducer;
 use crate::root::KEPT;
 use crate::tensors::Tensors;
 use crate::value_runs::ValueRuns;
-use std::alloc::{AllocError, Global};
+use std::alloc::{AllocError, Allocator, Global};
 
 /// A reduction or a contraction by runs of its operands.
 #[derive(Drop)]
@@ -30,7 +32,8 @@ pub(crate) enum InRuns<'a> {
 }
 
 impl<'a> InRuns<'a> {
-    ghost use Rattle.tensor_ops.specs.InRuns.{run_length, run_places, run_part, HaveOneLength, GivesParts};
+    ghost use Rattle.tensor_ops.specs.InRuns.{run_length, run_places, run_part, run_whole};
+    ghost use Rattle.tensor_ops.specs.InRuns.{HaveOneLength, GivesParts};
 
     /// The runs of a reduction or a contraction.
     pub(crate) fn of(
@@ -94,5 +97,50 @@ impl<'a> InRuns<'a> {
                 left.multiplied(alloc, x, right, y, first, last)
             }
         }
+    }
+
+    /// What whole runs give, those of the places from one to before another, in order, in memory
+    /// of their own allocator.
+    pub(crate) fn wholes<A: Allocator>(
+        &self,
+        alloc: Global,
+        target: A,
+        first: usize,
+        last: usize,
+    ) -> Result<Vec<i64, A>, AllocError>
+        requires lengths { HaveOneLength self.now }
+        requires order { first ≤ last }
+        requires within { last ≤ run_places self.now }
+        ensures { IfOk result (λ v. v.items
+            ≡ map (run_whole self.now) (range_with_len first (last - first))) }
+    {
+        match self {
+            InRuns::Combined(reducer, runs) if runs.length <= PIECE => {
+                runs.together(alloc, target, *reducer, first, last)
+            }
+            _ => self.one_by_one(alloc, target, first, last),
+        }
+    }
+
+    /// The same, place by place.
+    fn one_by_one<A: Allocator>(
+        &self,
+        alloc: Global,
+        target: A,
+        first: usize,
+        last: usize,
+    ) -> Result<Vec<i64, A>, AllocError>
+        requires lengths { HaveOneLength self.now }
+        requires order { first ≤ last }
+        requires within { last ≤ run_places self.now }
+        ensures { IfOk result (λ v. v.items
+            ≡ map (run_whole self.now) (range_with_len first (last - first))) }
+    {
+        let mut values = Vec::with_capacity(target, last - first)?;
+        for place in first..last {
+            let value = self.part(alloc, place, 0, self.length())?;
+            values.push(value)?;
+        }
+        Ok(values)
     }
 }

@@ -1,11 +1,13 @@
 //! Parts of the values of reductions and contractions.
 
-ghost use Rattle.std.specs.Prelude.{◌≡◌, ◌<◌, ◌≤◌, ◌+◌, ◌-◌, ◌++◌, ℕ, length, IsTrue, IsOk, IfOk};
+ghost use Rattle.std.specs.Prelude.{◌≡◌, ◌<◌, ◌≤◌, ◌+◌, ◌-◌, ◌++◌, ℕ, length, map};
+ghost use Rattle.std.specs.Prelude.{IsTrue, IsOk, IfOk};
+ghost use Rattle.std.specs.List.{range_with_len};
 ghost use Rattle.tensor_shape.specs.Legal.{highest_rank};
 ghost use Rattle.tensor_shape.specs.Index.{size_of};
 ghost use Rattle.tensor_ops.specs.InRuns.{run_length, run_places, run_part};
 ghost use Rattle.tensor_ops.specs.InRuns.{HaveOneLength, HaveOneLength-prop};
-ghost use Rattle.tensor_ops.specs.Parts.{has_parts, inner_size, part_value};
+ghost use Rattle.tensor_ops.specs.Parts.{has_parts, inner_size, part_value, whole_value};
 ghost use Rattle.tensor_ops.specs.Result.{dims_of, shape_of};
 ghost use Rattle.tensor_ops.specs.Tensors.{tensors_in};
 ghost use Rattle.tensor_ops.specs.Term.{has_inputs};
@@ -16,7 +18,7 @@ use crate::in_runs::InRuns;
 use crate::inputs::Inputs;
 use crate::tensor::Tensor;
 use crate::tensors::Tensors;
-use std::alloc::{AllocError, Global};
+use std::alloc::{AllocError, Allocator, Global};
 
 /// A reduction or a contraction that has result dims, over its inputs, made ready to be evaluated
 /// by parts of its values: what some of the index lists give that a value is over. It is made once;
@@ -89,5 +91,25 @@ impl<'a> PartEvaluator<'a> {
     {
         self.runs
             .part(self.alloc, place as usize, first as usize, last as usize)
+    }
+
+    /// The values at the places from the first to before the last, in order, each what all index
+    /// lists give that it is over. Takes memory for them. Where they are over few index lists, many
+    /// are worked out together.
+    pub fn wholes<A: Allocator>(
+        &self,
+        alloc: A,
+        first: u64,
+        last: u64,
+    ) -> Result<Vec<i64, A>, AllocError>
+        requires order { first ≤ last }
+        requires within { last
+            ≤ size_of (shape_of (term_in_parts self.now) (inputs_in_parts self.now)) }
+        ensures { IfOk result (λ v. v.items ≡ map (whole_value
+            (term_in_parts self.now) (inputs_in_parts self.now))
+            (range_with_len first (last - first))) }
+    {
+        self.runs
+            .wholes(self.alloc, alloc, first as usize, last as usize)
     }
 }

@@ -2,7 +2,7 @@
 //! worked out as they are asked for, a piece at a time.
 
 ghost use Rattle.std.specs.Prelude.{◌≡◌, ◌<◌, ◌≤◌, ◌+◌, ◌-◌, ◌*◌, ◌*ℤ◌, ◌++◌, length, map};
-ghost use Rattle.std.specs.Prelude.{true, Ok, IsTrue, IfOk};
+ghost use Rattle.std.specs.Prelude.{true, Ok, IsTrue, IfOk, OnOk, vec_len, vec_capacity};
 ghost use Rattle.std.specs.Cow.{cow_slice_items};
 ghost use Rattle.std.specs.List.{range_with_len};
 ghost use Rattle.tensor_shape.specs.Index.{size_of};
@@ -17,7 +17,7 @@ ghost use Rattle.tensor_ops.specs.Reduction.{are_axes, unit};
 ghost use Rattle.tensor_ops.specs.Term.{shuffle};
 ghost use Rattle.tensor_ops.specs.Woven.{others};
 
-use crate::folds::combined_with;
+use crate::folds::{add_combined, combined_with};
 use crate::index_parts::{axes_first, dims_at, other_dims};
 use crate::node::Movement;
 use crate::part::Part;
@@ -27,7 +27,7 @@ use crate::places::Places;
 use crate::placing::place_movement;
 use crate::reducer::Reducer;
 use crate::strip_dots::sum_with_products;
-use std::alloc::{AllocError, Global};
+use std::alloc::{AllocError, Allocator, Global};
 use std::borrow::CowSlice;
 
 /// Runs of values, one after the other. Nothing of them is held but what the placed expression
@@ -45,7 +45,7 @@ pub(crate) struct ValueRuns<'a> {
 }
 
 impl<'a> ValueRuns<'a> {
-    ghost use Rattle.tensor_ops.specs.ValueRuns.{run_value, LieInRuns};
+    ghost use Rattle.tensor_ops.specs.ValueRuns.{run_value, run_combined, LieInRuns};
 
     /// The values of an operand along some of its axes: a run for each index list of the others.
     pub(crate) fn along(
@@ -119,6 +119,55 @@ impl<'a> ValueRuns<'a> {
             from = to;
         }
         Ok(value)
+    }
+
+    /// What the runs from one to before another give, each combined from the unit, in order, in
+    /// memory of their own allocator. As many are worked out together as a piece has room for.
+    pub(crate) fn together<A: Allocator>(
+        &self,
+        alloc: Global,
+        target: A,
+        reducer: Reducer,
+        first: usize,
+        last: usize,
+    ) -> Result<Vec<i64, A>, AllocError>
+        requires order { first ≤ last }
+        requires within { last ≤ self.now.count }
+        ensures { IfOk result (λ v. v.items
+            ≡ map (run_combined reducer self.now) (range_with_len first (last - first))) }
+    {
+        let mut values = Vec::with_capacity(target, last - first)?;
+        let most = (PIECE / self.length.max(1)).max(1);
+        let mut run = first;
+        while run < last {
+            let end = run + (last - run).min(most);
+            self.add_runs(alloc, reducer, run, end, &mut values)?;
+            run = end;
+        }
+        Ok(values)
+    }
+
+    /// Appends what the runs from one to before another give.
+    fn add_runs<A: Allocator>(
+        &self,
+        alloc: Global,
+        reducer: Reducer,
+        first: usize,
+        last: usize,
+        values: &mut Vec<i64, A>,
+    ) -> Result<(), AllocError>
+        requires order { first ≤ last }
+        requires within { last ≤ self.now.count }
+        requires room { vec_len values.old + (last - first) ≤ vec_capacity values.old }
+        ensures items { OnOk result (values.new.items ≡ values.old.items
+            ++ map (run_combined reducer self.now) (range_with_len first (last - first))) }
+        ensures len { OnOk result (vec_len values.new ≡ vec_len values.old + (last - first)) }
+        ensures capacity { OnOk result (vec_capacity values.new ≡ vec_capacity values.old) }
+    {
+        let (from, to) = (self.length * first, self.length * last);
+        let piece = values_at(alloc, &self.placed, &Places::Run(from, to))?;
+        add_combined(reducer, piece.as_slice(), self.length, last - first, values);
+        Ok(())
     }
 
     /// The sum, modulo 2^64, of the products of the values of a run from one to before another and

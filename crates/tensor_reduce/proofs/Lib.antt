@@ -3,6 +3,7 @@ pub mod Cuts
 pub mod Fits
 pub mod Held
 pub mod LeftSteps
+pub mod LetGo
 pub mod Named
 pub mod Operands
 pub mod Planned

@@ -1,5 +1,5 @@
 -- What shards give of all values of a reduction or a contraction is its tensor.
-use Rattle.std.proofs.Common.{◌≡◌, ℕ, ℤ, pos, ◌+◌, ◌-◌, ◌*◌, ◌%◌, ◌<◌, ◌≤◌, true, Ok}
+use Rattle.std.proofs.Common.{◌≡◌, ℕ, ℤ, pos, ◌+◌, ◌-◌, ◌*◌, ◌/◌, ◌%◌, ◌<◌, ◌≤◌, true, Ok}
 use Rattle.std.proofs.Common.{List, [], length, map, take, drop, slice_index_or}
 use Rattle.std.proofs.Common.{mul-le-mul_right, refl, ap, sym, ◌∙◌, arith}
 use Rattle.std.proofs.Math.Nat.{mod-eq_of_lt, mul-add-mod_self_right}
@@ -12,7 +12,7 @@ use Rattle.std.specs.Result.{result_unwrap_or}
 use Rattle.tensor_ops.specs.Contents.{Contents}
 use Rattle.tensor_ops.specs.Index.{size_of, index_of}
 use Rattle.tensor_ops.specs.Legal.{highest_rank}
-use Rattle.tensor_ops.specs.Parts.{has_parts, inner_size}
+use Rattle.tensor_ops.specs.Parts.{has_parts, inner_size, part_value, whole_value}
 use Rattle.tensor_ops.specs.Reduction.{combination}
 use Rattle.tensor_ops.specs.Result.{dims_of, shape_of}
 use Rattle.tensor_ops.specs.Term.{Term, input, unary, binary, ternary}
@@ -23,7 +23,7 @@ use Rattle.tensor_ops.specs.Value.{value, value_of_place, tensor_of}
 use Rattle.tensor_ops.proofs.Evaluated.{map-values_from, tensor_of-made}
 use Rattle.tensor_reduce.specs.Combined.{reducer_of, shard_value, value_shard, combined_by}
 use Rattle.tensor_reduce.specs.Shards.{Shard, shards_by, shards_of, width_of}
-use Rattle.tensor_reduce.proofs.Sharding.{reduced-shards, contracted-shards}
+use Rattle.tensor_reduce.proofs.Sharding.{one-shard, reduced-shards, contracted-shards}
 
 -- of one value
 combination-shards_of : (t : Term) (inputs : List Contents) (p w : ℕ) → has_parts t ≡ true → 0 < w
@@ -74,6 +74,20 @@ shards-of_value t inputs shards found v p below is =
     ∙ ap (λ k. shard_value t inputs p (slice_index_or shards k (0, 0)))
     (mul-add-mod_self_right p c i ∙ mod-eq_of_lt below_c)
     ∙ sym (get_or-map (shard_value t inputs p) shards i (0, 0) (pos 0) below_c))
+
+-- what the one shard of a value gives
+pub value_shard-one : (t : Term) (inputs : List Contents) (n w p : ℕ) → 0 < w
+    → length (shards_by n w) ≡ 1 → n ≡ inner_size t inputs
+    → value_shard t inputs (shards_by n w) p ≡ whole_value t inputs p
+value_shard-one t inputs n w p some one all =
+    let here : p / length (shards_by n w) ≡ p = ap (λ m. p / m) one ∙ omega arith in
+    let first : p % length (shards_by n w) ≡ 0 = ap (λ m. p % m) one ∙ omega arith in
+    let shard : slice_index_or (shards_by n w) (p % length (shards_by n w)) (0, 0) ≡ (0, n) =
+    ap (λ i. slice_index_or (shards_by n w) i (0, 0)) first ∙ one-shard n w some one in
+    let count : n - 0 ≡ inner_size t inputs = omega (arith, all) in
+    ap (λ q. shard_value t inputs q
+    (slice_index_or (shards_by n w) (p % length (shards_by n w)) (0, 0))) here
+    ∙ ap (shard_value t inputs p) shard ∙ ap (part_value t inputs p 0) count
 
 -- of all of them
 pub tensor_of-shards : (t : Term) (inputs : List Contents) (w : ℕ) (shards : List Shard)

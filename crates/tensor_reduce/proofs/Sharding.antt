@@ -81,6 +81,18 @@ get_or-shards_by n w i below =
     get_or-map-range_with_len (shard_at n w) 0 (max 1 (div_up n w)) i i (0, 0)
     (omega (arith, length-shards_by n w)) (omega arith)
 
+-- one shard has all index lists
+pub one-shard : (n w : ℕ) → 0 < w → length (shards_by n w) ≡ 1
+    → slice_index_or (shards_by n w) 0 (0, 0) ≡ (0, n)
+one-shard n w some one =
+    let enough = div_ceil_times n w some in
+    let few : div_up n w * w ≤ 1 * w =
+    mul-le-mul_right w (omega (arith, length-shards_by n w)) in
+    let first : 0 * w ≡ 0 = omega arith in
+    let whole : min ((0 + 1) * w) n ≡ n = omega (arith, enough.0, few) in
+    get_or-shards_by n w 0 (omega (arith, one))
+    ∙ ap (λ a. (a, min ((0 + 1) * w) n)) first ∙ ap (λ b. (0, b)) whole
+
 pub shard-starts : (n w i : ℕ) → 0 < w → i < length (shards_by n w) → i * w ≤ n
 shard-starts n w i some below =
     let count = length-shards_by n w in
@@ -145,7 +157,7 @@ combination-sum xs =
     ∙ fold-wrap xs (pos 0)
 
 -- shards that give the same
-map-ext : {X Y : Type 0} (f g : X → Y) → ((x : X) → f x ≡ g x) → (xs : List X) → map f xs ≡ map g xs
+pub map-ext : {X Y : Type 0} (f g : X → Y) → ((x : X) → f x ≡ g x) → (xs : List X) → map f xs ≡ map g xs
 map-ext f g same [] = refl
 map-ext f g same (x ∷ xs) = let here = same x in let rest = map-ext f g same xs in cc (here, rest)
 

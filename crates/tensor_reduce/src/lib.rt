@@ -35,6 +35,7 @@ mod sharded;
 mod shards;
 mod step;
 mod step_kernel;
+mod unread;
 mod way;
 mod workers;
 

@@ -6,7 +6,7 @@ ghost use Rattle.tensor_ops.specs.Value.{tensor_of};
 ghost use Rattle.parallel_for.specs.Setup.{IsPoolSize, IsNoPoolSize, AreNoPartitions};
 ghost use Rattle.tensor_reduce.specs.Plan.{steps_in, term_of_step, terms_in, worked_out};
 ghost use Rattle.tensor_reduce.specs.Plan.{last_tensor, IsReady, AreReady};
-ghost use Rattle.tensor_reduce.specs.Reading.{AreHeld, HasMore};
+ghost use Rattle.tensor_reduce.specs.Reading.{AreHeld};
 
 use crate::parts::{Cut, is_in_shards, leaf_of};
 use crate::places_read::places_combined;
@@ -15,19 +15,20 @@ use crate::ranged::of_ranges;
 use crate::read_through::read_through;
 use crate::sharded::of_shards;
 use crate::step::Step;
+use crate::unread::{let_go, push_unread};
 use crate::workers::Workers;
 use parallel_for::{ForFault, PoolFault, Setup};
 use std::alloc::Global;
 use std::sync::Wait;
 use std::thread::Threads;
-use tensor_ops::{Dims, Inputs, Tensor};
+use tensor_ops::{Inputs, Tensor};
 
 /// The tensor of a plan's last step. The steps are worked out one after the other, each by blocks of
 /// its places on the workers of a pool that the setup describes.
 ///
 /// A reduction or a contraction of at most 64 values is worked out in shards, each a leaf of its
-/// own. An operand that an inner product reads alone, or a reduction over 64 index lists a value or
-/// more, is no tensor of its own: its values are worked out a thousand at a time, as they are
+/// own. An operand that an inner product reads alone, or a reduction over eight index lists a value
+/// or more, is no tensor of its own: its values are worked out a thousand at a time, as they are
 /// combined. Nor is one that a contraction of more values reads alone, where it broadcasts, slices,
 /// shuffles, chips or strides an input or the tensor of an earlier step, and both operands have
 /// four rows or more: its values are taken where they lie.
@@ -87,6 +88,7 @@ fn work_out<RT: Threads + Wait + Sync>(
     let mut done = 0;
     while done < steps.len() {
         done = advance(workers, steps, done, inputs, &mut tensors)?;
+        let_go(workers.alloc, &steps[done..], inputs, &mut tensors);
     }
     let Some(last) = tensors.pop() else {
         unreachable!()
@@ -112,6 +114,7 @@ fn advance<RT: Threads + Wait + Sync>(
         (worked_out (terms_in steps.now) inputs.now.tensors)
         (inputs.now.tensors ++ tensors.new.items)) }
     ensures more { IfOk result (λ next. done < next) }
+    ensures within { IfOk result (λ next. next ≤ length steps.now) }
     ensures some { IfOk result (λ next. 0 < length tensors.new.items) }
     ensures room { IfOk result (λ next.
         length tensors.new.items + length steps.now ≤ vec_capacity tensors.new + next) }
@@ -125,20 +128,6 @@ fn advance<RT: Threads + Wait + Sync>(
     let tensor = work_out_step(workers, &steps[done], inputs, tensors)?;
     tensors.push_reserved(tensor);
     Ok(done + 1)
-}
-
-/// Puts something in the place of so many tensors that nobody reads any more.
-fn push_unread(alloc: Global, tensors: &mut Vec<Tensor>, count: usize)
-    requires { length tensors.old.items + count ≤ vec_capacity tensors.old }
-    ensures more { HasMore count tensors.old.items tensors.new.items }
-    ensures capacity { vec_capacity tensors.new ≡ vec_capacity tensors.old }
-{
-    for _ in 0..count {
-        let Ok(dims) = Dims::new(&[0]) else {
-            unreachable!()
-        };
-        tensors.push_reserved(Tensor::new(dims, Vec::new(alloc)));
-    }
 }
 
 /// The tensor of a step, over inputs and the tensors of the steps before it.

@@ -1,6 +1,7 @@
 //! The kernel of a step that is worked out in shards.
 
-ghost use Rattle.std.specs.Prelude.{◌≡◌, ◌<◌, IfOk};
+ghost use Rattle.std.specs.Prelude.{◌≡◌, ◌<◌, ◌≤◌, ◌-◌, map, IfOk};
+ghost use Rattle.std.specs.List.{range_with_len};
 ghost use Rattle.tensor_ops.specs.Parts.{inner_size};
 ghost use Rattle.tensor_ops.specs.PartEvaluator.{term_in_parts, inputs_in_parts};
 ghost use Rattle.tensor_reduce.specs.Shards.{lists_cut};
@@ -31,6 +32,20 @@ impl<'a> ShardKernel<'a> {
         let (first, last) = self.shards.range(place % count);
         self.parts.part(place / count, first, last)
     }
+
+    /// What the shards from one to before another give, one after the other.
+    fn each<A: Allocator>(&self, alloc: A, first: u64, last: u64) -> Result<Vec<i64, A>, AllocError>
+        requires order { first ≤ last }
+        requires within { last ≤ shard_places self.now }
+        ensures { IfOk result (λ found. found.items
+            ≡ map (shard_at_place self.now) (range_with_len first (last - first))) }
+    {
+        let mut found = Vec::with_capacity(alloc, (last - first) as usize)?;
+        for place in first..last {
+            found.push_reserved(self.shard(place)?);
+        }
+        Ok(found)
+    }
 }
 
 // It has a place for each shard of each value, and there what the shard gives of the value.
@@ -49,10 +64,10 @@ impl<'a> Kernel for ShardKernel<'a> {
         first: u64,
         last: u64,
     ) -> Result<Vec<i64, A>, AllocError> {
-        let mut found = Vec::with_capacity(alloc, (last - first) as usize)?;
-        for place in first..last {
-            found.push_reserved(self.shard(place)?);
+        if self.shards.count() == 1 {
+            self.parts.wholes(alloc, first, last)
+        } else {
+            self.each(alloc, first, last)
         }
-        Ok(found)
     }
 }

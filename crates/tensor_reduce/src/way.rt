@@ -14,7 +14,7 @@ const MANY_ROWS: u64 = 4;
 
 /// Over how many index lists a value is at least that is worked out of values as they come, where
 /// there are many of them.
-const LONG_RUN: u64 = 64;
+const LONG_RUN: u64 = 8;
 
 /// How the values of a step are worked out that reads others through.
 #[derive(Clone, Copy, Drop)]

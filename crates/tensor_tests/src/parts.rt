@@ -26,13 +26,14 @@ const CONTRACTION: [Part; 5] = [
     (3, 3, 3, 0),
 ];
 
-/// Asserts what these parts of an expression's values are.
+/// Asserts what these parts of an expression's values are, and these values.
 fn gives(
     rt: &impl Abort,
     alloc: Global,
     name: &str,
     expr: &Expr,
     parts: &[Part],
+    wholes: &[i64],
 ) -> Result<(), Fail>
     requires inputs { IsTrue (has_inputs (term_of expr.now) 4) }
     requires parts { IsTrue (has_parts (term_of expr.now)) }
@@ -47,6 +48,8 @@ fn gives(
         let found = evaluator.part(place, first, last)?;
         assert_eq!(rt; found, value, "{name} at {place}, {first} to {last}");
     }
+    let found = evaluator.wholes(alloc, 0, dims.size())?;
+    assert_eq!(rt; found.as_slice(), wholes, "{name}");
     Ok(())
 }
 
@@ -54,10 +57,19 @@ fn gives(
 fn parts_of_sums_and_products(rt: HostRuntime) -> Result<(), Fail> {
     let alloc = rt.alloc();
     let sums = Unary::Reduce(Reducer::Sum, &[1]).over(alloc, Expr::Input(0))?;
-    gives(&rt, alloc, "sums", &sums, &SUMS)?;
+    gives(&rt, alloc, "sums", &sums, &SUMS, &[6, 15])?;
     let products = Unary::Reduce(Reducer::Prod, &[0]).over(alloc, Expr::Input(0))?;
-    gives(&rt, alloc, "products", &products, &PRODUCTS)?;
+    let values = [4, 10, 18];
+    gives(&rt, alloc, "products", &products, &PRODUCTS, &values)?;
     let (first, second) = (Expr::Input(0), Expr::Input(1));
     let contraction = Binary::Contract(&[(1, 0)]).over(alloc, first, second)?;
-    gives(&rt, alloc, "a contraction", &contraction, &CONTRACTION)
+    let values = [22, 49, 28, 64];
+    gives(
+        &rt,
+        alloc,
+        "a contraction",
+        &contraction,
+        &CONTRACTION,
+        &values,
+    )
 }

@@ -1,29 +1,23 @@
-use Rattle.std.proofs.Common.{rules, ℕ, ℤ, List, [], ◌∷◌, ◌++◌, ◌≡◌, ◌-◌, ◌+◌, ◌∙◌, ap, sym, refl, arith, map}
-use Rattle.std.specs.Int.{w64}
+use Rattle.std.proofs.Common.{◌≡◌, ◌-◌, length, map, IfOk, sym, subst, arith}
 use Rattle.std.specs.List.{range_with_len}
-use Rattle.std.proofs.lemmas.Int.{to_z-of_z}
-use Rattle.std.proofs.lemmas.List.FromFn.{map-range_with_len_more}
-use mir.Val.{SFits, to_z, of_z}
+use Rattle.tensor_ops.specs.PartEvaluator.{term_in_parts, inputs_in_parts}
+use Rattle.tensor_ops.specs.Parts.{whole_value}
 use Rattle.tensor_reduce.specs.Combined.{shard_at_place}
+use Rattle.tensor_reduce.specs.Shards.{shards_in}
+use Rattle.tensor_reduce.proofs.ShardedTensors.{value_shard-one}
+use Rattle.tensor_reduce.proofs.Sharding.{map-ext}
 use Rattle.tensor_reduce.proofs.shard_kernel.ShardKernelKernel.fill.Goals as goal
 
-pub loop-place-preserved : goal.loop-place-preserved
-loop-place-preserved g c =
-    let first = c.args.first in
-    let place = c.loop-place.place in
-    let value_at : ℕ → ℤ = shard_at_place c.args.self.now in
-    let next : place + 1 - first ≡ place - first + 1 = omega arith in
-    let fits : SFits w64 c.in_ok-shard.field-0 = search rules in
-    let put : to_z w64 (of_z w64 c.in_ok-shard.field-0) ≡ c.in_ok-shard.field-0 =
-    simp to_z-of_z refl in
-    record {
-      items =
-          c.push_reserved.ensures.items
-          ∙ ap (λ (xs : List ℤ). xs ++ to_z w64 (of_z w64 c.in_ok-shard.field-0) ∷ []) c.loop-place.invariant.items
-          ∙ ap (λ (x : ℤ). map value_at (range_with_len first (place - first)) ++ x ∷ [])
-          (put ∙ c.in_ok-shard.ensures)
-          ∙ sym (map-range_with_len_more value_at first (place - first) place (omega arith))
-          ∙ ap (λ (k : ℕ). map value_at (range_with_len first k)) (sym next);
-      len = omega (arith, c.push_reserved.ensures.len, c.loop-place.invariant.len);
-      room = omega (arith, c.push_reserved.ensures.capacity, c.loop-place.invariant.room);
-    }
+pub returns-then-count-eq1 : goal.returns-then-count-eq1
+returns-then-count-eq1 g c =
+    let s = c.args.self.now in
+    let t = term_in_parts s.parts in
+    let inputs = inputs_in_parts s.parts in
+    let places = range_with_len c.args.first (c.args.last - c.args.first) in
+    let one : length (shards_in s.shards) ≡ 1 =
+    omega (arith, c.count.ensures.count, c.if-count-eq1.true) in
+    let same : map (whole_value t inputs) places ≡ map (shard_at_place s) places =
+    map-ext (whole_value t inputs) (shard_at_place s)
+    (λ p. sym (value_shard-one t inputs s.shards.inner s.shards.width p s.shards.some one s.whole))
+    places in
+    subst (λ l. IfOk c.wholes.result (λ v. v.items ≡ l)) same c.wholes.ensures

@@ -1,7 +1,7 @@
 -- So many tensors stand behind the others.
 use Rattle.std.proofs.Common.{◌≡◌, ◌+◌, ◌≤◌, length, vec_capacity}
 use Rattle.tensor_reduce.specs.Reading.{HasMore}
-use Rattle.tensor_reduce.proofs.running.push_unread.Given as goal
+use Rattle.tensor_reduce.proofs.unread.push_unread.Given as goal
 
 abbrev pub invariant-loop : goal.invariant-loop
 invariant-loop l = record {

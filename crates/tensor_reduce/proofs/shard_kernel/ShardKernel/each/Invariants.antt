@@ -2,7 +2,7 @@
 use Rattle.std.proofs.Common.{◌≡◌, ◌-◌, ◌≤◌, map, vec_len, vec_capacity}
 use Rattle.std.specs.List.{range_with_len}
 use Rattle.tensor_reduce.specs.Combined.{shard_at_place}
-use Rattle.tensor_reduce.proofs.shard_kernel.ShardKernelKernel.fill.Given as goal
+use Rattle.tensor_reduce.proofs.shard_kernel.ShardKernel.each.Given as goal
 
 abbrev pub invariant-loop-place : goal.invariant-loop-place
 invariant-loop-place g l = record {
