@@ -27,8 +27,8 @@ use tensor_ops::{Inputs, Tensor};
 /// its places on the workers of a pool that the setup describes.
 ///
 /// A reduction or a contraction of at most 64 values is worked out in shards, each a leaf of its
-/// own. An operand that an inner product reads alone, or a reduction over eight index lists a value
-/// or more, is no tensor of its own: its values are worked out a thousand at a time, as they are
+/// own. An operand that an inner product reads alone, or a reduction over four index lists a value or
+/// more, is no tensor of its own: its values are worked out a thousand at a time, as they are
 /// combined. Nor is one that a contraction of more values reads alone, where it broadcasts, slices,
 /// shuffles, chips or strides an input or the tensor of an earlier step, and both operands have
 /// four rows or more: its values are taken where they lie.

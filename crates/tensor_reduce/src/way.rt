@@ -13,8 +13,8 @@ use tensor_ops::{Binary, Dims, Expr, Movement, Node, Unary};
 const MANY_ROWS: u64 = 4;
 
 /// Over how many index lists a value is at least that is worked out of values as they come, where
-/// there are many of them.
-const LONG_RUN: u64 = 8;
+/// there are many of them. A shuffled operand is read in rows of as many places.
+const LONG_RUN: u64 = 4;
 
 /// How the values of a step are worked out that reads others through.
 #[derive(Clone, Copy, Drop)]
