@@ -13,84 +13,117 @@ use std::thread::Threads;
 use tensor_ops::{Expr, Node, eval_plain};
 use tensor_runner::eval;
 
-/// A version, inputs, and how many they are.
-type Over = (u32, &'static str, u32);
+/// Inputs that expressions are over.
+#[derive(Clone, Copy)]
+enum Over {
+    Three,
+    Scalar,
+    Two,
+}
 
-const THREE: Over = (
-    2,
-    concat!(
-        r#"{"a":{"dims":[2,3],"data":[1,-4,2,5,-3,6]},"#,
-        r#""b":{"dims":[2,3],"data":[7,0,2,-1,9,6]},"#,
-        r#""k":{"dims":[2],"data":[10,1]}}"#
-    ),
-    3,
+impl Over {
+    /// The version of their text, the inputs, and how many they are.
+    fn parts(self) -> (u32, &'static str, u32) {
+        match self {
+            Over::Three => (2, THREE, 3),
+            Over::Scalar => (1, SCALAR, 1),
+            Over::Two => (1, TWO, 2),
+        }
+    }
+}
+
+const THREE: &str = concat!(
+    r#"{"a":{"dims":[2,3],"data":[1,-4,2,5,-3,6]},"#,
+    r#""b":{"dims":[2,3],"data":[7,0,2,-1,9,6]},"#,
+    r#""k":{"dims":[2],"data":[10,1]}}"#
 );
 
-const SCALAR: Over = (1, r#"{"a":{"dims":[],"data":[5]}}"#, 1);
+const SCALAR: &str = r#"{"a":{"dims":[],"data":[5]}}"#;
 
-const TWO: Over = (
-    1,
-    r#"{"b":{"dims":[2],"data":[1,2]},"a":{"dims":[2],"data":[30,40]}}"#,
-    2,
-);
+const TWO: &str = r#"{"b":{"dims":[2],"data":[1,2]},"a":{"dims":[2],"data":[30,40]}}"#;
 
 /// Expressions, first an operation of each kind, with arguments that tell them apart; and then a
 /// node of each arity over others.
 const TENSORS: [(Over, &str, &[u64], &[i64]); 19] = [
-    (THREE, r#"["abs","a"]"#, &[2, 3], &[1, 4, 2, 5, 3, 6]),
-    (THREE, r#"["constant","k",-7]"#, &[2], &[-7, -7]),
-    (THREE, r#"["broadcast","k",[2]]"#, &[4], &[10, 1, 10, 1]),
-    (THREE, r#"["slice","a",[1,1],[1,2]]"#, &[1, 2], &[5, 6]),
+    (Over::Three, r#"["abs","a"]"#, &[2, 3], &[1, 4, 2, 5, 3, 6]),
+    (Over::Three, r#"["constant","k",-7]"#, &[2], &[-7, -7]),
     (
-        THREE,
+        Over::Three,
+        r#"["broadcast","k",[2]]"#,
+        &[4],
+        &[10, 1, 10, 1],
+    ),
+    (
+        Over::Three,
+        r#"["slice","a",[1,1],[1,2]]"#,
+        &[1, 2],
+        &[5, 6],
+    ),
+    (
+        Over::Three,
         r#"["shuffle","a",[1,0]]"#,
         &[3, 2],
         &[1, 2, -3, -4, 5, 6],
     ),
-    (THREE, r#"["reshape","a",[6]]"#, &[6], &[1, -4, 2, 5, -3, 6]),
-    (THREE, r#"["chip","a",2,1]"#, &[2], &[-3, 6]),
     (
-        THREE,
+        Over::Three,
+        r#"["reshape","a",[6]]"#,
+        &[6],
+        &[1, -4, 2, 5, -3, 6],
+    ),
+    (Over::Three, r#"["chip","a",2,1]"#, &[2], &[-3, 6]),
+    (
+        Over::Three,
         r#"["reverse","a",[true,false]]"#,
         &[2, 3],
         &[-4, 1, 5, 2, 6, -3],
     ),
-    (THREE, r#"["stride","a",[2,2]]"#, &[1, 2], &[1, -3]),
-    (THREE, r#"["pad","k",[[1,2]]]"#, &[5], &[0, 10, 1, 0, 0]),
-    (THREE, r#"["maximum","a",[1]]"#, &[2], &[2, 6]),
+    (Over::Three, r#"["stride","a",[2,2]]"#, &[1, 2], &[1, -3]),
     (
-        THREE,
+        Over::Three,
+        r#"["pad","k",[[1,2]]]"#,
+        &[5],
+        &[0, 10, 1, 0, 0],
+    ),
+    (Over::Three, r#"["maximum","a",[1]]"#, &[2], &[2, 6]),
+    (
+        Over::Three,
         r#"["sub","a","b"]"#,
         &[2, 3],
         &[-6, -4, 0, 6, -12, 0],
     ),
-    (THREE, r#"["concat","k","k",0]"#, &[4], &[10, 1, 10, 1]),
     (
-        THREE,
+        Over::Three,
+        r#"["concat","k","k",0]"#,
+        &[4],
+        &[10, 1, 10, 1],
+    ),
+    (
+        Over::Three,
         r#"["contract","k","a",[[0,0]]]"#,
         &[3],
         &[6, 25, -24],
     ),
     (
-        THREE,
+        Over::Three,
         r#"["convolve","a","k",[1]]"#,
         &[2, 2],
         &[12, -35, 17, 56],
     ),
     (
-        THREE,
+        Over::Three,
         r#"["select",["lt","a","b"],"b","a"]"#,
         &[2, 3],
         &[7, 0, 2, 5, 9, 6],
     ),
     (
-        THREE,
+        Over::Three,
         r#"["select",["lt","a","b"],["neg",["add","a","b"]],["constant","a",5]]"#,
         &[2, 3],
         &[-8, 4, 5, 5, -6, 5],
     ),
-    (SCALAR, r#""a""#, &[], &[5]),
-    (TWO, r#"["add",["add","a","b"],"b"]"#, &[2], &[32, 44]),
+    (Over::Scalar, r#""a""#, &[], &[5]),
+    (Over::Two, r#"["add",["add","a","b"],"b"]"#, &[2], &[32, 44]),
 ];
 
 /// A copy of an expression.
@@ -114,11 +147,12 @@ fn copied(alloc: Global, expr: &Expr) -> Result<Expr, AllocError>
 fn has_values<RT: Threads + Wait + Abort + Sync>(
     rt: &RT,
     alloc: Global,
-    (version, inputs, count): Over,
+    over: Over,
     expr: &str,
     sizes: &[u64],
     values: &[i64],
 ) -> Result<(), Fail> {
+    let (version, inputs, count) = over.parts();
     let text = request(alloc, version, inputs, expr)?;
     let request = read_request(alloc, text.as_bytes())?;
     let tensor = eval(rt, alloc, &request)?;
