@@ -1,7 +1,10 @@
 //! Parts of the values of reductions and contractions, with ample memory.
 
-ghost use Rattle.std.specs.Prelude.{IsTrue};
+ghost use Rattle.std.specs.Prelude.{◌≡◌, IsTrue};
+ghost use Rattle.tensor_ops.specs.Index.{size_of};
+ghost use Rattle.tensor_ops.specs.PartEvaluator.{term_in_parts, inputs_in_parts};
 ghost use Rattle.tensor_ops.specs.Parts.{has_parts};
+ghost use Rattle.tensor_ops.specs.Result.{shape_of};
 ghost use Rattle.tensor_ops.specs.Term.{has_inputs};
 ghost use Rattle.tensor_ops.specs.Tree.{term_of};
 
@@ -26,6 +29,26 @@ const CONTRACTION: [Part; 5] = [
     (3, 3, 3, 0),
 ];
 
+/// Asserts what a part of the values is, of which there are so many.
+fn gives_part(
+    rt: &impl Abort,
+    name: &str,
+    evaluator: &PartEvaluator<'_>,
+    size: u64,
+    part: Part,
+) -> Result<(), Fail>
+    requires { size
+        ≡ size_of (shape_of (term_in_parts evaluator.now) (inputs_in_parts evaluator.now)) }
+{
+    let (place, first, last, value) = part;
+    if place >= size || first > last || last > evaluator.inner() {
+        return Err("there is no such part".into());
+    }
+    let found = evaluator.part(place, first, last)?;
+    assert!(rt; found == value, "{name} at {place}, {first} to {last}");
+    Ok(())
+}
+
 /// Asserts what these parts of an expression's values are, and these values.
 fn gives(
     rt: &impl Abort,
@@ -39,17 +62,13 @@ fn gives(
     requires parts { IsTrue (has_parts (term_of expr.now)) }
 {
     let inputs = four_inputs(alloc)?;
-    let dims = expr.dims(&inputs)?;
+    let size = expr.dims(&inputs)?.size();
     let evaluator = PartEvaluator::over(alloc, expr, &inputs, &[])?;
-    for &(place, first, last, value) in parts {
-        if place >= dims.size() || first > last || last > evaluator.inner() {
-            return Err("there is no such part".into());
-        }
-        let found = evaluator.part(place, first, last)?;
-        assert_eq!(rt; found, value, "{name} at {place}, {first} to {last}");
+    for part in parts {
+        gives_part(rt, name, &evaluator, size, *part)?;
     }
-    let found = evaluator.wholes(alloc, 0, dims.size())?;
-    assert_eq!(rt; found.as_slice(), wholes, "{name}");
+    let found = evaluator.wholes(alloc, 0, size)?;
+    assert!(rt; found.as_slice() == wholes, "{name}");
     Ok(())
 }
 
