@@ -4,7 +4,8 @@ ghost use Rattle.std.specs.Prelude.{◌≡◌, IfOk};
 ghost use Rattle.tensor_ops.specs.Tree.{term_of};
 
 use crate::texts::request;
-use expr_reader::read_request;
+use crate::told::expect;
+use expr_reader::{Request, read_request};
 use std::alloc::{AllocError, Global};
 use std::process::Abort;
 use std::sync::Wait;
@@ -143,6 +144,30 @@ fn copied(alloc: Global, expr: &Expr) -> Result<Expr, AllocError>
     }
 }
 
+/// Asserts that an expression has these values, by one thread.
+fn plainly_has(
+    rt: &impl Abort,
+    alloc: Global,
+    request: &Request,
+    expr: &Expr,
+    sizes: &[u64],
+    values: &[i64],
+) -> Result<(), Fail>
+    requires { term_of expr.now ≡ term_of request.now.expr }
+{
+    let tensor = eval_plain(alloc, expr, &request.inputs)?;
+    expect(rt, sizes, &tensor.dims().as_slice(), &sizes);
+    expect(rt, sizes, &tensor.values(), &values);
+    Ok(())
+}
+
+/// The request of an expression.
+fn asked(alloc: Global, over: Over, expr: &str) -> Result<Request, Fail> {
+    let (version, inputs, _) = over.parts();
+    let text = request(alloc, version, inputs, expr)?;
+    Ok(read_request(alloc, text.as_bytes())?)
+}
+
 /// Asserts that an expression has these values, by workers and alone, and so has its copy.
 fn has_values<RT: Threads + Wait + Abort + Sync>(
     rt: &RT,
@@ -152,23 +177,16 @@ fn has_values<RT: Threads + Wait + Abort + Sync>(
     sizes: &[u64],
     values: &[i64],
 ) -> Result<(), Fail> {
-    let (version, inputs, count) = over.parts();
-    let text = request(alloc, version, inputs, expr)?;
-    let request = read_request(alloc, text.as_bytes())?;
+    let request = asked(alloc, over, expr)?;
+    let (_, _, count) = over.parts();
+    let numbers = (request.workers, request.block, request.inputs.len());
+    expect(rt, expr, &numbers, &(2, 4, count));
     let tensor = eval(rt, alloc, &request)?;
-    let plain = eval_plain(alloc, &request.expr, &request.inputs)?;
+    expect(rt, expr, &tensor.dims().as_slice(), &sizes);
+    expect(rt, expr, &tensor.values(), &values);
+    plainly_has(rt, alloc, &request, &request.expr, sizes, values)?;
     let copy = copied(alloc, &request.expr)?;
-    let again = eval_plain(alloc, &copy, &request.inputs)?;
-    assert_eq!(rt;
-        (
-            (request.workers, request.block, request.inputs.len()),
-            (tensor.dims().as_slice(), again.dims().as_slice()),
-            (tensor.values(), plain.values(), again.values()),
-        ),
-        ((2, 4, count), (sizes, sizes), (values, values, values)),
-        "{expr}"
-    );
-    Ok(())
+    plainly_has(rt, alloc, &request, &copy, sizes, values)
 }
 
 #[test]

@@ -1,30 +1,36 @@
 //! Sizes, places and limits of dims.
 
+use crate::told::expect;
 use std::test::Fail;
 use tensor_shape::{Dims, ShapeFault};
 
 #[test]
 fn sizes_and_places(rt: HostRuntime) -> Result<(), Fail> {
     let dims = Dims::new(&[2, 1, 3])?;
-    let numbers = (dims.rank(), dims.dim(0), dims.dim(2), dims.size());
-    let sizes = [2, 1, 3].as_slice();
-    let copied = dims.copied();
-    let lists = (dims.as_slice(), copied.as_slice());
-    assert_eq!(rt; (numbers, lists), ((3, 2, 3, 6), (sizes, sizes)));
+    let numbers = [dims.rank() as u64, dims.dim(0), dims.dim(2), dims.size()];
+    expect(&rt, "sizes", &numbers, &[3, 2, 3, 6]);
     let places = [
         dims.linear(&[1, 0, 0]),
         dims.linear(&[0, 0, 1]),
         dims.linear(&[1, 0, 2]),
         dims.stride(2),
     ];
+    expect(&rt, "places", &places, &[1, 2, 5, 2]);
+    let (single, none) = (Dims::new(&[])?, Dims::new(&[0, 3])?);
+    let found = [single.size(), single.linear(&[]), none.size()];
+    expect(&rt, "one place and none", &found, &[1, 0, 0]);
+    Ok(())
+}
+
+#[test]
+fn index_lists_and_strides(rt: HostRuntime) -> Result<(), Fail> {
+    let dims = Dims::new(&[2, 1, 3])?;
     let (last, third, strides) = (dims.index_of(5), dims.index_of(2), dims.strides());
-    let lists = [last.as_slice(), third.as_slice(), strides.as_slice()];
-    let known: [&[u64]; 3] = [&[1, 0, 2], &[0, 0, 1], &[1, 2, 2]];
-    assert_eq!(rt; (places, lists), ([1, 2, 5, 2], known));
-    let single = Dims::new(&[])?;
-    let none = Dims::new(&[0, 3])?;
-    let found = (single.rank(), single.size(), single.linear(&[]));
-    assert_eq!(rt; (found, none.rank(), none.size()), ((0, 1, 0), 2, 0));
+    let found = [last.as_slice(), third.as_slice(), strides.as_slice()];
+    expect(&rt, "lists", &found, &[&[1, 0, 2], &[0, 0, 1], &[1, 2, 2]]);
+    let copied = dims.copied();
+    let found = [dims.as_slice(), copied.as_slice()];
+    expect(&rt, "a copy", &found, &[&[2, 1, 3], &[2, 1, 3]]);
     Ok(())
 }
 
@@ -50,11 +56,11 @@ const LIMITS: [(&[u64], Option<ShapeFault>); 9] = [
 #[test]
 fn limits_of_rank_and_elements(rt: HostRuntime) {
     for (sizes, fault) in LIMITS {
-        assert_eq!(rt; Dims::new(sizes).err(), fault, "{sizes:?}");
+        expect(&rt, sizes, &Dims::new(sizes).err(), &fault);
     }
     let numbers = [
         ShapeFault::RankTooHigh as u8,
         ShapeFault::TooManyElements as u8,
     ];
-    assert_eq!(rt; numbers, [1, 2]);
+    expect(&rt, "numbers", &numbers, &[1, 2]);
 }

@@ -1,5 +1,6 @@
 //! Faults by number and name.
 
+use crate::told::expect;
 use expr_reader::Fault;
 
 #[test]
@@ -22,6 +23,11 @@ fn faults_by_number_and_name(rt: HostRuntime) {
         (Fault::NoMemory, 15, "NoMemory"),
     ];
     for (fault, number, name) in faults {
-        assert_eq!(rt; (fault.number(), fault.name()), (number, name));
+        expect(
+            &rt,
+            number,
+            &(fault.number(), fault.name()),
+            &(number, name),
+        );
     }
 }

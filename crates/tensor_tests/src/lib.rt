@@ -33,3 +33,5 @@ mod streams;
 mod tensors;
 #[cfg(test)]
 mod texts;
+#[cfg(test)]
+mod told;

@@ -9,6 +9,7 @@ ghost use Rattle.tensor_ops.specs.Term.{has_inputs};
 ghost use Rattle.tensor_ops.specs.Tree.{term_of};
 
 use crate::plans::four_inputs;
+use crate::told::expect;
 use std::alloc::Global;
 use std::process::Abort;
 use std::test::Fail;
@@ -45,7 +46,7 @@ fn gives_part(
         return Err("there is no such part".into());
     }
     let found = evaluator.part(place, first, last)?;
-    assert!(rt; found == value, "{name} at {place}, {first} to {last}");
+    expect(rt, (name, place, first, last), &found, &value);
     Ok(())
 }
 
@@ -68,7 +69,7 @@ fn gives(
         gives_part(rt, name, &evaluator, size, *part)?;
     }
     let found = evaluator.wholes(alloc, 0, size)?;
-    assert!(rt; found.as_slice() == wholes, "{name}");
+    expect(rt, name, &found.as_slice(), &wholes);
     Ok(())
 }
 

@@ -5,6 +5,7 @@ ghost use Rattle.tensor_reduce.specs.Plan.{terms_in, worked_out, AreReady};
 ghost use Rattle.tensor_reduce.specs.Term.{has_inputs};
 ghost use Rattle.tensor_reduce.specs.Tree.{term_of};
 
+use crate::told::expect;
 use std::alloc::{AllocError, Global};
 use std::process::Abort;
 use std::test::Fail;
@@ -74,13 +75,9 @@ fn has_steps(rt: &impl Abort, alloc: Global, expr: &Expr, count: usize) -> Resul
     assert_eq!(rt; tensors.len() as usize, count + 4);
     let last = tensors.get(tensors.len() - 1);
     let step = &plan.steps()[count - 1];
-    let dims = whole.dims().as_slice();
-    let found = (
-        last.dims().as_slice(),
-        step.dims().as_slice(),
-        last.values(),
-    );
-    assert_eq!(rt; found, (dims, dims, whole.values()));
+    let dims = [last.dims().as_slice(), step.dims().as_slice()];
+    expect(rt, count, &dims, &[whole.dims().as_slice(); 2]);
+    expect(rt, count, &last.values(), &whole.values());
     Ok(())
 }
 

@@ -1,34 +1,45 @@
 //! The values of ranges of places across pieces and inside one, and those of the whole.
 
 use crate::texts::{places, request};
-use expr_reader::read_request;
+use crate::told::expect;
+use expr_reader::{Request, read_request};
 use std::alloc::Global;
 use std::process::Abort;
 use std::test::Fail;
 use tensor_ops::{TensorEvaluator, eval_plain};
 
-// An expression has these values from a place on, and so has its whole tensor.
-fn gives(
+// An expression has these values from a place on.
+fn range_gives(
     rt: &impl Abort,
     alloc: Global,
-    inputs: &str,
-    expr: &str,
+    request: &Request,
     first: u32,
     values: &[i64],
 ) -> Result<(), Fail> {
-    let text = request(alloc, 1, inputs, expr)?;
-    let request = read_request(alloc, text.as_bytes())?;
-    let first = u64::from(first);
-    let last = first + values.len() as u64;
     let evaluator = TensorEvaluator::of(alloc, &request.expr, &request.inputs)?;
+    let last = u64::from(first) + values.len() as u64;
     assert!(rt; last <= evaluator.dims().size());
-    let part = evaluator.values(alloc, first, last)?;
-    let whole = eval_plain(alloc, &request.expr, &request.inputs)?;
-    let in_whole = whole.values().get(first as usize..last as usize);
-    assert_eq!(rt; (part.as_slice(), in_whole), (values, Some(values)));
+    let part = evaluator.values(alloc, u64::from(first), last)?;
+    expect(rt, first, &part.as_slice(), &values);
     let dims = request.expr.dims(&request.inputs)?;
-    assert_eq!(rt; evaluator.dims().as_slice(), dims.as_slice());
-    assert_eq!(rt; whole.dims().as_slice(), dims.as_slice());
+    expect(rt, first, &evaluator.dims().as_slice(), &dims.as_slice());
+    Ok(())
+}
+
+// So has its whole tensor.
+fn whole_gives(
+    rt: &impl Abort,
+    alloc: Global,
+    request: &Request,
+    first: u32,
+    values: &[i64],
+) -> Result<(), Fail> {
+    let whole = eval_plain(alloc, &request.expr, &request.inputs)?;
+    let first = first as usize;
+    let found = whole.values().get(first..first + values.len());
+    expect(rt, first, &found, &Some(values));
+    let dims = request.expr.dims(&request.inputs)?;
+    expect(rt, first, &whole.dims().as_slice(), &dims.as_slice());
     Ok(())
 }
 
@@ -44,7 +55,10 @@ fn ranges_of_three_by_700(rt: HostRuntime) -> Result<(), Fail> {
         (other, 5, [15, 18, 21, 24].as_slice()),
         (other, 7, [].as_slice()),
     ] {
-        gives(&rt, rt.alloc(), inputs.as_str(), expr, first, values)?;
+        let text = request(rt.alloc(), 1, inputs.as_str(), expr)?;
+        let request = read_request(rt.alloc(), text.as_bytes())?;
+        range_gives(&rt, rt.alloc(), &request, first, values)?;
+        whole_gives(&rt, rt.alloc(), &request, first, values)?;
     }
     Ok(())
 }

@@ -1,5 +1,6 @@
 //! A text that is read.
 
+use crate::told::expect;
 use expr_reader::{Expr, read_request};
 use std::test::Fail;
 
@@ -21,12 +22,12 @@ fn reads_a_request(rt: HostRuntime) -> Result<(), Fail> {
     let inputs = &request.inputs;
     let numbers = (request.workers, request.block, inputs.len());
     assert_eq!(rt; numbers, (2, 4, 2));
-    let values = (inputs.get(0).values(), inputs.get(1).values());
+    let values = [inputs.get(0).values(), inputs.get(1).values()];
+    expect(&rt, "values", &values, &[&[5, 6], &[-7]]);
     let operands = match &request.expr {
         Expr::Add(left, right) => (input_of(left), input_of(right)),
         _ => (None, None),
     };
-    let known = ([5, 6].as_slice(), [-7].as_slice());
-    assert_eq!(rt; (values, operands), (known, (Some(1), Some(1))));
+    expect(&rt, "operands", &operands, &(Some(1), Some(1)));
     Ok(())
 }

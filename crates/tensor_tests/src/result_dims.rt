@@ -2,6 +2,7 @@
 ghost use Rattle.std.specs.Prelude.{◌≡◌, ◌⊎◌, IfOk, length};
 
 use crate::texts::request;
+use crate::told::expect;
 use expr_reader::read_request;
 use std::alloc::Global;
 use std::test::Fail;
@@ -41,7 +42,7 @@ fn dims_that_there_are_none_of(rt: HostRuntime) -> Result<(), Fail> {
     let inputs = two_by_three(rt.alloc())?;
     for (movement, fault, number) in FAULTS {
         let found = fault_of(rt.alloc(), &inputs, movement)?;
-        assert_eq!(rt; (found, fault as u8), (Some(fault), number));
+        expect(&rt, number, &(found, fault as u8), &(Some(fault), number));
     }
     Ok(())
 }
@@ -56,7 +57,7 @@ fn dims_over_those_of_the_operands(rt: HostRuntime) -> Result<(), Fail> {
             let known = [operand.dims(&request.inputs)?];
             let rank = request.inputs.rank_limit() as usize;
             let dims = request.expr.dims_over(rank, &request.inputs, &known)?;
-            assert_eq!(rt; dims.as_slice(), [2].as_slice());
+            expect(&rt, "a chip", &dims.as_slice(), &[2].as_slice());
         }
         _ => assert!(rt; false, "the expression is no chip"),
     }
@@ -83,9 +84,10 @@ fn results_within_the_rank_of_the_inputs(rt: HostRuntime) -> Result<(), Fail> {
         fault_of(rt.alloc(), &eight, Movement::Reshape(&[1; 8]))?,
         fault_of(rt.alloc(), &eight, Movement::Reshape(&[1; 9]))?,
     ];
-    let limits = (six.rank_limit(), eight.rank_limit());
     let large = Some(ExprFault::TooLarge);
-    assert_eq!(rt; (limits, found), ((6, 8), [None, large, None, large]));
+    expect(&rt, "results", &found, &[None, large, None, large]);
+    let limits = [six.rank_limit(), eight.rank_limit()];
+    expect(&rt, "limits", &limits, &[6, 8]);
     Ok(())
 }
 
@@ -98,6 +100,7 @@ fn dims_of_the_largest_contraction(rt: HostRuntime) -> Result<(), Fail> {
     let text = request(rt.alloc(), 1, inputs, expr.as_str())?;
     let request = read_request(rt.alloc(), text.as_bytes())?;
     let dims = request.expr.dims(&request.inputs)?;
-    assert_eq!(rt; dims.as_slice(), [1024, 1024].as_slice());
+    let square = [1024, 1024].as_slice();
+    expect(&rt, "a contraction", &dims.as_slice(), &square);
     Ok(())
 }

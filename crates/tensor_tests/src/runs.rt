@@ -3,6 +3,7 @@
 
 use crate::streams::{Full, Giving, Taking};
 use crate::texts::{PRODUCT, PRODUCT_LINE, SCALAR, SCALAR_LINE, SPACED};
+use crate::told::expect;
 use std::alloc::Global;
 use std::io;
 use std::process::Abort;
@@ -46,18 +47,10 @@ fn expect_run<RT: Threads + Wait + Abort + Sync>(
     let reads = wanted.reads.unwrap_or(reader.calls);
     let writes = wanted.writes.unwrap_or(writer.calls);
     let taken = writer.writer.taken.as_slice();
-    assert_eq!(rt;
-        (
-            ended,
-            Some(taken),
-            (reader.failures, writer.failures),
-            reader.calls,
-            writer.calls
-        ),
-        (wanted.ended, front, failures, reads, writes),
-        "{}",
-        wanted.name
-    );
+    let name = wanted.name;
+    expect(rt, name, &(ended, Some(taken)), &(wanted.ended, front));
+    expect(rt, name, &(reader.failures, writer.failures), &failures);
+    expect(rt, name, &(reader.calls, writer.calls), &(reads, writes));
 }
 
 const MOST: usize = 16_777_216;
@@ -244,9 +237,9 @@ fn endings_of_lines(rt: HostRuntime) {
     for (name, text, good_calls, room, status, complaint, line) in ENDINGS {
         let (ending, taken) = served(&rt, rt.alloc(), text, good_calls, room);
         let wanted = Ending { status, complaint };
-        assert_eq!(rt; ending, wanted, "{name}");
+        expect(&rt, name, &ending, &wanted);
         let bytes = line.as_bytes();
         let front = &bytes[..bytes.len().min(room)];
-        assert_eq!(rt; taken.as_slice(), front, "{name}");
+        expect(&rt, name, &taken.as_slice(), &front);
     }
 }

@@ -1,5 +1,6 @@
 //! Shards: the ranges that index lists are cut into.
 
+use crate::told::expect;
 use std::process::Abort;
 use tensor_reduce::Shards;
 
@@ -31,13 +32,14 @@ fn are(rt: &impl Abort, inner: u64, block: u64, count: u64, width: u64) {
     for shard in 0..shards.count() {
         let range = shards.range(shard);
         let wanted = (first, first.saturating_add(width).min(inner));
-        assert_eq!(rt; range, wanted, "{inner} by {block}, shard {shard}");
+        expect(rt, (inner, block, shard), &range, &wanted);
         first = range.1;
     }
-    assert_eq!(rt;
-        (shards.count(), first),
-        (count, inner),
-        "{inner} by {block}"
+    expect(
+        rt,
+        (inner, block),
+        &(shards.count(), first),
+        &(count, inner),
     );
 }
 

@@ -6,6 +6,7 @@ ghost use Rattle.tensor_reduce.specs.Term.{has_inputs};
 ghost use Rattle.tensor_reduce.specs.Tree.{term_of};
 
 use crate::plans::{contraction, four_inputs};
+use crate::told::expect;
 use std::alloc::{AllocError, Global};
 use std::process::Abort;
 use std::sync::Wait;
@@ -25,9 +26,9 @@ fn squares(alloc: Global) -> Result<Expr, AllocError>
     Unary::Each(UnaryScalar::Square).over(alloc, product)
 }
 
-/// A step of which these are the tensors of the steps before it, by its kernel and by an
-/// evaluator: the values of two ranges that meet at a place, and of the second one.
-fn gives_squares(
+/// A step of which these are the tensors of the steps before it, by its kernel: the values of two
+/// ranges that meet at a place.
+fn fills_squares(
     rt: &impl Abort,
     alloc: Global,
     step: &Step,
@@ -38,15 +39,36 @@ fn gives_squares(
     requires { IsReady step.now (inputs.now.tensors ++ earlier.now) }
 {
     let kernel = StepKernel::of(alloc, step, inputs, earlier)?;
-    let evaluator = TensorEvaluator::over(alloc, step.expr(), inputs, earlier)?;
     let size = step.dims().size();
     assert!(rt; place <= size);
     let mut filled = kernel.fill(alloc, 0, place)?;
     let upper = kernel.fill(alloc, place, size)?;
     filled.extend_from_slice(upper.as_slice())?;
-    assert_eq!(rt; filled.as_slice(), SQUARES.as_slice());
+    expect(rt, place, &filled.as_slice(), &SQUARES.as_slice());
+    Ok(())
+}
+
+/// The same step by an evaluator: the values of the second range.
+fn gives_squares(
+    rt: &impl Abort,
+    alloc: Global,
+    step: &Step,
+    inputs: &Inputs,
+    earlier: &[Tensor],
+    place: u64,
+) -> Result<(), Fail>
+    requires { IsReady step.now (inputs.now.tensors ++ earlier.now) }
+{
+    let evaluator = TensorEvaluator::over(alloc, step.expr(), inputs, earlier)?;
+    let size = step.dims().size();
+    assert!(rt; place <= size);
     let values = evaluator.values(alloc, place, size)?;
-    assert_eq!(rt; values.as_slice(), upper.as_slice());
+    expect(
+        rt,
+        place,
+        &Some(values.as_slice()),
+        &SQUARES.get(place as usize..),
+    );
     Ok(())
 }
 
@@ -60,6 +82,7 @@ fn last_gives_squares(rt: &impl Abort, alloc: Global, place: u64) -> Result<(), 
         return Err("not two steps".into());
     };
     let earlier = [eval_plain(alloc, first.expr(), &inputs)?];
+    fills_squares(rt, alloc, last, &inputs, &earlier, place)?;
     gives_squares(rt, alloc, last, &inputs, &earlier, place)
 }
 
@@ -110,7 +133,7 @@ fn runs_squares<RT: Threads + Wait + Abort + Sync>(
         Err(fault) => ([].as_slice(), Some(*fault)),
     };
     let values: &[i64] = if fault.is_none() { &SQUARES } else { &[] };
-    assert_eq!(rt; found, (values, fault), "{workers} workers by {block}");
+    expect(rt, (workers, block), &found, &(values, fault));
     Ok(())
 }
 
