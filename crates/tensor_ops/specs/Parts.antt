@@ -94,7 +94,8 @@ unary_part (pad pairs) ds a is first count = pos 0
 unary_part (reduce r axes) ds a is first count = reduced_part r axes ds a is first count
 
 abbrev pub binary_part :
-    Binary → List ℕ → List ℕ → (List ℕ → ℤ) → (List ℕ → ℤ) → List ℕ → ℕ → ℕ → ℤ
+    Binary → List ℕ → List ℕ → (List ℕ → ℤ) → (List ℕ → ℤ)
+    → List ℕ → ℕ → ℕ → ℤ
 binary_part (pairwise o) ds es a b is first count = pos 0
 binary_part (concat axis) ds es a b is first count = pos 0
 binary_part (contract pairs) ds es a b is first count =
