@@ -1,20 +1,19 @@
 -- Runs of values, each combined from the unit.
-use Rattle.std.proofs.Common.{◌≡◌, ℕ, ℤ, pos, ◌+◌, ◌-◌, ◌*◌, ◌<◌, ◌≤◌, List, length, map}
+use Rattle.std.proofs.Common.{◌≡◌, ℕ, ℤ, ◌+◌, ◌-◌, ◌*◌, ◌<◌, ◌≤◌, List, map}
 use Rattle.std.proofs.Common.{ap, ◌∙◌, arith}
-use Rattle.std.specs.List.{between, range_with_len}
-use Rattle.std.proofs.lemmas.List.Edits.{length-between, get_or-between}
+use Rattle.std.specs.List.{range_with_len}
 use Rattle.std.proofs.lemmas.Nat.{column_fits}
-use Rattle.tensor_ops.specs.Folds.{folded, run_folded}
-use Rattle.tensor_ops.specs.Places.{value_in}
+use Rattle.tensor_walks.specs.Folds.{folded, run_folded}
+use Rattle.tensor_kernels.specs.Values.{value_in}
 use Rattle.tensor_ops.specs.InRuns.{run_whole}
-use Rattle.tensor_ops.specs.Reduction.{unit}
+use Rattle.tensor_walks.specs.Combining.{unit}
 use Rattle.tensor_ops.specs.ValueRuns.{run_value, run_combined}
 use Rattle.tensor_ops.specs.declared.in_runs.InRuns.TheVariants.{Combined}
-use Rattle.tensor_ops.specs.declared.reducer.Reducer.{Reducer}
+use Rattle.tensor_walks.specs.declared.reducer.Reducer.{Reducer}
 use Rattle.tensor_ops.specs.declared.value_runs.ValueRuns.{ValueRuns}
-use Rattle.tensor_ops.proofs.Folding.{folded-ext}
+use Rattle.tensor_walks.proofs.Folding.{folded-ext}
 use Rattle.tensor_ops.proofs.PartValues.{piece-value}
-use Rattle.tensor_ops.proofs.Runs.{map-shifted}
+use Rattle.tensor_kernels.proofs.Runs.{map-shifted}
 
 -- how many values runs have
 pub long-runs : (n first last : ℕ) → first ≤ last
@@ -25,21 +24,6 @@ long-runs n first last order =
     omega (arith, ap (λ m. n * m) whole, parts)
 
 module _ (r : Reducer) where
-  -- a run of a list is what lies between two places
-  pub run-between : (values : List ℤ) (n k : ℕ) → n * k + n ≤ length values
-      → folded r (unit r) (value_in (between (n * k) (n * k + n) values))
-      (length (between (n * k) (n * k + n) values))
-      ≡ run_folded r (value_in values) n k
-  run-between values n k within =
-      let part : List ℤ = between (n * k) (n * k + n) values in
-      let long : length part ≡ n + n * k - n * k =
-      length-between values (n * k) (n * k + n) within ∙ ap (λ m. m - n * k) (omega arith) in
-      let whole : length part ≡ n = omega (arith, long) in
-      ap (folded r (unit r) (value_in part)) whole
-      ∙ folded-ext r (unit r) (value_in part) (λ q. value_in values (q + n * k)) n
-      (λ q below. get_or-between values (n * k) (n * k + n) q (pos 0) (omega arith)
-      ∙ ap (value_in values) (omega arith))
-
   -- the runs of a piece are those of what it was cut from
   pub runs-piece : (f : ℕ → ℤ) (n first count : ℕ) (items : List ℤ)
       → items ≡ map f (range_with_len (n * first) (n * count))

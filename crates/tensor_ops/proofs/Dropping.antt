@@ -7,20 +7,21 @@ use Rattle.std.proofs.lemmas.Nat.{div_below}
 use Rattle.std.proofs.lemmas.Simd.{map-map}
 use Rattle.tensor_shape.specs.Index.{size_of, IsIndexOf, place, index_of}
 use Rattle.tensor_shape.proofs.Places.{IsIndexOf-index_of, place-below-size_of}
-use Rattle.tensor_ops.specs.Folds.{folded, offset_at, start_at}
-use Rattle.tensor_ops.specs.Movement.{is_among, scattered}
-use Rattle.tensor_ops.specs.Offsets.{offset_of}
-use Rattle.tensor_ops.specs.Places.{value_in}
-use Rattle.tensor_ops.specs.Reduction.{are_axes, unit, combine, reduced}
-use Rattle.tensor_ops.specs.Woven.{among, others, dims_at, other_dims, woven}
-use Rattle.tensor_ops.specs.declared.reducer.Reducer.{Reducer}
-use Rattle.tensor_ops.proofs.Folding.{folded-ext}
-use Rattle.tensor_ops.proofs.Others.{are_axes-among, are_axes-others, others-among}
-use Rattle.tensor_ops.proofs.Splits.{among-split, others-split, are_axes-range}
-use Rattle.tensor_ops.proofs.Splits.{size_of-dims_at-append, offset_of-append, offset_of-range}
-use Rattle.tensor_ops.proofs.Splits.{dims_at-range}
-use Rattle.tensor_ops.proofs.Walks.{some_size}
-use Rattle.tensor_ops.proofs.Weaving.{place-woven, IsIndexOf-woven}
+use Rattle.tensor_walks.specs.Folds.{folded, offset_at, start_at}
+use Rattle.tensor_terms.specs.Movement.{is_among, scattered}
+use Rattle.tensor_terms.specs.Offsets.{offset_of}
+use Rattle.tensor_kernels.specs.Values.{value_in}
+use Rattle.tensor_terms.specs.Reduction.{are_axes, reduced}
+use Rattle.tensor_walks.specs.Combining.{unit, combine}
+use Rattle.tensor_terms.specs.Woven.{among, others, dims_at, other_dims, woven}
+use Rattle.tensor_walks.specs.declared.reducer.Reducer.{Reducer}
+use Rattle.tensor_walks.proofs.Folding.{folded-ext}
+use Rattle.tensor_terms.proofs.OtherAxes.{are_axes-among, are_axes-others, others-among}
+use Rattle.tensor_terms.proofs.Splits.{among-split, others-split, are_axes-range}
+use Rattle.tensor_terms.proofs.Splits.{size_of-dims_at-append, offset_of-append, offset_of-range}
+use Rattle.tensor_terms.proofs.Splits.{dims_at-range}
+use Rattle.tensor_walks.proofs.Walks.{some_size}
+use Rattle.tensor_terms.proofs.Weaving.{place-woven, IsIndexOf-woven}
 
 turned : (m n : ℕ) → m * n ≡ n * m
 turned m n = grind arith

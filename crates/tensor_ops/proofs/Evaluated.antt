@@ -4,11 +4,11 @@ use Rattle.std.specs.List.{range_with_len}
 use Rattle.std.proofs.lemmas.List.FromFn.{length-map-range_with_len, get_or-map-range_with_len}
 use Rattle.tensor_shape.specs.Index.{size_of, IsIndexOf, place}
 use Rattle.tensor_shape.proofs.Places.{place-below-size_of, index_of-place}
-use Rattle.tensor_ops.specs.Contents.{Contents, value_at}
-use Rattle.tensor_ops.specs.Result.{shape_of}
-use Rattle.tensor_ops.specs.Term.{Term}
-use Rattle.tensor_ops.specs.Value.{value, value_of_place, values_from, tensor_of}
-use Rattle.tensor_ops.proofs.Runs.{map-shifted}
+use Rattle.tensor_terms.specs.Contents.{Contents, value_at}
+use Rattle.tensor_terms.specs.Result.{shape_of}
+use Rattle.tensor_terms.specs.Term.{Term}
+use Rattle.tensor_terms.specs.Value.{value, value_of_place, values_from, tensor_of}
+use Rattle.tensor_kernels.proofs.Runs.{map-shifted}
 
 module _ (inputs : List Contents) (t : Term) where
   -- a function that has the term's values at all places gives its values

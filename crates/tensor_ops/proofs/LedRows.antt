@@ -1,18 +1,18 @@
 -- Rows of a list along a route, whose tables are led along it.
 use Rattle.std.proofs.Common.{◌≡◌, ℕ, ℤ, ◌+◌, ◌<◌, ◌≤◌, List, length, slice_index, ap, sym, subst, ◌∙◌, arith}
 use Rattle.tensor_shape.specs.Index.{size_of}
-use Rattle.tensor_ops.specs.Offsets.{HasTables}
-use Rattle.tensor_ops.specs.Panels.{AreInside}
-use Rattle.tensor_ops.specs.Places.{value_in}
-use Rattle.tensor_ops.specs.Products.{IsOperand}
-use Rattle.tensor_ops.specs.Walk.{walk_size, reached, AreAllApart}
-use Rattle.tensor_ops.specs.Woven.{others}
-use Rattle.tensor_ops.specs.declared.walk.Axis.{Axis}
-use Rattle.tensor_ops.proofs.Apart.{IsLed, led-sum}
-use Rattle.tensor_ops.proofs.Operands.{sum_of_tables-below, tables-operand}
-use Rattle.tensor_ops.proofs.Others.{are_axes-others}
-use Rattle.tensor_ops.proofs.Steps.{some-dims_at}
-use Rattle.tensor_ops.proofs.Walks.{reached-start}
+use Rattle.tensor_terms.specs.Offsets.{HasTables}
+use Rattle.tensor_kernels.specs.Panels.{AreInside}
+use Rattle.tensor_kernels.specs.Values.{value_in}
+use Rattle.tensor_terms.specs.OperandRows.{IsOperand}
+use Rattle.tensor_walks.specs.Walk.{walk_size, reached, AreAllApart}
+use Rattle.tensor_terms.specs.Woven.{others}
+use Rattle.tensor_walks.specs.declared.walk.Axis.{Axis}
+use Rattle.tensor_walks.proofs.Apart.{IsLed, led-sum}
+use Rattle.tensor_terms.proofs.Operands.{sum_of_tables-below, tables-operand}
+use Rattle.tensor_terms.proofs.OtherAxes.{are_axes-others}
+use Rattle.tensor_terms.proofs.Steps.{some-dims_at}
+use Rattle.tensor_walks.proofs.Walks.{reached-start}
 
 -- a table that is led along axes is led along a route that has the same
 pub IsLed-along : (start : ℕ) (axes route : List Axis) (places led : List ℕ) → axes ≡ route

@@ -8,30 +8,30 @@ use Rattle.std.specs.Result.{result_unwrap_or}
 use Rattle.tensor_shape.specs.Legal.{highest_rank}
 use Rattle.tensor_shape.specs.Index.{size_of, IsIndexOf, index_of}
 use Rattle.tensor_shape.proofs.Places.{IsIndexOf-index_of}
-use Rattle.tensor_ops.specs.Concatenation.{joined_dims}
-use Rattle.tensor_ops.specs.Contents.{Contents, input_of, value_at}
-use Rattle.tensor_ops.specs.Contraction.{outer_dims}
-use Rattle.tensor_ops.specs.Convolution.{slid_dims}
-use Rattle.tensor_ops.specs.Movement.{moved}
-use Rattle.tensor_ops.specs.Padding.{padded_dims}
-use Rattle.tensor_ops.specs.Result.{dims_of, shape_of, unary_dims, binary_dims, ternary_dims}
-use Rattle.tensor_ops.specs.Scalars.{applied}
-use Rattle.tensor_ops.specs.Shaped.{with_one, with_two, with_three, equal_dims}
-use Rattle.tensor_ops.specs.Term.{Term, input, unary, binary, ternary}
-use Rattle.tensor_ops.specs.Term.{Unary, each, constant, movement, pad, reduce, Binary, pairwise}
-use Rattle.tensor_ops.specs.Term.{concat, contract, convolve, Ternary, select}
-use Rattle.tensor_ops.specs.Value.{value, value_of_place, tensor_of, unary_value, binary_value}
-use Rattle.tensor_ops.specs.Value.{ternary_value}
-use Rattle.tensor_ops.specs.Woven.{other_dims}
-use Rattle.tensor_ops.proofs.Convolutions.{convolved-other}
+use Rattle.tensor_terms.specs.Concatenation.{joined_dims}
+use Rattle.tensor_terms.specs.Contents.{Contents, input_of, value_at}
+use Rattle.tensor_terms.specs.Contraction.{outer_dims}
+use Rattle.tensor_terms.specs.Convolution.{slid_dims}
+use Rattle.tensor_terms.specs.Movement.{moved}
+use Rattle.tensor_terms.specs.Padding.{padded_dims}
+use Rattle.tensor_terms.specs.Result.{dims_of, shape_of, unary_dims, binary_dims, ternary_dims}
+use Rattle.tensor_walks.specs.Scalars.{applied}
+use Rattle.tensor_terms.specs.Shaped.{with_one, with_two, with_three, equal_dims}
+use Rattle.tensor_terms.specs.Term.{Term, input, unary, binary, ternary}
+use Rattle.tensor_terms.specs.Term.{Unary, each, constant, movement, pad, reduce, Binary, pairwise}
+use Rattle.tensor_terms.specs.Term.{concat, contract, convolve, Ternary, select}
+use Rattle.tensor_terms.specs.Value.{value, value_of_place, tensor_of, unary_value, binary_value}
+use Rattle.tensor_terms.specs.Value.{ternary_value}
+use Rattle.tensor_terms.specs.Woven.{other_dims}
+use Rattle.tensor_terms.proofs.Convolutions.{convolved-other}
 use Rattle.tensor_ops.proofs.Evaluated.{map-values_from, value_at-tensor_of, tensor_of-made}
-use Rattle.tensor_ops.proofs.Known.{reduction-known, contraction-known, convolution-known}
-use Rattle.tensor_ops.proofs.Moved.{IsIndexOf-moved}
-use Rattle.tensor_ops.proofs.Pads.{pad-known, padded-other}
-use Rattle.tensor_ops.proofs.SameValues.{Agree, reduced-other, contracted-other}
-use Rattle.tensor_ops.proofs.Shapes.{Ok-unwrap, with_one-known, with_two-known, with_three-known}
-use Rattle.tensor_ops.proofs.SplicedTerms.{concatenated-other}
-use Rattle.tensor_ops.proofs.Splices.{concatenation-known}
+use Rattle.tensor_terms.proofs.Known.{reduction-known, contraction-known, convolution-known}
+use Rattle.tensor_terms.proofs.Moved.{IsIndexOf-moved}
+use Rattle.tensor_terms.proofs.Pads.{pad-known, padded-other}
+use Rattle.tensor_terms.proofs.SameValues.{Agree, reduced-other, contracted-other}
+use Rattle.tensor_terms.proofs.Shapes.{Ok-unwrap, with_one-known, with_two-known, with_three-known}
+use Rattle.tensor_terms.proofs.SplicedTerms.{concatenated-other}
+use Rattle.tensor_terms.proofs.Splices.{concatenation-known}
 
 -- dims that are equal
 pub equal_dims-known : (ds es rs : List ℕ) → equal_dims ds es ≡ Ok rs → (ds ≡ es) × (rs ≡ ds)

@@ -6,13 +6,13 @@ use Rattle.std.proofs.lemmas.Nat.{div-add-mod'}
 use Rattle.std.proofs.Math.Nat.{mod-lt}
 use Rattle.tensor_shape.specs.Index.{size_of, index_of}
 use Rattle.tensor_shape.specs.Legal.{highest_rank}
-use Rattle.tensor_ops.specs.Concatenation.{joined_dims, concatenated_dims, concatenated}
+use Rattle.tensor_terms.specs.Concatenation.{joined_dims, concatenated_dims, concatenated}
 use Rattle.tensor_ops.specs.Meaning.{meaning, count_of, IsSound}
 use Rattle.tensor_ops.specs.Placing.{Gives, meaning_at}
-use Rattle.tensor_ops.specs.Splicing.{is_of_first, firsts_before, seconds_before, spliced, HaveTurns}
+use Rattle.tensor_walks.specs.Splicing.{is_of_first, firsts_before, seconds_before, spliced, HaveTurns}
 use Rattle.tensor_ops.specs.declared.placed.Placed.{Placed}
-use Rattle.tensor_ops.proofs.InTurns.{spliced-second, spliced-first}
-use Rattle.tensor_ops.proofs.Splices.{IsConcatenation, concatenation-known, concatenated-spliced, have_turns-concatenation, size_of-concatenation, size_of-parts}
+use Rattle.tensor_walks.proofs.InTurns.{spliced-second, spliced-first}
+use Rattle.tensor_terms.proofs.Splices.{IsConcatenation, concatenation-known, concatenated-spliced, have_turns-concatenation, size_of-concatenation, size_of-parts}
 
 -- a splice with one operand alone
 second-alone : (v w : ℕ) (f g : ℕ → ℤ) (p : ℕ) → v ≡ 0 → g p ≡ spliced v w f g p

@@ -8,22 +8,22 @@ use Rattle.tensor_shape.specs.Legal.{highest_rank}
 use Rattle.tensor_shape.specs.Index.{size_of, place, index_of}
 use Rattle.tensor_shape.proofs.Places.{place-below-size_of, index_of-place, place-index_of}
 use Rattle.tensor_shape.proofs.Places.{IsIndexOf-index_of}
-use Rattle.tensor_ops.specs.Contents.{Contents}
-use Rattle.tensor_ops.specs.Contraction.{outer_dims, contracted, contracted_dims}
+use Rattle.tensor_terms.specs.Contents.{Contents}
+use Rattle.tensor_terms.specs.Contraction.{outer_dims, contracted, contracted_dims}
 use Rattle.tensor_ops.specs.Meaning.{meaning, count_of, IsSound, IsListOf}
-use Rattle.tensor_ops.specs.Places.{value_in}
+use Rattle.tensor_kernels.specs.Values.{value_in}
 use Rattle.tensor_ops.specs.Placing.{Gives, HasValues, meaning_at}
-use Rattle.tensor_ops.specs.Reduction.{reduced, reduced_dims}
-use Rattle.tensor_ops.specs.Result.{shape_of, unary_dims, binary_dims}
-use Rattle.tensor_ops.specs.Term.{Term, unary, binary, Unary, Binary}
-use Rattle.tensor_ops.specs.Value.{value, unary_value, binary_value}
-use Rattle.tensor_ops.specs.Woven.{other_dims}
+use Rattle.tensor_terms.specs.Reduction.{reduced, reduced_dims}
+use Rattle.tensor_terms.specs.Result.{shape_of, unary_dims, binary_dims}
+use Rattle.tensor_terms.specs.Term.{Term, unary, binary, Unary, Binary}
+use Rattle.tensor_terms.specs.Value.{value, unary_value, binary_value}
+use Rattle.tensor_terms.specs.Woven.{other_dims}
 use Rattle.tensor_ops.specs.declared.placed.Placed.{Placed}
-use Rattle.tensor_ops.specs.declared.reducer.Reducer.{Reducer}
-use Rattle.tensor_ops.proofs.Known.{reduction-known, contraction-known}
+use Rattle.tensor_walks.specs.declared.reducer.Reducer.{Reducer}
+use Rattle.tensor_terms.proofs.Known.{reduction-known, contraction-known}
 use Rattle.tensor_ops.proofs.Placings.{gives-index, gives-other}
 use Rattle.tensor_ops.proofs.SameTensors.{agree-unary, agree-binary}
-use Rattle.tensor_ops.proofs.SameValues.{Agree, reduced-other, contracted-other}
+use Rattle.tensor_terms.proofs.SameValues.{Agree, reduced-other, contracted-other}
 
 -- the result dims of a reduction, and of a contraction
 reduced-shape : (axes ds rs : List ℕ) → reduced_dims axes ds ≡ Ok rs → other_dims axes ds ≡ rs

@@ -7,26 +7,22 @@ use Rattle.std.proofs.lemmas.List.{get_or-set_same}
 use Rattle.std.specs.Cmp.Lexicographic.{pointwise}
 use Rattle.tensor_shape.specs.Index.{IsIndexOf}
 use Rattle.tensor_shape.specs.Legal.{highest_rank, most_elements, bulk_of, IsLegal, are_legal}
-use Rattle.tensor_ops.specs.Concatenation.{joined_dims, concatenated_dims, concatenated}
+use Rattle.tensor_terms.specs.Concatenation.{joined_dims, concatenated_dims, concatenated}
 use Rattle.tensor_ops.specs.Meaning.{meaning}
-use Rattle.tensor_ops.specs.Padding.{padded_dims, padded}
+use Rattle.tensor_terms.specs.Padding.{padded_dims, padded}
 use Rattle.tensor_ops.specs.Placing.{Gives, meaning_at}
-use Rattle.tensor_ops.specs.Shaped.{Shaped}
-use Rattle.tensor_ops.specs.Splicing.{padded_along}
+use Rattle.tensor_terms.specs.Shaped.{Shaped}
+use Rattle.tensor_walks.specs.Splicing.{padded_along}
 use Rattle.tensor_ops.specs.declared.placed.Placed.{Placed}
-use Rattle.tensor_ops.proofs.Pads.{first_pads, padded_dims-more, bulk_of-first_pads, length-padded_dims, bulk_of-set-le, padded_along-other, padded-more}
+use Rattle.tensor_terms.proofs.Pads.{first_pads, padded_dims-more, bulk_of-first_pads, length-padded_dims, bulk_of-set-le, padded_along-other, padded-more}
 use Rattle.tensor_ops.proofs.Placings.{gives-index}
+use Rattle.tensor_terms.proofs.ListSets.{set-itself, IsIndexOf-set}
 
 -- one size of a list, and again
 set-again : (k x y : ℕ) (ds : List ℕ) → set (set ds k x) k y ≡ set ds k y
 set-again k x y [] = refl
 set-again zero x y (d ∷ ds) = refl
 set-again (suc k) x y (d ∷ ds) = ap (λ l. d ∷ l) (set-again k x y ds)
-
-pub set-itself : (k : ℕ) (ds : List ℕ) → set ds k (get_or ds k 0) ≡ ds
-set-itself k [] = refl
-set-itself zero (d ∷ ds) = refl
-set-itself (suc k) (d ∷ ds) = ap (λ l. d ∷ l) (set-itself k ds)
 
 remove-set : (k x : ℕ) (ds : List ℕ) → remove (set ds k x) k ≡ remove ds k
 remove-set k x [] = refl
@@ -79,14 +75,6 @@ back-dims k b c ds part back is_part is_back within legal =
     ap (λ l. concatenated_dims highest_rank k l back) is_part
     ∙ ap (λ l. concatenated_dims highest_rank k (set ds k (b + get_or ds k 0)) l) is_back
     ∙ concatenated_dims-sizes k (b + get_or ds k 0) c ds within legal
-
--- an index list with its number below another size, too
-pub IsIndexOf-set : (k n m : ℕ) (ds is : List ℕ) → k < length ds → IsIndexOf (set ds k n) is → get_or is k 0 < m → IsIndexOf (set ds k m) is
-IsIndexOf-set k n m [] is within index below = absurd (omega arith)
-IsIndexOf-set zero n m (d ∷ ds) [] within index below = absurd index
-IsIndexOf-set (suc k) n m (d ∷ ds) [] within index below = absurd index
-IsIndexOf-set zero n m (d ∷ ds) (i ∷ is) within index below = (below, index.1)
-IsIndexOf-set (suc k) n m (d ∷ ds) (i ∷ is) within index below = (index.0, IsIndexOf-set k n m ds is (omega arith) index.1 below)
 
 -- the values with zeroes before and behind
 pub zeroes-around : (k b c : ℕ) (ds fs ps bs rs is : List ℕ) (front part back : Placed) (a : List ℕ → ℤ) → k < length ds

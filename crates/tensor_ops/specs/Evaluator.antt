@@ -1,9 +1,9 @@
 -- What an evaluator evaluates.
 use Rattle.std.specs.Prelude.{List}
-use Rattle.tensor_ops.specs.Contents.{Contents}
-use Rattle.tensor_ops.specs.Tensors.{tensors_in}
-use Rattle.tensor_ops.specs.Term.{Term}
-use Rattle.tensor_ops.specs.Tree.{term_of}
+use Rattle.tensor_terms.specs.Contents.{Contents}
+use Rattle.tensor_terms.specs.Tensors.{tensors_in}
+use Rattle.tensor_terms.specs.Term.{Term}
+use Rattle.tensor_terms.specs.Tree.{term_of}
 use Rattle.tensor_ops.specs.declared.evaluator.TensorEvaluator.{TensorEvaluator}
 
 -- the term whose values it gives

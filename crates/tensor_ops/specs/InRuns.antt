@@ -4,13 +4,13 @@ use Rattle.std.specs.Coded.{Unit-prop}
 use native.Mathlib.Nat.{ℕ_set}
 use Rattle.tensor_shape.specs.Index.{size_of}
 use Rattle.tensor_shape.specs.Wrap.{wrap}
-use Rattle.tensor_ops.specs.Contents.{Contents}
-use Rattle.tensor_ops.specs.Folds.{folded}
+use Rattle.tensor_terms.specs.Contents.{Contents}
+use Rattle.tensor_walks.specs.Folds.{folded}
 use Rattle.tensor_ops.specs.Parts.{inner_size, part_value}
-use Rattle.tensor_ops.specs.Products.{sum_to}
-use Rattle.tensor_ops.specs.Reduction.{unit}
-use Rattle.tensor_ops.specs.Result.{shape_of}
-use Rattle.tensor_ops.specs.Term.{Term}
+use Rattle.tensor_kernels.specs.Products.{sum_to}
+use Rattle.tensor_walks.specs.Combining.{unit}
+use Rattle.tensor_terms.specs.Result.{shape_of}
+use Rattle.tensor_terms.specs.Term.{Term}
 use Rattle.tensor_ops.specs.ValueRuns.{run_value}
 use Rattle.tensor_ops.specs.declared.in_runs.InRuns.{InRuns}
 use Rattle.tensor_ops.specs.declared.in_runs.InRuns.TheVariants.{Combined, Multiplied}

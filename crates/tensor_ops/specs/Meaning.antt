@@ -3,14 +3,14 @@ use Rattle.std.specs.Prelude.{◌≡◌, ℕ, ℤ, ◌+◌, ◌<◌, ◌≤◌, 
 use Rattle.std.specs.Coded.{×_prop, Π_prop, Unit-prop, le_prop}
 use native.Mathlib.Nat.{ℕ_set}
 use Rattle.tensor_shape.specs.Legal.{most_elements}
-use Rattle.tensor_ops.specs.Chain.{chained}
-use Rattle.tensor_ops.specs.Loops.{either_way, selected}
-use Rattle.tensor_ops.specs.Places.{value_in}
-use Rattle.tensor_ops.specs.Scalars.{applied}
-use Rattle.tensor_ops.specs.Splicing.{spliced, HaveTurns}
-use Rattle.tensor_ops.specs.Walk.{walk_size, reached}
+use Rattle.tensor_walks.specs.Chain.{chained}
+use Rattle.tensor_walks.specs.Loops.{either_way, selected}
+use Rattle.tensor_kernels.specs.Values.{value_in}
+use Rattle.tensor_walks.specs.Scalars.{applied}
+use Rattle.tensor_walks.specs.Splicing.{spliced, HaveTurns}
+use Rattle.tensor_walks.specs.Walk.{walk_size, reached}
 use Rattle.tensor_ops.specs.declared.placed.Placed.{Placed}
-use Rattle.tensor_ops.specs.declared.walk.Reading.{Reading}
+use Rattle.tensor_walks.specs.declared.walk.Reading.{Reading}
 use Rattle.tensor_ops.specs.declared.placed.Placed.TheVariants.{Lent, Kept, Same}
 use Rattle.tensor_ops.specs.declared.placed.Placed.TheVariants.{Unary', Binary', Select', Walk'}
 use Rattle.tensor_ops.specs.declared.placed.Placed.TheVariants.{Spliced', Chain'}

@@ -1,8 +1,8 @@
 -- Operands of contractions: lists, and lists along routes.
 use Rattle.std.specs.Prelude.{ℕ, ℤ, length}
 use Rattle.std.specs.Cow.{cow_slice_items}
-use Rattle.tensor_ops.specs.Places.{value_in}
-use Rattle.tensor_ops.specs.Walk.{walk_size, reached}
+use Rattle.tensor_kernels.specs.Values.{value_in}
+use Rattle.tensor_walks.specs.Walk.{walk_size, reached}
 use Rattle.tensor_ops.specs.declared.operand.Operand.{Operand}
 use Rattle.tensor_ops.specs.declared.operand.Operand.TheVariants.{InOrder, Along}
 use Rattle.tensor_ops.specs.declared.operand.Routed.{Routed}

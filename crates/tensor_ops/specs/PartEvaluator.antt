@@ -1,9 +1,9 @@
 -- What an evaluator of parts evaluates.
 use Rattle.std.specs.Prelude.{List}
-use Rattle.tensor_ops.specs.Contents.{Contents}
-use Rattle.tensor_ops.specs.Tensors.{tensors_in}
-use Rattle.tensor_ops.specs.Term.{Term}
-use Rattle.tensor_ops.specs.Tree.{term_of}
+use Rattle.tensor_terms.specs.Contents.{Contents}
+use Rattle.tensor_terms.specs.Tensors.{tensors_in}
+use Rattle.tensor_terms.specs.Term.{Term}
+use Rattle.tensor_terms.specs.Tree.{term_of}
 use Rattle.tensor_ops.specs.declared.part_evaluator.PartEvaluator.{PartEvaluator}
 
 -- the term of whose values it gives parts

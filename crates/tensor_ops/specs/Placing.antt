@@ -2,10 +2,10 @@
 use Rattle.std.specs.Prelude.{◌≡◌, ℕ, ℤ, ◌+◌, ◌<◌, ◌≤◌, List, true}
 use Rattle.tensor_shape.specs.Index.{size_of, IsIndexOf, place, index_of}
 use Rattle.tensor_shape.specs.Legal.{most_elements}
-use Rattle.tensor_ops.specs.Axes.{are_along, by_steps}
+use Rattle.tensor_terms.specs.Axes.{are_along, by_steps}
 use Rattle.tensor_ops.specs.Meaning.{meaning, count_of, IsSound}
 use Rattle.tensor_ops.specs.declared.placed.Placed.{Placed}
-use Rattle.tensor_ops.specs.declared.walk.Axis.{Axis}
+use Rattle.tensor_walks.specs.declared.walk.Axis.{Axis}
 
 -- so many values, one a place, are those of a function at all index lists of these dims
 pub record HasValues (count : ℕ) (at : ℕ → ℤ) (ds : List ℕ) (f : List ℕ → ℤ) : Type 0 where

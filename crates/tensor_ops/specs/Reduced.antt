@@ -1,10 +1,10 @@
 -- What a reduction gives that was made ready.
 use Rattle.std.specs.Prelude.{ℕ, ℤ, ◌+◌, ◌*◌, length}
 use Rattle.std.specs.Cow.{cow_slice_items}
-use Rattle.tensor_ops.specs.Folds.{folded, offset_at, start_at}
-use Rattle.tensor_ops.specs.Places.{value_in}
-use Rattle.tensor_ops.specs.Reduction.{unit}
-use Rattle.tensor_ops.specs.declared.reducer.Reducer.{Reducer}
+use Rattle.tensor_walks.specs.Folds.{folded, offset_at, start_at}
+use Rattle.tensor_kernels.specs.Values.{value_in}
+use Rattle.tensor_walks.specs.Combining.{unit}
+use Rattle.tensor_walks.specs.declared.reducer.Reducer.{Reducer}
 use Rattle.tensor_ops.specs.declared.reduction.Reduction.{Reduction}
 
 -- how many places its result has

@@ -1,7 +1,7 @@
 -- What the values of an expression are asked of.
 use Rattle.std.specs.Prelude.{ℕ, ℤ}
 use Rattle.std.specs.Coded.{Unit-prop}
-use Rattle.tensor_ops.specs.Contracting.{contraction_count, contraction_value}
+use Rattle.tensor_kernels.specs.Contracting.{contraction_count, contraction_value}
 use Rattle.tensor_ops.specs.Meaning.{meaning, count_of, IsSound, IsSound-prop}
 use Rattle.tensor_ops.specs.Reduced.{places_of_result, reduction_at}
 use Rattle.tensor_ops.specs.declared.root.Root.{Root}

@@ -1,10 +1,10 @@
 -- Values that lie in runs.
 use Rattle.std.specs.Prelude.{◌≡◌, ℕ, ℤ, ◌+◌, ◌*◌, ◌<◌, List}
 use Rattle.tensor_shape.specs.Index.{size_of, index_of}
-use Rattle.tensor_ops.specs.Folds.{run_folded}
+use Rattle.tensor_walks.specs.Folds.{run_folded}
 use Rattle.tensor_ops.specs.Meaning.{meaning}
-use Rattle.tensor_ops.specs.Woven.{dims_at, other_dims, woven}
-use Rattle.tensor_ops.specs.declared.reducer.Reducer.{Reducer}
+use Rattle.tensor_terms.specs.Woven.{dims_at, other_dims, woven}
+use Rattle.tensor_walks.specs.declared.reducer.Reducer.{Reducer}
 use Rattle.tensor_ops.specs.declared.value_runs.ValueRuns.{ValueRuns}
 
 -- value q of run x

@@ -4,16 +4,17 @@ ghost use Rattle.std.specs.Prelude.{◌≡◌, ◌<◌, ◌≤◌, ◌+◌, ◌^
 ghost use Rattle.std.specs.Prelude.{IfOk, OnOk};
 ghost use Rattle.tensor_shape.specs.Index.{size_of};
 ghost use Rattle.tensor_shape.specs.Legal.{most_elements};
-ghost use Rattle.tensor_ops.specs.Axes.{rising, axes_from, by_steps};
-ghost use Rattle.tensor_ops.specs.Axes.{HasRank, AreShort, moved_axes, moved_start};
-ghost use Rattle.tensor_ops.specs.Axes.{repeated_axes, cut_axes, shuffled_axes, turned_axes};
-ghost use Rattle.tensor_ops.specs.Axes.{strided_axes};
-ghost use Rattle.tensor_ops.specs.Tree.{movement_at};
+ghost use Rattle.tensor_walks.specs.Rising.{rising};
+ghost use Rattle.tensor_terms.specs.Axes.{axes_from, by_steps};
+ghost use Rattle.tensor_terms.specs.Axes.{HasRank, AreShort, moved_axes, moved_start};
+ghost use Rattle.tensor_terms.specs.Axes.{repeated_axes, cut_axes, shuffled_axes, turned_axes};
+ghost use Rattle.tensor_terms.specs.Axes.{strided_axes};
+ghost use Rattle.tensor_terms.specs.Tree.{movement_at};
 
-use crate::node::Movement;
-use crate::walk::Axis;
+use tensor_terms::Movement;
 use std::alloc::{AllocError, Global};
 use tensor_shape::Dims;
+use tensor_walks::Axis;
 
 /// The axes of a walk over all places of dims, in their order.
 pub(crate) fn whole_axes(alloc: Global, dims: &Dims) -> Result<Vec<Axis>, AllocError>

@@ -2,19 +2,18 @@
 
 ghost use Rattle.std.specs.Prelude.{◌≡◌, Ok, IsOk, IfOk};
 ghost use Rattle.tensor_shape.specs.Index.{size_of};
-ghost use Rattle.tensor_ops.specs.Contracting.{contraction_count, contraction_value};
-ghost use Rattle.tensor_ops.specs.Convolution.{convolved, convolved_dims};
+ghost use Rattle.tensor_kernels.specs.Contracting.{contraction_count, contraction_value};
+ghost use Rattle.tensor_terms.specs.Convolution.{convolved, convolved_dims};
 ghost use Rattle.tensor_ops.specs.Meaning.{count_of, IsSound};
 ghost use Rattle.tensor_ops.specs.Placing.{Gives, HasValues, meaning_at};
 
-use crate::contraction::Contraction;
-use crate::convolution_dims::convolved_dims;
+use tensor_terms::convolved_dims;
 use crate::part::Part;
 use crate::placed::Placed;
-use crate::rows::Rows;
-use crate::slid_dots::SlidDots;
-use crate::slid_runs::SlidRuns;
+use crate::rows::one_row;
+use crate::slid_runs::runs_under_kernel;
 use std::alloc::{AllocError, Global};
+use tensor_kernels::Contraction;
 use tensor_shape::Dims;
 
 /// A convolution along axes, the second operand the kernel, and its result dims.
@@ -39,9 +38,9 @@ pub(crate) fn convolution_of<'a>(
     let dims = convolved_dims(axes, &operand.dims, &kernel.dims).unwrap();
     let values = operand.placed.into_values(alloc, &operand.dims)?;
     let factors = kernel.placed.into_values(alloc, &kernel.dims)?;
-    let runs = SlidRuns::under_kernel(alloc, axes, &operand.dims, values, &kernel.dims, &dims)?;
-    let row = Rows::one(alloc, &kernel.dims, factors)?;
-    Ok((Contraction::InRuns(SlidDots::of(runs, row)), dims))
+    let runs = runs_under_kernel(alloc, axes, &operand.dims, values, &kernel.dims, &dims)?;
+    let row = one_row(alloc, &kernel.dims, factors)?;
+    Ok((Contraction::of_runs(runs, row), dims))
 }
 
 /// A convolution, worked out.

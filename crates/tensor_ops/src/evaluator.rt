@@ -3,18 +3,18 @@
 ghost use Rattle.std.specs.Prelude.{◌≡◌, ◌<◌, ◌≤◌, ◌-◌, ◌++◌, ℕ, length, IsTrue, IsOk, IfOk};
 ghost use Rattle.tensor_shape.specs.Legal.{highest_rank};
 ghost use Rattle.tensor_shape.specs.Index.{size_of};
-ghost use Rattle.tensor_ops.specs.Result.{dims_of, shape_of};
+ghost use Rattle.tensor_terms.specs.Result.{dims_of, shape_of};
 ghost use Rattle.tensor_ops.specs.Root.{root_value, root_count, IsSoundRoot, IsSoundRoot-prop};
-ghost use Rattle.tensor_ops.specs.Tensors.{tensors_in};
-ghost use Rattle.tensor_ops.specs.Term.{has_inputs};
-ghost use Rattle.tensor_ops.specs.Tree.{term_of};
-ghost use Rattle.tensor_ops.specs.Value.{value_of_place, values_from};
+ghost use Rattle.tensor_terms.specs.Tensors.{tensors_in};
+ghost use Rattle.tensor_terms.specs.Term.{has_inputs};
+ghost use Rattle.tensor_terms.specs.Tree.{term_of};
+ghost use Rattle.tensor_terms.specs.Value.{value_of_place, values_from};
 
-use crate::expr::Expr;
-use crate::inputs::Inputs;
+use tensor_terms::Expr;
+use tensor_terms::Inputs;
 use crate::root::Root;
-use crate::tensor::Tensor;
-use crate::tensors::Tensors;
+use tensor_terms::Tensor;
+use tensor_terms::Tensors;
 use std::alloc::{AllocError, Allocator, Global};
 use tensor_shape::Dims;
 

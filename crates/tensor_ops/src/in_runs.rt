@@ -5,22 +5,22 @@ ghost use Rattle.std.specs.Prelude.{◌≡◌, ◌<◌, ◌≤◌, ◌+◌, ◌-
 ghost use Rattle.std.specs.List.{range_with_len};
 ghost use Rattle.tensor_shape.specs.Legal.{highest_rank};
 ghost use Rattle.tensor_ops.specs.Parts.{has_parts};
-ghost use Rattle.tensor_ops.specs.Result.{dims_of};
-ghost use Rattle.tensor_ops.specs.Tensors.{tensors_in};
-ghost use Rattle.tensor_ops.specs.Term.{has_inputs};
-ghost use Rattle.tensor_ops.specs.Tree.{term_of};
+ghost use Rattle.tensor_terms.specs.Result.{dims_of};
+ghost use Rattle.tensor_terms.specs.Tensors.{tensors_in};
+ghost use Rattle.tensor_terms.specs.Term.{has_inputs};
+ghost use Rattle.tensor_terms.specs.Tree.{term_of};
 
-use crate::contraction_dims::paired_axes;
-use crate::expr::Expr;
-use crate::index_parts::all_among;
-use crate::node::{Binary, Node, Unary};
+use tensor_terms::paired_axes;
+use tensor_terms::Expr;
+use tensor_terms::all_among;
+use tensor_terms::{Binary, Node, Unary};
 use crate::placed::PIECE;
 use crate::placing::{place, place_two};
-use crate::reducer::Reducer;
 use crate::root::KEPT;
-use crate::tensors::Tensors;
+use tensor_terms::Tensors;
 use crate::value_runs::ValueRuns;
 use std::alloc::{AllocError, Allocator, Global};
+use tensor_walks::Reducer;
 
 /// A reduction or a contraction by runs of its operands.
 #[derive(Drop)]

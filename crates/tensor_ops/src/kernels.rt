@@ -3,23 +3,24 @@
 ghost use Rattle.std.specs.Prelude.{◌≡◌, Ok, IsOk, IfOk};
 ghost use Rattle.tensor_shape.specs.Legal.{highest_rank};
 ghost use Rattle.tensor_shape.specs.Index.{size_of};
-ghost use Rattle.tensor_ops.specs.Contracting.{contraction_count, contraction_value};
-ghost use Rattle.tensor_ops.specs.Contraction.{contracted, contracted_dims};
+ghost use Rattle.tensor_kernels.specs.Contracting.{contraction_count, contraction_value};
+ghost use Rattle.tensor_terms.specs.Contraction.{contracted, contracted_dims};
 ghost use Rattle.tensor_ops.specs.Meaning.{count_of, IsSound};
 ghost use Rattle.tensor_ops.specs.Placing.{Gives, HasValues, meaning_at};
 ghost use Rattle.tensor_ops.specs.Reduced.{places_of_result, reduction_at};
-ghost use Rattle.tensor_ops.specs.Reduction.{reduced, reduced_dims};
+ghost use Rattle.tensor_terms.specs.Reduction.{reduced, reduced_dims};
 
-use crate::contraction::Contraction;
-use crate::contraction_dims::contracted_dims;
+use crate::contraction::paired_contraction;
+use tensor_terms::contracted_dims;
 use crate::part::Part;
 use crate::placed::Placed;
-use crate::reducer::Reducer;
 use crate::reduction::Reduction;
-use crate::reduction_dims::reduced_dims;
+use tensor_terms::reduced_dims;
 use std::alloc::{AllocError, Global};
 use std::borrow::CowSlice;
+use tensor_kernels::Contraction;
 use tensor_shape::{Dims, MAX_RANK};
+use tensor_walks::Reducer;
 
 /// A reduction of an operand over axes, and its result dims.
 pub(crate) fn reduction_of<'a>(
@@ -64,7 +65,7 @@ pub(crate) fn contraction_of<'a>(
     let dims = contracted_dims(MAX_RANK, pairs, &first.dims, &second.dims).unwrap();
     let left = first.placed.into_operand(alloc, &first.dims)?;
     let right = second.placed.into_operand(alloc, &second.dims)?;
-    let contraction = Contraction::of(alloc, &first.dims, left, &second.dims, right, pairs)?;
+    let contraction = paired_contraction(alloc, &first.dims, left, &second.dims, right, pairs)?;
     Ok((contraction, dims))
 }
 

@@ -4,13 +4,13 @@ ghost use Rattle.std.specs.Prelude.{◌≡◌, ◌<◌, ◌≤◌, ◌+◌, ◌*
 ghost use Rattle.std.specs.Prelude.{IsTrue, IfOk};
 ghost use Rattle.tensor_shape.specs.Index.{size_of, index_of};
 ghost use Rattle.tensor_shape.specs.Legal.{most_elements, IsLegal};
-ghost use Rattle.tensor_ops.specs.Offsets.{offset_of, HasTables};
-ghost use Rattle.tensor_ops.specs.Reduction.{are_axes};
-ghost use Rattle.tensor_ops.specs.Stepped.{stepped};
-ghost use Rattle.tensor_ops.specs.Woven.{dims_at};
+ghost use Rattle.tensor_terms.specs.Offsets.{offset_of, HasTables};
+ghost use Rattle.tensor_terms.specs.Reduction.{are_axes};
+ghost use Rattle.tensor_terms.specs.Stepped.{stepped};
+ghost use Rattle.tensor_terms.specs.Woven.{dims_at};
 
-use crate::movement_dims::shuffled;
-use crate::woven::others;
+use tensor_terms::shuffled;
+use tensor_terms::others;
 use std::alloc::{AllocError, Global};
 use tensor_shape::Dims;
 

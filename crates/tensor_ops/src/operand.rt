@@ -4,14 +4,12 @@
 ghost use Rattle.std.specs.Prelude.{◌≡◌, ◌<◌, ◌≤◌, ℕ, length, IfOk};
 ghost use Rattle.std.specs.Cow.{cow_slice_items};
 ghost use Rattle.tensor_shape.specs.Legal.{most_elements};
-ghost use Rattle.tensor_ops.specs.Places.{value_in};
-ghost use Rattle.tensor_ops.specs.Walk.{walk_size, reached};
+ghost use Rattle.tensor_kernels.specs.Values.{value_in};
+ghost use Rattle.tensor_walks.specs.Walk.{walk_size, reached};
 
-use crate::gather::picked_along;
-use crate::places::Places;
-use crate::route::Route;
 use std::alloc::{AllocError, Global};
 use std::borrow::CowSlice;
+use tensor_walks::{Places, Route, picked_along};
 
 /// A list that is read along a route.
 #[derive(Drop)]

@@ -8,16 +8,16 @@ ghost use Rattle.tensor_shape.specs.Index.{size_of};
 ghost use Rattle.tensor_ops.specs.InRuns.{run_length, run_places, run_part};
 ghost use Rattle.tensor_ops.specs.InRuns.{HaveOneLength, HaveOneLength-prop};
 ghost use Rattle.tensor_ops.specs.Parts.{has_parts, inner_size, part_value, whole_value};
-ghost use Rattle.tensor_ops.specs.Result.{dims_of, shape_of};
-ghost use Rattle.tensor_ops.specs.Tensors.{tensors_in};
-ghost use Rattle.tensor_ops.specs.Term.{has_inputs};
-ghost use Rattle.tensor_ops.specs.Tree.{term_of};
+ghost use Rattle.tensor_terms.specs.Result.{dims_of, shape_of};
+ghost use Rattle.tensor_terms.specs.Tensors.{tensors_in};
+ghost use Rattle.tensor_terms.specs.Term.{has_inputs};
+ghost use Rattle.tensor_terms.specs.Tree.{term_of};
 
-use crate::expr::Expr;
+use tensor_terms::Expr;
 use crate::in_runs::InRuns;
-use crate::inputs::Inputs;
-use crate::tensor::Tensor;
-use crate::tensors::Tensors;
+use tensor_terms::Inputs;
+use tensor_terms::Tensor;
+use tensor_terms::Tensors;
 use std::alloc::{AllocError, Allocator, Global};
 
 /// A reduction or a contraction that has result dims, over its inputs, made ready to be evaluated

@@ -10,25 +10,22 @@ ghost use Rattle.std.specs.Prelude.{IfOk, IfSome, OnOk, slice_index, slice_index
 ghost use Rattle.std.specs.Cow.{cow_slice_items};
 ghost use Rattle.std.specs.List.{range_with_len};
 ghost use Rattle.tensor_shape.specs.Index.{size_of};
-ghost use Rattle.tensor_ops.specs.Loops.{either_way};
+ghost use Rattle.tensor_walks.specs.Loops.{either_way};
 ghost use Rattle.tensor_ops.specs.Meaning.{meaning, count_of, IsSound, IsListOf, IsReadingOf};
-ghost use Rattle.tensor_ops.specs.Places.{places_of, value_in, AreBelow};
+ghost use Rattle.tensor_walks.specs.Places.{places_of, AreBelow};
+ghost use Rattle.tensor_kernels.specs.Values.{value_in};
 ghost use Rattle.tensor_ops.specs.Placing.{HasValues, meaning_at};
-ghost use Rattle.tensor_ops.specs.Splicing.{spliced, HaveTurns};
+ghost use Rattle.tensor_walks.specs.Splicing.{spliced, HaveTurns};
 
-use crate::chain::{Link, combine_chain};
-use crate::combining::{combine_along, has_long_rows};
-use crate::gather::{picked, picked_along};
-use crate::loops::{SelectOrder, apply, combine, combine_row, select};
-use crate::operations::{BinaryScalar, UnaryScalar};
 use crate::placed::settling::settled_over;
-use crate::places::Places;
-use crate::spliced::{parted, spliced_list, spliced_run};
-use crate::turns::Turns;
-use crate::walk::{Axis, Reading, Row, sources};
 use std::alloc::{AllocError, Allocator, Global};
 use std::borrow::CowSlice;
 use tensor_shape::Dims;
+use tensor_walks::{
+    Axis, BinaryScalar, Link, Places, Reading, Row, SelectOrder, Turns, UnaryScalar, apply,
+    combine, combine_along, combine_chain, combine_row, has_long_rows, parted, picked,
+    picked_along, select, sources, spliced_list, spliced_run,
+};
 
 /// How many places are worked out at a time, so that their values stay in the nearest cache.
 pub(crate) const PIECE: usize = 1024;

@@ -3,34 +3,32 @@
 ghost use Rattle.std.specs.Prelude.{◌≡◌, ◌^◌, length, Ok, IsTrue, IsOk, IfOk, if◌then◌else◌};
 ghost use Rattle.tensor_shape.specs.Legal.{highest_rank};
 ghost use Rattle.tensor_shape.specs.Index.{size_of};
-ghost use Rattle.tensor_ops.specs.Axes.{AreShort};
-ghost use Rattle.tensor_ops.specs.Loops.{either_way, selected};
+ghost use Rattle.tensor_terms.specs.Axes.{AreShort};
+ghost use Rattle.tensor_walks.specs.Loops.{either_way, selected};
 ghost use Rattle.tensor_ops.specs.Meaning.{meaning, count_of, IsSound};
-ghost use Rattle.tensor_ops.specs.Movement.{moved, moved_dims};
+ghost use Rattle.tensor_terms.specs.Movement.{moved, moved_dims};
 ghost use Rattle.tensor_ops.specs.Placing.{Gives, IsJoined, IsView, meaning_at};
-ghost use Rattle.tensor_ops.specs.Result.{dims_of, shape_of, unary_dims, binary_dims};
-ghost use Rattle.tensor_ops.specs.Tensors.{tensors_in};
-ghost use Rattle.tensor_ops.specs.Term.{has_inputs};
-ghost use Rattle.tensor_ops.specs.Tree.{term_of, movement_at, unary_at, binary_at};
-ghost use Rattle.tensor_ops.specs.Scalars.{combined, is_true};
-ghost use Rattle.tensor_ops.specs.Value.{value, unary_value, binary_value};
+ghost use Rattle.tensor_terms.specs.Result.{dims_of, shape_of, unary_dims, binary_dims};
+ghost use Rattle.tensor_terms.specs.Tensors.{tensors_in};
+ghost use Rattle.tensor_terms.specs.Term.{has_inputs};
+ghost use Rattle.tensor_terms.specs.Tree.{term_of, movement_at, unary_at, binary_at};
+ghost use Rattle.tensor_walks.specs.Scalars.{combined, is_true};
+ghost use Rattle.tensor_terms.specs.Value.{value, unary_value, binary_value};
 
 use crate::axes::{moved_axes, moved_start, whole_axes};
 use crate::convolution::place_convolution;
-use crate::expr::Expr;
+use tensor_terms::Expr;
 use crate::kernels::{place_contraction, place_reduction};
-use crate::loops::SelectOrder;
-use crate::movement_dims::moved_dims;
-use crate::node::{Binary, Movement, Node, Ternary, Unary};
-use crate::operations::BinaryScalar;
+use tensor_terms::moved_dims;
+use tensor_terms::{Binary, Movement, Node, Ternary, Unary};
 use crate::part::Part;
 use crate::placed::Placed;
 use crate::placed::settling::{all, both, settled_over};
 use crate::splicing::{place_concatenation, place_pad};
-use crate::tensors::Tensors;
-use crate::walk::Axis;
+use tensor_terms::Tensors;
 use std::alloc::{AllocError, Global};
 use tensor_shape::{Dims, MAX_RANK};
+use tensor_walks::{Axis, BinaryScalar, SelectOrder};
 
 /// A placed expression that is read along axes from a start.
 #[derive(Drop)]

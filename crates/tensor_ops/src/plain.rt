@@ -2,16 +2,16 @@
 
 ghost use Rattle.std.specs.Prelude.{◌≡◌, List, ℕ, length, IsTrue, IsOk, IfOk};
 ghost use Rattle.tensor_shape.specs.Index.{IsIndexOf};
-ghost use Rattle.tensor_ops.specs.Contents.{value_at};
-ghost use Rattle.tensor_ops.specs.Term.{has_inputs};
-ghost use Rattle.tensor_ops.specs.Tree.{term_of};
-ghost use Rattle.tensor_ops.specs.Result.{dims_of};
-ghost use Rattle.tensor_ops.specs.Value.{value, tensor_of};
+ghost use Rattle.tensor_terms.specs.Contents.{value_at};
+ghost use Rattle.tensor_terms.specs.Term.{has_inputs};
+ghost use Rattle.tensor_terms.specs.Tree.{term_of};
+ghost use Rattle.tensor_terms.specs.Result.{dims_of};
+ghost use Rattle.tensor_terms.specs.Value.{value, tensor_of};
 
 use crate::evaluator::TensorEvaluator;
-use crate::expr::Expr;
-use crate::inputs::Inputs;
-use crate::tensor::Tensor;
+use tensor_terms::Expr;
+use tensor_terms::Inputs;
+use tensor_terms::Tensor;
 use std::alloc::{AllocError, Global};
 
 /// The tensor whose value at each index list is the expression's: its values at the range of all

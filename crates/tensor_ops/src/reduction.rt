@@ -6,16 +6,15 @@ ghost use Rattle.std.specs.Cow.{cow_slice_items};
 ghost use Rattle.std.specs.List.{range_with_len};
 ghost use Rattle.tensor_shape.specs.Index.{size_of, place, index_of};
 ghost use Rattle.tensor_shape.specs.Legal.{most_elements};
-ghost use Rattle.tensor_ops.specs.Folds.{offset_at, start_at};
-ghost use Rattle.tensor_ops.specs.Places.{value_in};
+ghost use Rattle.tensor_walks.specs.Folds.{offset_at, start_at};
+ghost use Rattle.tensor_kernels.specs.Values.{value_in};
 
-use crate::folds::combine_runs;
 use crate::offsets::offsets;
-use crate::reducer::Reducer;
-use crate::woven::{among, next_among, next_other, others, span};
+use tensor_terms::{among, next_among, next_other, others, span};
 use std::alloc::{AllocError, Allocator, Global};
 use std::borrow::CowSlice;
 use tensor_shape::Dims;
+use tensor_walks::{Reducer, combine_runs};
 
 /// A reduction over axes, made ready to be worked out by ranges of places. It is made once; all who
 /// work on ranges of it share it. The operand is seen as rows, which are the values along the axes
@@ -49,8 +48,8 @@ pub(crate) struct Reduction<'a> {
 
 impl<'a> Reduction<'a> {
     ghost use Rattle.tensor_ops.specs.Reduced.{places_of_result, combined_at, reduction_at};
-    ghost use Rattle.tensor_ops.specs.Reduction.{reduced};
-    ghost use Rattle.tensor_ops.specs.Woven.{other_dims};
+    ghost use Rattle.tensor_terms.specs.Reduction.{reduced};
+    ghost use Rattle.tensor_terms.specs.Woven.{other_dims};
 
     /// A reduction of the values of a tensor over axes. Those past its rank are left out.
     /// Takes eight bytes for each index list of the kept axes after the first run, and for each of

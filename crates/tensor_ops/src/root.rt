@@ -4,24 +4,24 @@ ghost use Rattle.std.specs.Prelude.{◌≡◌, ◌≤◌, ◌-◌, length, map, 
 ghost use Rattle.std.specs.List.{range_with_len};
 ghost use Rattle.tensor_shape.specs.Legal.{highest_rank};
 ghost use Rattle.tensor_ops.specs.Placing.{Gives, HasValues};
-ghost use Rattle.tensor_ops.specs.Result.{dims_of, shape_of};
-ghost use Rattle.tensor_ops.specs.Tensors.{tensors_in};
-ghost use Rattle.tensor_ops.specs.Term.{has_inputs};
-ghost use Rattle.tensor_ops.specs.Tree.{term_of};
-ghost use Rattle.tensor_ops.specs.Value.{value};
+ghost use Rattle.tensor_terms.specs.Result.{dims_of, shape_of};
+ghost use Rattle.tensor_terms.specs.Tensors.{tensors_in};
+ghost use Rattle.tensor_terms.specs.Term.{has_inputs};
+ghost use Rattle.tensor_terms.specs.Tree.{term_of};
+ghost use Rattle.tensor_terms.specs.Value.{value};
 
-use crate::contraction::Contraction;
 use crate::convolution::convolution_of;
-use crate::expr::Expr;
+use tensor_terms::Expr;
 use crate::kernels::{contraction_of, reduction_of};
-use crate::node::{Binary, Node, Unary};
+use tensor_terms::{Binary, Node, Unary};
 use crate::part::Part;
 use crate::placed::Placed;
 use crate::placed::settling::settled_over;
 use crate::placing::{place, place_two};
 use crate::reduction::Reduction;
-use crate::tensors::Tensors;
+use tensor_terms::Tensors;
 use std::alloc::{AllocError, Allocator, Global};
+use tensor_kernels::Contraction;
 use tensor_shape::Dims;
 
 /// How many places of operands are worked out, all together, when an expression is placed: 256 KiB

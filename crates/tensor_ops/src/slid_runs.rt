@@ -6,64 +6,47 @@ ghost use Rattle.std.specs.Prelude.{IfOk, Ok};
 ghost use Rattle.std.specs.Cow.{cow_slice_items};
 ghost use Rattle.tensor_shape.specs.Index.{size_of};
 ghost use Rattle.tensor_shape.specs.Legal.{most_elements};
-ghost use Rattle.tensor_ops.specs.Convolution.{convolved_dims};
-ghost use Rattle.tensor_ops.specs.Stepped.{run_axes, run_width};
+ghost use Rattle.tensor_terms.specs.Convolution.{convolved_dims};
+ghost use Rattle.tensor_terms.specs.Stepped.{run_axes, run_width};
+ghost use Rattle.tensor_terms.specs.Slid.{IsUnderKernel};
+ghost use Rattle.tensor_kernels.specs.SlidRuns.{slid_count, slid_length, slid_value};
 
-use crate::movement_dims::shuffled;
+use tensor_terms::shuffled;
 use crate::offsets::stepped_places;
 use std::alloc::{AllocError, Global};
 use std::borrow::CowSlice;
+use tensor_kernels::SlidRuns;
 use tensor_shape::Dims;
 
-/// An operand as runs of equally many places of the result. What lies under place q of the kernel
-/// begins at the run's start, moved by offset q.
-#[derive(Drop)]
-pub(crate) struct SlidRuns<'a> {
-    pub(crate) values: CowSlice<'a, i64, Global>,
-    pub(crate) starts: Vec<usize>,
-    pub(crate) width: usize,
-    pub(crate) offsets: Vec<usize>,
-    ghost inside: { (x q : ℕ) → x < length starts.items * width → q < length offsets.items
-        → slice_index starts.items (x / width) + x % width + slice_index offsets.items q
-        < length (cow_slice_items values) },
-    ghost few: { length starts.items * width ≤ most_elements },
-    ghost some: { 0 < length offsets.items },
-}
-
-impl<'a> SlidRuns<'a> {
-    ghost use Rattle.tensor_ops.specs.Slid.{IsUnderKernel};
-    ghost use Rattle.tensor_ops.specs.SlidRuns.{slid_count, slid_length, slid_value};
-
-    /// The operand of a convolution with these result dims. Takes a number for each of its runs,
-    /// and one for each place of the kernel.
-    pub(crate) fn under_kernel(
-        alloc: Global,
-        axes: &[u64],
-        dims: &Dims,
-        values: CowSlice<'a, i64, Global>,
-        kernel: &Dims,
-        slid: &Dims,
-    ) -> Result<SlidRuns<'a>, AllocError>
-        requires dims { convolved_dims axes.now dims.now kernel.now ≡ Ok slid.now }
-        requires values { length (cow_slice_items values) ≡ size_of dims.now }
-        ensures { IfOk result (λ runs.
-            IsUnderKernel (slid_count runs) (slid_length runs) (slid_value runs)
-            (cow_slice_items values.entry) axes.now dims.now kernel.now slid.now) }
-    {
-        let sizes = dims.as_slice();
-        let strides = dims.strides();
-        prove!(strides.len() == sizes.len());
-        let steps = shuffled(axes, strides.as_slice());
-        let (first, width) = first_run(slid.as_slice());
-        let starts = stepped_places(alloc, slid.as_slice(), strides.as_slice(), first)?;
-        let offsets = stepped_places(alloc, kernel.as_slice(), steps.as_slice(), 0)?;
-        Ok(SlidRuns {
-            values,
-            starts,
-            width,
-            offsets,
-        })
-    }
+/// The operand of a convolution with these result dims. Takes a number for each of its runs,
+/// and one for each place of the kernel.
+pub(crate) fn runs_under_kernel<'a>(
+    alloc: Global,
+    axes: &[u64],
+    dims: &Dims,
+    values: CowSlice<'a, i64, Global>,
+    kernel: &Dims,
+    slid: &Dims,
+) -> Result<SlidRuns<'a>, AllocError>
+    requires dims { convolved_dims axes.now dims.now kernel.now ≡ Ok slid.now }
+    requires values { length (cow_slice_items values) ≡ size_of dims.now }
+    ensures { IfOk result (λ runs.
+        IsUnderKernel (slid_count runs) (slid_length runs) (slid_value runs)
+        (cow_slice_items values.entry) axes.now dims.now kernel.now slid.now) }
+{
+    let sizes = dims.as_slice();
+    let strides = dims.strides();
+    prove!(strides.len() == sizes.len());
+    let steps = shuffled(axes, strides.as_slice());
+    let (first, width) = first_run(slid.as_slice());
+    let starts = stepped_places(alloc, slid.as_slice(), strides.as_slice(), first)?;
+    let offsets = stepped_places(alloc, kernel.as_slice(), steps.as_slice(), 0)?;
+    Ok(SlidRuns {
+        values,
+        starts,
+        width,
+        offsets,
+    })
 }
 
 /// How many first axes runs go along, one where there is one, and how many places a run has.

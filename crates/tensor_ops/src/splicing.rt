@@ -4,17 +4,17 @@ ghost use Rattle.std.specs.Prelude.{◌≡◌, ℕ, pos, ◌+◌, ◌<◌, lengt
 ghost use Rattle.std.specs.Prelude.{Ok, IsOk, IfOk};
 ghost use Rattle.tensor_shape.specs.Index.{size_of};
 ghost use Rattle.tensor_shape.specs.Legal.{highest_rank, IsLegal};
-ghost use Rattle.tensor_ops.specs.Concatenation.{concatenated, concatenated_dims};
+ghost use Rattle.tensor_terms.specs.Concatenation.{concatenated, concatenated_dims};
 ghost use Rattle.tensor_ops.specs.Meaning.{meaning, count_of, IsSound};
-ghost use Rattle.tensor_ops.specs.Padding.{padded, pad_dims};
-ghost use Rattle.tensor_ops.specs.Splicing.{padded_along};
+ghost use Rattle.tensor_terms.specs.Padding.{padded, pad_dims};
+ghost use Rattle.tensor_walks.specs.Splicing.{padded_along};
 ghost use Rattle.tensor_ops.specs.Placing.{Gives, meaning_at};
 
-use crate::concatenation_dims::concatenated_dims;
-use crate::movement_dims::extend;
+use tensor_terms::concatenated_dims;
+use tensor_terms::extend;
 use crate::part::Part;
 use crate::placed::Placed;
-use crate::spliced_index::turns_along;
+use tensor_terms::turns_along;
 use std::alloc::{AllocError, Global};
 use tensor_shape::{Dims, MAX_RANK, PerAxis};
 

@@ -7,69 +7,43 @@ ghost use Rattle.std.specs.Cow.{cow_slice_items};
 ghost use Rattle.std.specs.List.{range_with_len};
 ghost use Rattle.tensor_shape.specs.Index.{size_of};
 ghost use Rattle.tensor_shape.specs.Legal.{most_elements};
-ghost use Rattle.tensor_ops.specs.Places.{value_in};
-ghost use Rattle.tensor_ops.specs.Reduction.{are_axes};
-ghost use Rattle.tensor_ops.specs.Woven.{dims_at};
+ghost use Rattle.tensor_kernels.specs.Values.{value_in};
+ghost use Rattle.tensor_terms.specs.Reduction.{are_axes};
+ghost use Rattle.tensor_terms.specs.Woven.{dims_at};
+ghost use Rattle.tensor_terms.specs.OperandRows.{IsOperand};
+ghost use Rattle.tensor_kernels.specs.Strips.{strip_count, strip_value};
 
 use crate::offsets::offsets;
-use crate::woven::{others, span};
+use tensor_terms::{others, span};
 use std::alloc::{AllocError, Global};
 use std::borrow::CowSlice;
+use tensor_kernels::Strips;
 use tensor_shape::Dims;
 
-/// An operand as rows of one width, which begin at their starts. No row is empty.
-#[derive(Drop)]
-pub(crate) struct Strips<'a> {
+/// An operand of these dims, whose paired axes are so many first ones. Takes a number for each
+/// of its rows.
+pub(crate) fn strips_of<'a>(
+    alloc: Global,
+    dims: &Dims,
     values: CowSlice<'a, i64, Global>,
-    pub(crate) starts: Vec<usize>,
-    pub(crate) width: usize,
-    ghost inside: { (x q : ℕ) → x < length starts.items → q < width
-        → slice_index starts.items x + q < length (cow_slice_items values) },
-    ghost few: { length starts.items ≤ most_elements },
-    ghost some: { 0 < width },
-}
-
-impl<'a> Strips<'a> {
-    ghost use Rattle.tensor_ops.specs.Products.{IsOperand};
-    ghost use Rattle.tensor_ops.specs.Strips.{strip_count, strip_value};
-
-    /// An operand of these dims, whose paired axes are so many first ones. Takes a number for each
-    /// of its rows.
-    pub(crate) fn of(
-        alloc: Global,
-        dims: &Dims,
-        values: CowSlice<'a, i64, Global>,
-        axes: &[u64],
-    ) -> Result<Strips<'a>, AllocError>
-        requires axes { IsTrue (are_axes (length dims.now) axes.now) }
-        requires first { axes.now ≡ range_with_len 0 (length axes.now) }
-        requires some { 0 < size_of (dims_at axes.now dims.now) }
-        requires values { length (cow_slice_items values) ≡ size_of dims.now }
-        ensures { IfOk result (λ strips.
-            IsOperand (strip_count strips) strips.width (strip_value strips)
-            (value_in (cow_slice_items values.entry)) dims.now axes.now) }
-    {
-        let rank = dims.as_slice().len();
-        let kept = others(axes, 0, rank as u64);
-        let starts = offsets(alloc, dims, kept.as_slice())?;
-        Ok(Strips {
-            values,
-            starts,
-            width: strip_width(dims, axes),
-        })
-    }
-
-    /// Row x.
-    #[inline(always)]
-    pub(crate) fn row(&self, x: usize) -> &[i64]
-        requires { x < strip_count self.now }
-        ensures len { length result.now ≡ self.now.width }
-        ensures each { (q : ℕ) → q < self.now.width
-            → value_in result.now q ≡ strip_value self.now x q }
-    {
-        let start = self.starts[x];
-        &self.values.as_slice()[start..start + self.width]
-    }
+    axes: &[u64],
+) -> Result<Strips<'a>, AllocError>
+    requires axes { IsTrue (are_axes (length dims.now) axes.now) }
+    requires first { axes.now ≡ range_with_len 0 (length axes.now) }
+    requires some { 0 < size_of (dims_at axes.now dims.now) }
+    requires values { length (cow_slice_items values) ≡ size_of dims.now }
+    ensures { IfOk result (λ strips.
+        IsOperand (strip_count strips) strips.width (strip_value strips)
+        (value_in (cow_slice_items values.entry)) dims.now axes.now) }
+{
+    let rank = dims.as_slice().len();
+    let kept = others(axes, 0, rank as u64);
+    let starts = offsets(alloc, dims, kept.as_slice())?;
+    Ok(Strips {
+        values,
+        starts,
+        width: strip_width(dims, axes),
+    })
 }
 
 /// How many values a row has where the paired axes are the first ones, in order, and else 0.

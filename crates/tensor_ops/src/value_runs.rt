@@ -8,27 +8,26 @@ ghost use Rattle.std.specs.List.{range_with_len};
 ghost use Rattle.tensor_shape.specs.Index.{size_of};
 ghost use Rattle.tensor_shape.specs.Legal.{highest_rank, most_elements};
 ghost use Rattle.tensor_shape.specs.Wrap.{wrap};
-ghost use Rattle.tensor_ops.specs.Folds.{folded};
+ghost use Rattle.tensor_walks.specs.Folds.{folded};
 ghost use Rattle.tensor_ops.specs.Meaning.{count_of, IsSound, IsSound-prop};
-ghost use Rattle.tensor_ops.specs.Movement.{moved, moved_dims};
+ghost use Rattle.tensor_terms.specs.Movement.{moved, moved_dims};
 ghost use Rattle.tensor_ops.specs.Placing.{Gives, meaning_at};
-ghost use Rattle.tensor_ops.specs.Products.{sum_to};
-ghost use Rattle.tensor_ops.specs.Reduction.{are_axes, unit};
-ghost use Rattle.tensor_ops.specs.Term.{shuffle};
-ghost use Rattle.tensor_ops.specs.Woven.{others};
+ghost use Rattle.tensor_kernels.specs.Products.{sum_to};
+ghost use Rattle.tensor_terms.specs.Reduction.{are_axes};
+ghost use Rattle.tensor_walks.specs.Combining.{unit};
+ghost use Rattle.tensor_terms.specs.Term.{shuffle};
+ghost use Rattle.tensor_terms.specs.Woven.{others};
 
-use crate::folds::{add_combined, combined_with};
-use crate::index_parts::{axes_first, dims_at, other_dims};
-use crate::node::Movement;
+use tensor_terms::{axes_first, dims_at, other_dims};
+use tensor_terms::Movement;
 use crate::part::Part;
 use crate::placed::settling::settled_over;
 use crate::placed::{PIECE, Placed, values_at};
-use crate::places::Places;
 use crate::placing::place_movement;
-use crate::reducer::Reducer;
-use crate::strip_dots::sum_with_products;
 use std::alloc::{AllocError, Allocator, Global};
 use std::borrow::CowSlice;
+use tensor_kernels::sum_with_products;
+use tensor_walks::{Places, Reducer, add_combined, combined_with};
 
 /// Runs of values, one after the other. Nothing of them is held but what the placed expression
 /// reads.

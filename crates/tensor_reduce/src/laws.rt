@@ -5,12 +5,13 @@ ghost use Rattle.std.specs.Int.{w64};
 ghost use Rattle.std.specs.Int.RustNames.{FitsSigned};
 ghost use Rattle.std.specs.List.{range_with_len};
 ghost use Rattle.tensor_ops.specs.Index.{size_of};
-ghost use Rattle.tensor_ops.specs.Contraction.{firsts, contracted};
+ghost use Rattle.tensor_terms.specs.Contraction.{firsts, contracted};
 ghost use Rattle.tensor_ops.specs.Parts.{reduced_part, contracted_part};
-ghost use Rattle.tensor_ops.specs.Reduction.{unit, combine, combination, reduced};
-ghost use Rattle.tensor_ops.specs.Woven.{among, dims_at};
-ghost use Rattle.tensor_ops.specs.declared.reducer.Reducer.{Reducer};
-ghost use Rattle.tensor_ops.specs.declared.reducer.Reducer.TheVariants.{Sum};
+ghost use Rattle.tensor_walks.specs.Combining.{unit, combine, combination};
+ghost use Rattle.tensor_terms.specs.Reduction.{reduced};
+ghost use Rattle.tensor_terms.specs.Woven.{among, dims_at};
+ghost use Rattle.tensor_walks.specs.declared.reducer.Reducer.{Reducer};
+ghost use Rattle.tensor_walks.specs.declared.reducer.Reducer.TheVariants.{Sum};
 ghost use Rattle.tensor_reduce.specs.Reducers.{alone};
 ghost use Rattle.tensor_reduce.specs.Shards.{shards_of, lists_of};
 

@@ -1,15 +1,14 @@
 //! Operations that read one operand again and again become a chain, for which it is read once.
 
 ghost use Rattle.std.specs.Prelude.{◌≡◌, ℕ, IfOk, IsTrue};
-ghost use Rattle.tensor_ops.specs.Loops.{either_way};
+ghost use Rattle.tensor_walks.specs.Loops.{either_way};
 ghost use Rattle.tensor_ops.specs.Meaning.{meaning, count_of, IsSound};
 ghost use Rattle.tensor_ops.specs.Placing.{IsJoined};
 
-use crate::chain::{Link, are_same};
-use crate::operations::BinaryScalar;
 use crate::placed::Placed;
 use crate::placed::settling::both;
 use std::alloc::{AllocError, Global};
+use tensor_walks::{BinaryScalar, Link, are_same};
 
 impl<'a> Placed<'a> {
     /// An operation on each value and another one's. Where this is an operation that reads what the

@@ -6,18 +6,18 @@ ghost use Rattle.tensor_shape.specs.Index.{size_of, place};
 ghost use Rattle.tensor_shape.specs.Legal.{most_elements};
 ghost use Rattle.tensor_ops.specs.Meaning.{count_of, IsSound};
 ghost use Rattle.tensor_ops.specs.Operand.{operand_at, operand_count};
-ghost use Rattle.tensor_ops.specs.Places.{value_in};
+ghost use Rattle.tensor_kernels.specs.Values.{value_in};
 ghost use Rattle.tensor_ops.specs.Placing.{HasValues, meaning_at};
 ghost use Rattle.tensor_ops.specs.Settling.{meaning_along};
-ghost use Rattle.tensor_ops.specs.Walk.{walk_size, reached};
+ghost use Rattle.tensor_walks.specs.Walk.{walk_size, reached};
 
 use crate::operand::{Operand, Routed};
 use crate::placed::Placed;
 use crate::placed::settling::{settled_over, walk_over};
-use crate::route::Route;
 use std::alloc::{AllocError, Global};
 use std::borrow::CowSlice;
 use tensor_shape::Dims;
+use tensor_walks::Route;
 
 /// How many values a list has at most for each place of a route along which it is read: all of them
 /// are looked at, to see whether they are small. Of a longer list those along the route are stored.

@@ -4,22 +4,18 @@
 ghost use Rattle.std.specs.Prelude.{◌≡◌, ◌<◌, ◌≤◌, ◌+◌, ℕ, IfOk};
 ghost use Rattle.tensor_shape.specs.Index.{size_of};
 ghost use Rattle.tensor_shape.specs.Legal.{most_elements};
-ghost use Rattle.tensor_ops.specs.Loops.{either_way, selected};
+ghost use Rattle.tensor_walks.specs.Loops.{either_way, selected};
 ghost use Rattle.tensor_ops.specs.Meaning.{meaning, count_of, IsSound};
 ghost use Rattle.tensor_ops.specs.Placing.{Gives, IsJoined, meaning_at};
-ghost use Rattle.tensor_ops.specs.Scalars.{applied};
+ghost use Rattle.tensor_walks.specs.Scalars.{applied};
 ghost use Rattle.tensor_ops.specs.Settling.{Follows, meaning_along};
-ghost use Rattle.tensor_ops.specs.Splicing.{spliced, HaveTurns};
-ghost use Rattle.tensor_ops.specs.Walk.{walk_size, reached};
+ghost use Rattle.tensor_walks.specs.Splicing.{spliced, HaveTurns};
+ghost use Rattle.tensor_walks.specs.Walk.{walk_size, reached};
 
-use crate::joining::joined;
-use crate::loops::SelectOrder;
-use crate::operations::{BinaryScalar, UnaryScalar};
 use crate::placed::Placed;
-use crate::route::{Route, places_along};
-use crate::turns::Turns;
 use std::alloc::{AllocError, Global};
 use tensor_shape::Dims;
+use tensor_walks::{BinaryScalar, Route, SelectOrder, Turns, UnaryScalar, joined, places_along};
 
 /// A placed expression of these dims, settled.
 pub(crate) fn settled_over<'a>(

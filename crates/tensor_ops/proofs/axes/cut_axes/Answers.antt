@@ -1,6 +1,6 @@
 use Rattle.std.proofs.Common.{arith}
 use Rattle.std.proofs.lemmas.Grind.{common_steps}
-use Rattle.tensor_ops.proofs.AxisLists.{cut_axes-at}
+use Rattle.tensor_terms.proofs.AxisLists.{cut_axes-at}
 use Rattle.tensor_ops.proofs.axes.cut_axes.Goals as goal
 
 pub loop-k-preserved : goal.loop-k-preserved

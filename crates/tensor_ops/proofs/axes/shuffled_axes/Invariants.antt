@@ -1,5 +1,5 @@
 use Rattle.std.proofs.Common.{◌≡◌, take}
-use Rattle.tensor_ops.specs.Axes.{shuffled_axes}
+use Rattle.tensor_terms.specs.Axes.{shuffled_axes}
 use Rattle.tensor_ops.proofs.axes.shuffled_axes.Given as goal
 
 abbrev pub invariant-loop-axis : goal.invariant-loop-axis

@@ -1,6 +1,6 @@
 use Rattle.std.proofs.Common.{arith}
 use Rattle.std.proofs.lemmas.Grind.{common_steps}
-use Rattle.tensor_ops.proofs.AxisLists.{by_steps-at}
+use Rattle.tensor_terms.proofs.AxisLists.{by_steps-at}
 use Rattle.tensor_ops.proofs.axes.start_at.Goals as goal
 
 pub overflow_mul-place : goal.overflow_mul-place

@@ -1,6 +1,6 @@
 use Rattle.std.proofs.Common.{arith}
 use Rattle.std.proofs.lemmas.Grind.{common_steps}
-use Rattle.tensor_ops.proofs.AxisLists.{turned_axes-at}
+use Rattle.tensor_terms.proofs.AxisLists.{turned_axes-at}
 use Rattle.tensor_ops.proofs.axes.turned_axes.Goals as goal
 
 pub loop-k-preserved : goal.loop-k-preserved

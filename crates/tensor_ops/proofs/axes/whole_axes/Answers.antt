@@ -1,8 +1,8 @@
 use Rattle.std.proofs.Common.{◌≡◌, arith}
 use Rattle.std.proofs.lemmas.Grind.{common_steps}
-use Rattle.tensor_ops.specs.Axes.{axes_from}
+use Rattle.tensor_terms.specs.Axes.{axes_from}
 use Rattle.tensor_shape.proofs.Sizes.{mul-le-bulk_of, size_of-le-bulk_of}
-use Rattle.tensor_ops.proofs.AxisLists.{axes_from-at, axes_from-short, length-axes_from}
+use Rattle.tensor_terms.proofs.AxisLists.{axes_from-at, axes_from-short, length-axes_from}
 use Rattle.tensor_ops.proofs.axes.whole_axes.Goals as goal
 
 pub overflow_mul-step : goal.overflow_mul-step

@@ -1,7 +1,7 @@
 -- The axes so far and those that are left are all, and the step times what is left is within the limit.
 use Rattle.std.proofs.Common.{◌≡◌, ◌≤◌, ◌*◌, ◌++◌, drop}
 use Rattle.tensor_shape.specs.Legal.{most_elements, bulk_of}
-use Rattle.tensor_ops.specs.Axes.{axes_from}
+use Rattle.tensor_terms.specs.Axes.{axes_from}
 use Rattle.tensor_ops.proofs.axes.whole_axes.Given as goal
 
 abbrev pub invariant-loop-size : goal.invariant-loop-size

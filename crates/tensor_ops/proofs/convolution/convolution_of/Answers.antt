@@ -1,12 +1,11 @@
 use Rattle.std.proofs.Common.{◌≡◌, ◌<◌, length, subst, sym, ◌∙◌}
 use Rattle.std.specs.Cow.{cow_slice_items}
-use Rattle.tensor_ops.specs.Contracting.{contraction_count, contraction_value}
-use Rattle.tensor_ops.specs.Places.{value_in}
+use Rattle.tensor_kernels.specs.Contracting.{contraction_count, contraction_value}
+use Rattle.tensor_kernels.specs.Values.{value_in}
 use Rattle.tensor_ops.specs.Placing.{meaning_at}
-use Rattle.tensor_ops.specs.Rows.{row_count, row_length, row_value}
-use Rattle.tensor_ops.specs.SlidRuns.{slid_count, slid_length, slid_value}
-use Rattle.tensor_ops.specs.declared.contraction.Contraction.TheVariants.{InRuns}
-use Rattle.tensor_ops.proofs.Convolutions.{rows_dot-convolved}
+use Rattle.tensor_kernels.specs.Rows.{row_count, row_length, row_value}
+use Rattle.tensor_kernels.specs.SlidRuns.{slid_count, slid_length, slid_value}
+use Rattle.tensor_terms.proofs.Convolutions.{rows_dot-convolved}
 use Rattle.tensor_ops.proofs.Convolved.{values-convolved}
 use Rattle.tensor_ops.proofs.convolution.convolution_of.Goals as goal
 
@@ -20,8 +19,8 @@ returns c =
     let factors = cow_slice_items c.in_ok-factors.factors in
     let runs = c.in_ok-runs.runs in
     let row = c.in_ok-row.row in
-    let made = InRuns c.of.result in
-    let whole : contraction_count made ≡ slid_count runs = c.of.ensures.count in
+    let made = c.of_runs.result in
+    let whole : contraction_count made ≡ slid_count runs = c.of_runs.ensures.count in
     record {
       dims = sym c.convolved_dims.ensures ∙ c.unwrap-dims.ensures;
       values = values-convolved axes ds ks rs (length values) (length factors)
@@ -30,7 +29,7 @@ returns c =
           (sym c.convolved_dims.ensures ∙ c.unwrap-dims.ensures) c.in_ok-values.ensures c.in_ok-factors.ensures
           (whole ∙ c.in_ok-runs.ensures.count)
           (λ p below.
-          c.of.ensures.value p
+          c.of_runs.ensures.value p
           ∙ rows_dot-convolved axes ds ks rs values factors (slid_count runs) (slid_length runs)
           (row_count row) (row_length row) (slid_value runs) (row_value row) c.in_ok-runs.ensures
           c.in_ok-row.ensures p (subst (λ n. p < n) whole below));

@@ -1,6 +1,6 @@
 use Rattle.std.proofs.Common.{◌-◌, refl, arith}
-use Rattle.tensor_ops.specs.Convolution.{convolved}
-use Rattle.tensor_ops.specs.Contracting.{contraction_count, contraction_value}
+use Rattle.tensor_terms.specs.Convolution.{convolved}
+use Rattle.tensor_kernels.specs.Contracting.{contraction_count, contraction_value}
 use Rattle.tensor_ops.specs.Placing.{meaning_at}
 use Rattle.tensor_ops.specs.declared.placed.Placed.TheVariants.{Kept}
 use Rattle.tensor_ops.proofs.Worked.{values-worked, gives-worked}

@@ -1,5 +1,5 @@
 use Rattle.std.proofs.Common.{sym, ◌∙◌}
-use Rattle.tensor_ops.specs.Contracting.{contraction_count, contraction_value}
+use Rattle.tensor_kernels.specs.Contracting.{contraction_count, contraction_value}
 use Rattle.tensor_ops.specs.Operand.{operand_count, operand_at}
 use Rattle.tensor_ops.specs.Placing.{meaning_at}
 use Rattle.tensor_ops.proofs.Worked.{values-contracted}

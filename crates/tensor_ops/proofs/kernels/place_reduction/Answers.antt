@@ -1,5 +1,5 @@
 use Rattle.std.proofs.Common.{◌-◌, refl, arith}
-use Rattle.tensor_ops.specs.Reduction.{reduced}
+use Rattle.tensor_terms.specs.Reduction.{reduced}
 use Rattle.tensor_ops.specs.Reduced.{places_of_result, reduction_at}
 use Rattle.tensor_ops.specs.Placing.{meaning_at}
 use Rattle.tensor_ops.specs.declared.placed.Placed.TheVariants.{Kept}

@@ -1,6 +1,6 @@
 use Rattle.std.proofs.Common.{length, sym, ◌∙◌}
 use Rattle.std.specs.Cow.{cow_slice_items}
-use Rattle.tensor_ops.specs.Places.{value_in}
+use Rattle.tensor_kernels.specs.Values.{value_in}
 use Rattle.tensor_ops.specs.Placing.{meaning_at}
 use Rattle.tensor_ops.specs.Reduced.{places_of_result, reduction_at}
 use Rattle.tensor_ops.proofs.Worked.{values-reduced}

@@ -2,12 +2,12 @@ use Rattle.std.proofs.Common.{◌≡◌, ◌<◌, ℕ, List, length, get_or, ap,
 use Rattle.std.proofs.lemmas.List.{get_or-map, length-map}
 use Rattle.std.proofs.lemmas.Result.{IfOk-weaker}
 use Rattle.tensor_shape.specs.Index.{strides_from}
-use Rattle.tensor_ops.specs.Woven.{dims_at}
-use Rattle.tensor_ops.proofs.Dropped.{length-axes, are_legal-axes}
-use Rattle.tensor_ops.proofs.Known.{IsLegal-are_legal}
-use Rattle.tensor_ops.proofs.Others.{get_or-are_axes}
-use Rattle.tensor_ops.proofs.Stepping.{length-strides_from, strides_from-short, offset_of-stepped}
-use Rattle.tensor_ops.proofs.Steps.{offset_of-below-bulk_of}
+use Rattle.tensor_terms.specs.Woven.{dims_at}
+use Rattle.tensor_terms.proofs.Dropped.{length-axes, are_legal-axes}
+use Rattle.tensor_terms.proofs.Known.{IsLegal-are_legal}
+use Rattle.tensor_terms.proofs.OtherAxes.{get_or-are_axes}
+use Rattle.tensor_terms.proofs.Stepping.{length-strides_from, strides_from-short, offset_of-stepped}
+use Rattle.tensor_terms.proofs.Steps.{offset_of-below-bulk_of}
 use Rattle.tensor_ops.proofs.offsets.offsets.Goals as goal
 
 pub shuffled-sizes-requires-clause-few : goal.shuffled-sizes-requires-clause-few

@@ -4,8 +4,8 @@ use Rattle.std.proofs.Math.Nat.{mul-le-mul_right}
 use Rattle.tensor_shape.specs.Index.{size_of}
 use Rattle.tensor_shape.specs.Legal.{most_elements}
 use Rattle.tensor_shape.proofs.Sizes.{size_of-le-bulk_of, bulk_of-drop-le}
-use Rattle.tensor_ops.proofs.Stepping.{stepped-drop-le, size_of-before, stepped-before}
-use Rattle.tensor_ops.proofs.Walks.{some_size}
+use Rattle.tensor_terms.proofs.Stepping.{stepped-drop-le, size_of-before, stepped-before}
+use Rattle.tensor_walks.proofs.Walks.{some_size}
 use Rattle.tensor_ops.proofs.offsets.stepped_places.Goals as goal
 
 pub with_axis-requires-clause-few : goal.with_axis-requires-clause-few

@@ -1,10 +1,10 @@
 use Rattle.std.proofs.Common.{◌≡◌, length, sym, subst, true, arith}
-use Rattle.tensor_ops.specs.Offsets.{HasTables}
-use Rattle.tensor_ops.specs.Reduction.{are_axes}
-use Rattle.tensor_ops.specs.Woven.{others}
-use Rattle.tensor_ops.proofs.Operands.{kept-others, has_tables}
-use Rattle.tensor_ops.proofs.Others.{are_axes-others}
-use Rattle.tensor_ops.proofs.Steps.{size_of-dims_at-le}
+use Rattle.tensor_terms.specs.Offsets.{HasTables}
+use Rattle.tensor_terms.specs.Reduction.{are_axes}
+use Rattle.tensor_terms.specs.Woven.{others}
+use Rattle.tensor_terms.proofs.Operands.{kept-others, has_tables}
+use Rattle.tensor_terms.proofs.OtherAxes.{are_axes-others}
+use Rattle.tensor_terms.proofs.Steps.{size_of-dims_at-le}
 use Rattle.tensor_ops.proofs.offsets.tables.Goals as goal
 
 pub offsets-requires : goal.offsets-requires

@@ -1,14 +1,14 @@
 use Rattle.std.proofs.Common.{[], IsOk, ap, subst, sym, ◌∙◌}
 use Rattle.std.specs.Result.{result_unwrap_or}
 use Rattle.tensor_shape.specs.Legal.{highest_rank}
-use Rattle.tensor_ops.specs.Contents.{value_at}
+use Rattle.tensor_terms.specs.Contents.{value_at}
 use Rattle.tensor_ops.specs.Placing.{Gives}
-use Rattle.tensor_ops.specs.Result.{dims_of, binary_dims}
-use Rattle.tensor_ops.specs.Tensors.{tensors_in}
-use Rattle.tensor_ops.specs.Tree.{term_of, unary_at, binary_at}
+use Rattle.tensor_terms.specs.Result.{dims_of, binary_dims}
+use Rattle.tensor_terms.specs.Tensors.{tensors_in}
+use Rattle.tensor_terms.specs.Tree.{term_of, unary_at, binary_at}
 use Rattle.tensor_ops.specs.declared.placed.Placed.TheVariants.{Lent}
 use Rattle.tensor_ops.proofs.Placings.{gives-input, IfOk-both}
-use Rattle.tensor_ops.proofs.Shapes.{with_two-over}
+use Rattle.tensor_terms.proofs.Shapes.{with_two-over}
 use Rattle.tensor_ops.proofs.Worked.{gives-unary, gives-binary}
 use Rattle.tensor_ops.proofs.placing.+place.Goals as goal
 

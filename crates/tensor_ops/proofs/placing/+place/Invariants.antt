@@ -1,6 +1,6 @@
 use Rattle.std.proofs.Common.{◌+◌, ◌*◌}
-use Rattle.tensor_ops.specs.Term.{nodes_of}
-use Rattle.tensor_ops.specs.Tree.{term_of}
+use Rattle.tensor_terms.specs.Term.{nodes_of}
+use Rattle.tensor_terms.specs.Tree.{term_of}
 use Rattle.tensor_ops.proofs.placing.+place.Given as goal
 
 abbrev pub decreases-place : goal.decreases-place

@@ -1,8 +1,8 @@
 use Rattle.std.proofs.Common.{sym}
-use Rattle.tensor_ops.specs.Shaped.{equal_dims}
+use Rattle.tensor_terms.specs.Shaped.{equal_dims}
 use Rattle.tensor_ops.proofs.Placings.{gives-pairwise, IfOk-both}
 use Rattle.tensor_ops.proofs.SameTensors.{equal_dims-known}
-use Rattle.tensor_ops.proofs.Shapes.{Ok-unwrap}
+use Rattle.tensor_terms.proofs.Shapes.{Ok-unwrap}
 use Rattle.tensor_ops.proofs.placing.place_binary.Goals as goal
 
 pub returns-in-Pairwise-clause-placed : goal.returns-in-Pairwise-clause-placed

@@ -1,10 +1,10 @@
 use Rattle.std.proofs.Common.{◌≡◌, ◌-◌, length, ap, subst, ◌∙◌, arith}
 use Rattle.tensor_shape.specs.Index.{size_of, IsIndexOf}
-use Rattle.tensor_ops.specs.Contents.{value_at}
+use Rattle.tensor_terms.specs.Contents.{value_at}
 use Rattle.tensor_ops.specs.Evaluator.{term_evaluated, inputs_evaluated}
-use Rattle.tensor_ops.specs.Result.{shape_of}
-use Rattle.tensor_ops.specs.Tree.{term_of}
-use Rattle.tensor_ops.specs.Value.{tensor_of, values_from}
+use Rattle.tensor_terms.specs.Result.{shape_of}
+use Rattle.tensor_terms.specs.Tree.{term_of}
+use Rattle.tensor_terms.specs.Value.{tensor_of, values_from}
 use Rattle.tensor_ops.proofs.Evaluated.{length-values_from, tensor_of-made, value_at-tensor_of}
 use Rattle.tensor_ops.proofs.plain.eval_plain.Goals as goal
 

@@ -2,10 +2,10 @@ use Rattle.std.proofs.Common.{◌≡◌, ℕ, suc, List, Ok, ◌+◌, length, ap
 use Rattle.tensor_shape.specs.Index.{IsIndexOf}
 use Rattle.tensor_shape.specs.Legal.{IsLegal}
 use Rattle.tensor_shape.proofs.Places.{length-IsIndexOf}
-use Rattle.tensor_ops.specs.Padding.{padded_dims, padded}
+use Rattle.tensor_terms.specs.Padding.{padded_dims, padded}
 use Rattle.tensor_ops.specs.Placing.{Gives, meaning_at}
-use Rattle.tensor_ops.specs.Shaped.{Shaped}
-use Rattle.tensor_ops.proofs.Pads.{pad-known, first_pads, first_pads-all, padded_dims-none, padded-none}
+use Rattle.tensor_terms.specs.Shaped.{Shaped}
+use Rattle.tensor_terms.proofs.Pads.{pad-known, first_pads, first_pads-all, padded_dims-none, padded-none}
 use Rattle.tensor_ops.proofs.Placings.{gives-itself, gives-other}
 use Rattle.tensor_ops.proofs.Zeroes.{length-padded_first, IsLegal-first_pads, set-first_pads, padded-next}
 use Rattle.tensor_ops.proofs.splicing.place_pad.Goals as goal

@@ -1,8 +1,8 @@
 -- What is padded along the first so many axes.
 use Rattle.std.proofs.Common.{◌≡◌}
-use Rattle.tensor_ops.specs.Padding.{padded_dims, padded}
+use Rattle.tensor_terms.specs.Padding.{padded_dims, padded}
 use Rattle.tensor_ops.specs.Placing.{Gives, meaning_at}
-use Rattle.tensor_ops.proofs.Pads.{first_pads}
+use Rattle.tensor_terms.proofs.Pads.{first_pads}
 use Rattle.tensor_ops.proofs.splicing.place_pad.Given as goal
 
 abbrev pub invariant-loop-axis : goal.invariant-loop-axis

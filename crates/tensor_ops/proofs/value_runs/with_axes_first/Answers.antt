@@ -1,13 +1,13 @@
 use Rattle.std.proofs.Common.{◌≡◌, ℕ, List, length, IsOk, refl, ap, sym, subst, ◌∙◌}
 use Rattle.std.specs.List.{range_with_len}
 use Rattle.tensor_shape.specs.Legal.{highest_rank}
-use Rattle.tensor_ops.specs.Movement.{moved, moved_dims}
+use Rattle.tensor_terms.specs.Movement.{moved, moved_dims}
 use Rattle.tensor_ops.specs.Placing.{meaning_at}
-use Rattle.tensor_ops.specs.Term.{shuffle}
-use Rattle.tensor_ops.proofs.Dropped.{axes_first, length-axes_first}
+use Rattle.tensor_terms.specs.Term.{shuffle}
+use Rattle.tensor_terms.proofs.Dropped.{axes_first, length-axes_first}
 use Rattle.tensor_ops.proofs.PartValues.{in-order, dims-in-order}
 use Rattle.tensor_ops.proofs.Placings.{gives-itself, gives-other}
-use Rattle.tensor_ops.proofs.TwoParts.{shuffle-first}
+use Rattle.tensor_terms.proofs.TwoParts.{shuffle-first}
 use Rattle.tensor_ops.proofs.value_runs.with_axes_first.Goals as goal
 
 pub returns-then-is_in_order-clause-dims : goal.returns-then-is_in_order-clause-dims

@@ -1,9 +1,9 @@
 use Rattle.std.proofs.Common.{subst, sym, IsOk}
 use Rattle.std.proofs.lemmas.List.{append-nil}
 use Rattle.tensor_shape.specs.Legal.{highest_rank}
-use Rattle.tensor_ops.specs.Result.{dims_of}
-use Rattle.tensor_ops.specs.Tree.{term_of}
-use Rattle.tensor_ops.proofs.Ranks.{dims_of-wider}
+use Rattle.tensor_terms.specs.Result.{dims_of}
+use Rattle.tensor_terms.specs.Tree.{term_of}
+use Rattle.tensor_terms.proofs.Ranks.{dims_of-wider}
 use Rattle.tensor_ops.proofs.evaluator.TensorEvaluator.of.Goals as goal
 
 pub over-requires-clause-dims : goal.over-requires-clause-dims

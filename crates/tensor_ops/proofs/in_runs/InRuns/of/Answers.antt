@@ -1,14 +1,14 @@
 use Rattle.std.proofs.Common.{◌≡◌, List, length, IsOk, ap, sym, subst, ◌∙◌}
 use Rattle.tensor_shape.specs.Legal.{highest_rank}
-use Rattle.tensor_ops.specs.Contents.{Contents}
-use Rattle.tensor_ops.specs.Result.{dims_of}
-use Rattle.tensor_ops.specs.Tensors.{tensors_in}
-use Rattle.tensor_ops.specs.Term.{unary, binary, reduce, contract}
-use Rattle.tensor_ops.specs.Tree.{term_of, unary_at, binary_at}
-use Rattle.tensor_ops.specs.Woven.{among}
-use Rattle.tensor_ops.proofs.Others.{are_axes-among}
+use Rattle.tensor_terms.specs.Contents.{Contents}
+use Rattle.tensor_terms.specs.Result.{dims_of}
+use Rattle.tensor_terms.specs.Tensors.{tensors_in}
+use Rattle.tensor_terms.specs.Term.{unary, binary, reduce, contract}
+use Rattle.tensor_terms.specs.Tree.{term_of, unary_at, binary_at}
+use Rattle.tensor_terms.specs.Woven.{among}
+use Rattle.tensor_terms.proofs.OtherAxes.{are_axes-among}
 use Rattle.tensor_ops.proofs.PartValues.{gives-reduced, gives-contracted}
-use Rattle.tensor_ops.proofs.Terms.{contracted-known}
+use Rattle.tensor_terms.proofs.Terms.{contracted-known}
 use Rattle.tensor_ops.proofs.in_runs.InRuns.of.Goals as goal
 
 pub returns-in_ok-runs-in-Unary-Reduce-default : goal.returns-in_ok-runs-in-Unary-Reduce-default

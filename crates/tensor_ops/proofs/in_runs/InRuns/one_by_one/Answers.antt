@@ -3,7 +3,7 @@ use Rattle.std.proofs.lemmas.Int.{to_z-of_z}
 use Rattle.std.specs.Int.{w64}
 use mir.Val.{SFits}
 use Rattle.tensor_ops.specs.InRuns.{run_part, run_whole}
-use Rattle.tensor_ops.proofs.Runs.{run-more}
+use Rattle.tensor_kernels.proofs.Runs.{run-more}
 use Rattle.tensor_ops.proofs.in_runs.InRuns.one_by_one.Goals as goal
 
 pub loop-place-preserved : goal.loop-place-preserved

@@ -1,8 +1,8 @@
 use Rattle.std.proofs.Common.{ℕ, ℤ, pos, ◌-◌, length, ap, ◌∙◌, arith}
 use Rattle.std.specs.Cow.{cow_slice_items}
 use Rattle.std.proofs.lemmas.List.FromFn.{length-map-range_with_len, get_or-map-range_with_len}
-use Rattle.tensor_ops.specs.Places.{value_in}
-use Rattle.tensor_ops.specs.Walk.{reached}
+use Rattle.tensor_kernels.specs.Values.{value_in}
+use Rattle.tensor_walks.specs.Walk.{reached}
 use Rattle.tensor_ops.proofs.operand.Routed.into_list.Goals as goal
 
 pub returns-clause-count : goal.returns-clause-count

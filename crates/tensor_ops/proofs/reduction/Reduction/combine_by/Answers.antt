@@ -6,14 +6,14 @@ use Rattle.std.proofs.lemmas.List.{get_or_default}
 use Rattle.std.proofs.lemmas.List.Edits.{get_or-between}
 use Rattle.std.proofs.Math.Nat.{lt_of_mul-lt-mul_right}
 use borrow.Rule.Slice.PartMut.{put_mid}
-use Rattle.tensor_ops.specs.Folds.{folded, offset_at, start_at}
-use Rattle.tensor_ops.specs.Places.{value_in}
+use Rattle.tensor_walks.specs.Folds.{folded, offset_at, start_at}
+use Rattle.tensor_kernels.specs.Values.{value_in}
 use Rattle.tensor_ops.specs.Reduced.{combined_at}
-use Rattle.tensor_ops.specs.declared.reducer.Reducer.{Reducer}
+use Rattle.tensor_walks.specs.declared.reducer.Reducer.{Reducer}
 use Rattle.tensor_ops.specs.declared.reduction.Reduction.{Reduction}
-use Rattle.tensor_ops.proofs.Folding.{start_at-row}
-use Rattle.tensor_ops.proofs.Parts.{length-part, length-put_mid, get_or-before, get_or-within}
-use Rattle.tensor_ops.proofs.Parts.{get_or-after}
+use Rattle.tensor_walks.proofs.Folding.{start_at-row}
+use Rattle.tensor_kernels.proofs.Parts.{length-part, length-put_mid, get_or-before, get_or-within}
+use Rattle.tensor_kernels.proofs.Parts.{get_or-after}
 use Rattle.tensor_ops.proofs.reduction.Reduction.combine_by.Goals as goal
 
 next : (row width : ℕ) → (row + 1) * width ≡ row * width + width

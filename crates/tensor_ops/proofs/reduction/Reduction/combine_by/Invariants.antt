@@ -1,6 +1,6 @@
 -- The places before `done` are combined, the others as they were, and the next row is at hand.
 use Rattle.std.proofs.Common.{◌≡◌, ℕ, ◌+◌, ◌-◌, ◌*◌, ◌<◌, ◌≤◌, length}
-use Rattle.tensor_ops.specs.Places.{value_in}
+use Rattle.tensor_kernels.specs.Values.{value_in}
 use Rattle.tensor_ops.specs.Reduced.{combined_at}
 use Rattle.tensor_ops.proofs.reduction.Reduction.combine_by.Given as goal
 

@@ -4,13 +4,13 @@ use Rattle.std.specs.Cow.{cow_slice_items}
 use Rattle.std.specs.List.{filter, range_with_len}
 use Rattle.tensor_shape.specs.Index.{size_of}
 use Rattle.tensor_shape.proofs.Sizes.{size_of-le-bulk_of}
-use Rattle.tensor_ops.specs.Movement.{is_among}
-use Rattle.tensor_ops.specs.Offsets.{offset_of}
-use Rattle.tensor_ops.specs.Reduction.{are_axes}
-use Rattle.tensor_ops.specs.Woven.{dims_at}
+use Rattle.tensor_terms.specs.Movement.{is_among}
+use Rattle.tensor_terms.specs.Offsets.{offset_of}
+use Rattle.tensor_terms.specs.Reduction.{are_axes}
+use Rattle.tensor_terms.specs.Woven.{dims_at}
 use Rattle.tensor_ops.proofs.Dropping.{kept_after, dropped_after, AreTables, size-kept}
 use Rattle.tensor_ops.proofs.Dropping.{table_place-below, folded-reduced}
-use Rattle.tensor_ops.proofs.Others.{are_axes-picked}
+use Rattle.tensor_terms.proofs.OtherAxes.{are_axes-picked}
 use Rattle.tensor_ops.proofs.reduction.Reduction.of.Goals as goal
 
 -- what a test picks from the axes after one are axes

@@ -5,9 +5,9 @@ use Rattle.std.specs.List.{range_with_len}
 use Rattle.std.proofs.lemmas.List.{get_or-replicate, length-replicate}
 use Rattle.std.proofs.lemmas.List.FromFn.{length-range_with_len, get_or-range_with_len}
 use Rattle.std.proofs.Math.Seq.{take-append_seam}
-use Rattle.tensor_ops.specs.Places.{value_in}
+use Rattle.tensor_kernels.specs.Values.{value_in}
 use Rattle.tensor_ops.specs.Reduced.{combined_at, reduction_at}
-use Rattle.tensor_ops.proofs.Runs.{places-read}
+use Rattle.tensor_kernels.proofs.Runs.{places-read}
 use Rattle.tensor_ops.proofs.reduction.Reduction.values.Goals as goal
 
 -- a list of which all was written

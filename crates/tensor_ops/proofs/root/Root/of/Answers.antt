@@ -1,14 +1,14 @@
 use Rattle.std.proofs.Common.{◌≡◌, ap, sym, ◌∙◌}
-use Rattle.tensor_ops.specs.Contracting.{contraction_count, contraction_value}
-use Rattle.tensor_ops.specs.Contraction.{contracted}
-use Rattle.tensor_ops.specs.Convolution.{convolved}
+use Rattle.tensor_kernels.specs.Contracting.{contraction_count, contraction_value}
+use Rattle.tensor_terms.specs.Contraction.{contracted}
+use Rattle.tensor_terms.specs.Convolution.{convolved}
 use Rattle.tensor_ops.specs.Placing.{meaning_at}
 use Rattle.tensor_ops.specs.Reduced.{places_of_result, reduction_at}
-use Rattle.tensor_ops.specs.Reduction.{reduced}
-use Rattle.tensor_ops.specs.Tensors.{tensors_in}
-use Rattle.tensor_ops.specs.Term.{unary, reduce, binary, contract, convolve}
-use Rattle.tensor_ops.specs.Tree.{term_of, unary_at, binary_at}
-use Rattle.tensor_ops.specs.Value.{value}
+use Rattle.tensor_terms.specs.Reduction.{reduced}
+use Rattle.tensor_terms.specs.Tensors.{tensors_in}
+use Rattle.tensor_terms.specs.Term.{unary, reduce, binary, contract, convolve}
+use Rattle.tensor_terms.specs.Tree.{term_of, unary_at, binary_at}
+use Rattle.tensor_terms.specs.Value.{value}
 use Rattle.tensor_ops.proofs.Worked.{values-other, agree-term, agree-terms}
 use Rattle.tensor_ops.proofs.root.Root.of.Goals as goal
 

@@ -4,9 +4,9 @@ use Rattle.std.specs.Int.{w64}
 use Rattle.std.specs.List.{range_with_len}
 use Rattle.std.proofs.lemmas.Int.{to_z-of_z}
 use mir.Val.{SFits, to_z, of_z}
-use Rattle.tensor_ops.specs.Folds.{folded}
-use Rattle.tensor_ops.specs.Places.{value_in}
-use Rattle.tensor_ops.specs.Reduction.{unit}
+use Rattle.tensor_walks.specs.Folds.{folded}
+use Rattle.tensor_kernels.specs.Values.{value_in}
+use Rattle.tensor_walks.specs.Combining.{unit}
 use Rattle.tensor_ops.specs.ValueRuns.{run_value}
 use Rattle.tensor_ops.proofs.PartValues.{folded-piece}
 use Rattle.tensor_ops.proofs.value_runs.ValueRuns.combined.Goals as goal

@@ -1,7 +1,7 @@
 -- What was combined so far, and the room.
 use Rattle.std.proofs.Common.{◌≡◌, ◌+◌, ◌-◌, ◌≤◌}
-use Rattle.tensor_ops.specs.Folds.{folded}
-use Rattle.tensor_ops.specs.Reduction.{unit}
+use Rattle.tensor_walks.specs.Folds.{folded}
+use Rattle.tensor_walks.specs.Combining.{unit}
 use Rattle.tensor_ops.specs.ValueRuns.{run_value}
 use Rattle.tensor_ops.proofs.value_runs.ValueRuns.combined.Given as goal
 

@@ -6,8 +6,8 @@ use Rattle.std.proofs.lemmas.Int.{to_z-of_z}
 use Rattle.std.proofs.lemmas.List.FromFn.{length-map-range_with_len}
 use mir.Val.{SFits, to_z, of_z}
 use Rattle.tensor_shape.specs.Wrap.{wrap}
-use Rattle.tensor_ops.specs.Places.{value_in}
-use Rattle.tensor_ops.specs.Products.{sum_to}
+use Rattle.tensor_kernels.specs.Values.{value_in}
+use Rattle.tensor_kernels.specs.Products.{sum_to}
 use Rattle.tensor_ops.specs.ValueRuns.{run_value}
 use Rattle.tensor_ops.proofs.PartValues.{sum-piece}
 use Rattle.tensor_ops.proofs.value_runs.ValueRuns.multiplied.Goals as goal

@@ -1,7 +1,7 @@
 -- The sum so far, and the room.
 use Rattle.std.proofs.Common.{◌≡◌, ◌+◌, ◌-◌, ◌*ℤ◌, ◌≤◌}
 use Rattle.tensor_shape.specs.Wrap.{wrap}
-use Rattle.tensor_ops.specs.Products.{sum_to}
+use Rattle.tensor_kernels.specs.Products.{sum_to}
 use Rattle.tensor_ops.specs.ValueRuns.{run_value}
 use Rattle.tensor_ops.proofs.value_runs.ValueRuns.multiplied.Given as goal
 

@@ -3,7 +3,7 @@ use Rattle.std.specs.List.{range_with_len}
 use Rattle.std.proofs.lemmas.Result.{IfOk-weaker}
 use Rattle.tensor_ops.specs.Meaning.{meaning}
 use Rattle.tensor_ops.specs.ValueRuns.{run_value}
-use Rattle.tensor_ops.proofs.Runs.{map-shifted}
+use Rattle.tensor_kernels.proofs.Runs.{map-shifted}
 use Rattle.tensor_ops.proofs.value_runs.ValueRuns.piece.Goals as goal
 
 pub returns : goal.returns

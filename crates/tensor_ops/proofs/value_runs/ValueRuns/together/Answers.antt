@@ -1,7 +1,7 @@
 use Rattle.std.proofs.Common.{map, ap, arith}
 use Rattle.std.specs.List.{range_with_len}
 use Rattle.tensor_ops.specs.ValueRuns.{run_combined}
-use Rattle.tensor_ops.proofs.Runs.{chunk-more}
+use Rattle.tensor_kernels.proofs.Runs.{chunk-more}
 use Rattle.tensor_ops.proofs.value_runs.ValueRuns.together.Goals as goal
 
 pub loop-run-preserved : goal.loop-run-preserved

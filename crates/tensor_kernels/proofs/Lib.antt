@@ -1,0 +1,17 @@
+pub mod ChunkSums
+pub mod HalfLanes
+pub mod HalfProducts
+pub mod HalfWords
+pub mod LaneSums
+pub mod ListWrites
+pub mod PackedRows
+pub mod PairLanes
+pub mod PairProducts
+pub mod PanelPlaces
+pub mod PanelSums
+pub mod Parts
+pub mod ProductSums
+pub mod Runs
+pub mod SimdLanes
+pub mod TilePlaces
+pub mod TurnedRows

@@ -1,0 +1,40 @@
+-- Products two by two.
+use Rattle.std.proofs.Common.{◌≡◌, ℕ, ◌+◌, ◌%◌, ◌^◌, ◌<◌, ℤ, pos, ◌+ℤ◌, ◌*ℤ◌, List, map, FitsSigned}
+use Rattle.std.proofs.Common.{to_z, of_z, ap, sym, ◌∙◌, arith, get_or}
+use Rattle.std.proofs.lemmas.List.{get_or-map}
+use Rattle.std.proofs.lemmas.Int.{int_wrap-add_left, int_wrap-add_right, int_wrap-mul_left}
+use Rattle.std.proofs.lemmas.Int.{int_wrap-mul_right}
+use Rattle.std.specs.Int.{w64, int_wrap}
+use lib.Lanes.{zip2}
+use Rattle.tensor_kernels.specs.Values.{value_in}
+use Rattle.tensor_shape.specs.Wrap.{wrap}
+use Rattle.tensor_kernels.specs.Panels.{AreLanes}
+use Rattle.tensor_kernels.proofs.HalfProducts.{wrap-bits}
+use Rattle.tensor_kernels.proofs.HalfLanes.{length-bits, at-bits, length-both, at-both}
+
+-- a sum of bits, read as a number
+pub bits-sum : (x y : ℤ) → FitsSigned w64 x → FitsSigned w64 y
+    → to_z w64 ((of_z w64 x + of_z w64 y) % 2 ^ 64) ≡ wrap (x +ℤ y)
+unfolding int_wrap
+bits-sum x y fits_x fits_y =
+    sym (ap (λ v. wrap (v +ℤ y)) (sym (wrap-bits x fits_x))
+    ∙ int_wrap-add_left w64 (pos (of_z w64 x)) y
+    ∙ ap (λ v. wrap (pos (of_z w64 x) +ℤ v)) (sym (wrap-bits y fits_y))
+    ∙ int_wrap-add_right w64 (pos (of_z w64 x)) (pos (of_z w64 y)))
+
+pub at-sums : (f : ℕ → ℕ → ℕ) (x y : List ℤ) (r : ℕ) → AreLanes x → AreLanes y → r < 4
+    → value_in (map (to_z w64) (zip2 f (map (of_z w64) x) (map (of_z w64) y))) r
+    ≡ to_z w64 (f (of_z w64 (value_in x r)) (of_z w64 (value_in y r)))
+at-sums f x y r lx ly h =
+    get_or-map (to_z w64) _ r 0 (pos 0)
+    (omega (arith, length-both f _ _ 4 (length-bits x lx) (length-bits y ly)))
+    ∙ ap (to_z w64)
+    (at-both f _ _ 4 r (length-bits x lx) (length-bits y ly) h
+    ∙ ap (λ n. f n (get_or (map (of_z w64) y) r 0)) (at-bits x r lx h) ∙ ap (f _) (at-bits y r ly h))
+
+-- a product of two wrapped numbers, added
+pub wrap-product : (s x y : ℤ) → wrap (s +ℤ (wrap x *ℤ wrap y)) ≡ wrap (s +ℤ (x *ℤ y))
+wrap-product s x y =
+    sym (int_wrap-add_right w64 s (wrap x *ℤ wrap y))
+    ∙ ap (λ v. wrap (s +ℤ v)) (int_wrap-mul_left w64 x (wrap y) ∙ int_wrap-mul_right w64 x y)
+    ∙ int_wrap-add_right w64 s (x *ℤ y)

@@ -1,0 +1,17 @@
+pub use Rattle.tensor_shape.specs.Legal
+pub use Rattle.tensor_shape.specs.Wrap
+pub mod Cells
+pub mod Chunks
+pub mod Contracting
+pub mod Dots
+pub mod Halves
+pub mod Pairs
+pub mod Panels
+pub mod Products
+pub mod Rows
+pub mod SlidDots
+pub mod SlidRuns
+pub mod StripDots
+pub mod Strips
+pub mod Tiling
+pub mod Values

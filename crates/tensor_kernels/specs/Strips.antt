@@ -1,0 +1,13 @@
+-- Operands whose rows lie side by side.
+use Rattle.std.specs.Prelude.{ℕ, ℤ, ◌+◌, length, slice_index}
+use Rattle.std.specs.Cow.{cow_slice_items}
+use Rattle.tensor_kernels.specs.Values.{value_in}
+use Rattle.tensor_kernels.specs.declared.strips.Strips.{Strips}
+
+-- how many rows there are
+abbrev pub strip_count : Strips → ℕ
+strip_count s = length s.starts.items
+
+-- value q of row x
+abbrev pub strip_value : Strips → ℕ → ℕ → ℤ
+strip_value s x q = value_in (cow_slice_items s.values) (slice_index s.starts.items x + q)

@@ -1,0 +1,134 @@
+//! The values of a contraction of two lists of rows, by ranges of their places.
+
+ghost use Rattle.std.specs.Prelude.{◌≡◌, ◌<◌, ◌≤◌, ◌+◌, ◌*◌, ◌-◌, ℕ, length, map, IfOk, OnOk};
+ghost use Rattle.std.specs.List.{range_with_len};
+ghost use Rattle.tensor_kernels.specs.Values.{value_in};
+ghost use Rattle.tensor_kernels.specs.Products.{rows_dot};
+ghost use Rattle.tensor_kernels.specs.Rows.{row_count, row_length, row_value, dot_at};
+ghost use Rattle.tensor_kernels.specs.SlidRuns.{slid_count, slid_length, slid_value};
+ghost use Rattle.tensor_kernels.specs.Strips.{strip_count, strip_value};
+
+use crate::dots::Dots;
+use crate::rows::Rows;
+use crate::slid_dots::SlidDots;
+use crate::slid_runs::SlidRuns;
+use crate::strip_dots::StripDots;
+use crate::strips::Strips;
+use crate::tiling::Tiled;
+use std::alloc::{AllocError, Allocator, Global};
+
+/// From so many rows of the second operand on tiles are used, of which fewer would leave columns
+/// empty.
+const TILE: usize = 4;
+
+/// A contraction made ready to be evaluated by ranges of places. It is made once; all who work on
+/// ranges of it share it.
+pub enum Contraction<'a> {
+    /// By tiles of four rows by four columns.
+    InTiles(Tiled<'a>),
+    /// Row by row, where an operand has few rows.
+    InDots(Dots<'a>),
+    /// Value by value, where an operand has few rows and those of both lie side by side.
+    InStrips(StripDots<'a>),
+    /// A convolution, run by run.
+    InRuns(SlidDots<'a>),
+}
+
+// Said once, where a derived drop is unfolded wherever one may be dropped.
+impl Drop for Contraction<'_> {
+    fn drop(self) {
+        match self {
+            Contraction::InTiles(_)
+            | Contraction::InDots(_)
+            | Contraction::InStrips(_)
+            | Contraction::InRuns(_) => {}
+        }
+    }
+}
+
+impl<'a> Contraction<'a> {
+    ghost use Rattle.tensor_kernels.specs.Contracting.{contraction_count, contraction_value};
+
+    /// The contraction of two operands as rows. Where the first has more than one row and the second
+    /// four or more, the first is packed: a cell for each value, of 4 bytes where all values of both
+    /// fit them, else of 8, up to a multiple of four rows, and for cells of 8 bytes a number for each
+    /// of these and each chunk of 512 products.
+    pub fn of_rows(
+        alloc: Global,
+        first: Rows<'a>,
+        second: Rows<'a>,
+    ) -> Result<Contraction<'a>, AllocError>
+        requires lengths { row_length first ≡ row_length second }
+        ensures count { IfOk result (λ c. contraction_count c
+            ≡ row_count second.entry * row_count first.entry) }
+        ensures each { IfOk result (λ c. (p : ℕ) → p < contraction_count c
+            → contraction_value c p ≡ dot_at first.entry second.entry p) }
+    {
+        if second.starts.len() < TILE {
+            return Ok(Contraction::InDots(Dots::of(first, second)));
+        }
+        if first.starts.len() == 1 {
+            return Ok(Contraction::InDots(Dots::of(second, first)));
+        }
+        Ok(Contraction::InTiles(Tiled::of(alloc, first, second)?))
+    }
+
+    /// The contraction of two operands whose rows lie side by side, value by value.
+    pub fn of_strips(first: Strips<'a>, second: Strips<'a>) -> Contraction<'a>
+        requires { first.width ≡ second.width }
+        ensures count { contraction_count result
+            ≡ strip_count second.entry * strip_count first.entry }
+        ensures value { (p : ℕ) → contraction_value result p
+            ≡ rows_dot (strip_count first.entry) first.entry.width (strip_value first.entry)
+            (strip_value second.entry) p }
+    {
+        Contraction::InStrips(StripDots::of(first, second))
+    }
+
+    /// The convolution of an operand as runs with a kernel of one row.
+    pub fn of_runs(runs: SlidRuns<'a>, kernel: Rows<'a>) -> Contraction<'a>
+        requires one { row_count kernel ≡ 1 }
+        requires lengths { slid_length runs ≡ row_length kernel }
+        ensures count { contraction_count result ≡ slid_count runs.entry }
+        ensures value { (p : ℕ) → contraction_value result p
+            ≡ rows_dot (slid_count runs.entry) (slid_length runs.entry) (slid_value runs.entry)
+            (row_value kernel.entry) p }
+    {
+        Contraction::InRuns(SlidDots::of(runs, kernel))
+    }
+
+    /// The values at the places from the first to before the last of the result, in order. Where
+    /// the first operand was packed, four rows of the second are too, chunk by chunk: that takes at
+    /// most 512 cells for each.
+    pub fn values<A: Allocator>(
+        &self,
+        alloc: A,
+        first: usize,
+        last: usize,
+    ) -> Result<Vec<i64, A>, AllocError>
+        requires order { first ≤ last }
+        requires within { last ≤ contraction_count self.now }
+        ensures { IfOk result (λ v. v.items
+            ≡ map (contraction_value self.now) (range_with_len first (last - first))) }
+    {
+        let mut values = vec![in alloc; 0i64; last - first]?;
+        self.fill(first, &mut values)?;
+        Ok(values)
+    }
+
+    /// Writes the values from a place of the result on.
+    fn fill(&self, first: usize, out: &mut [i64]) -> Result<(), AllocError>
+        requires { first + length out.old ≤ contraction_count self.now }
+        ensures len { length out.new ≡ length out.old }
+        ensures each { OnOk result ((k : ℕ) → k < length out.old
+            → value_in out.new k ≡ contraction_value self.now (first + k)) }
+    {
+        match self {
+            Contraction::InTiles(tiled) => tiled.fill(first, out)?,
+            Contraction::InDots(dots) => dots.fill(first, out),
+            Contraction::InStrips(dots) => dots.fill(first, out),
+            Contraction::InRuns(dots) => dots.fill(first, out),
+        }
+        Ok(())
+    }
+}

@@ -1,0 +1,62 @@
+//! Contractions row by row: for operands with few rows, which tiles would hold zeros for.
+
+ghost use Rattle.std.specs.Prelude.{◌≡◌, ℕ, ◌*◌, ◌+◌, ◌<◌, ◌≤◌, length};
+ghost use Rattle.tensor_kernels.specs.Values.{value_in};
+ghost use Rattle.tensor_kernels.specs.Rows.{row_count, row_length, dot_at};
+
+use crate::row_sums::row_sums;
+use crate::rows::Rows;
+
+/// Two operands whose rows have equally many values.
+#[derive(Drop)]
+pub struct Dots<'a> {
+    first: Rows<'a>,
+    second: Rows<'a>,
+    ghost lengths: { row_length first ≡ row_length second },
+}
+
+impl<'a> Dots<'a> {
+    ghost use Rattle.tensor_kernels.specs.Dots.{dots_count, dots_value};
+
+    /// The contraction of two operands, row by row.
+    pub(crate) fn of(first: Rows<'a>, second: Rows<'a>) -> Dots<'a>
+        requires { row_length first ≡ row_length second }
+        ensures count { dots_count result ≡ row_count second.entry * row_count first.entry }
+        ensures value { (p : ℕ) → dots_value result p ≡ dot_at first.entry second.entry p }
+    {
+        Dots { first, second }
+    }
+
+    /// Writes the values from a place of the result on, column by column.
+    pub(crate) fn fill(&self, first: usize, out: &mut [i64])
+        requires { first + length out.old ≤ dots_count self.now }
+        ensures len { length out.new ≡ length out.old }
+        ensures each { (k : ℕ) → k < length out.old
+            → value_in out.new k ≡ dots_value self.now (first + k) }
+    {
+        let rows = self.first.starts.len();
+        let last = first + out.len();
+        let mut place = first;
+        while place < last {
+            let (x, y) = (place % rows, place / rows);
+            let count = (rows - x).min(last - place);
+            self.fill_column(x, y, &mut out[place - first..place - first + count]);
+            place += count;
+        }
+    }
+
+    /// Writes values of column y, from row x on.
+    fn fill_column(&self, x: usize, y: usize, out: &mut [i64])
+        requires x { x + length out.old ≤ row_count self.now.first }
+        requires y { y < row_count self.now.second }
+        ensures len { length out.new ≡ length out.old }
+        ensures each { (k : ℕ) → k < length out.old → value_in out.new k
+            ≡ dots_value self.now (y * row_count self.now.first + (x + k)) }
+    {
+        let (first, second) = (&self.first, &self.second);
+        let (a, b) = (first.values.as_slice(), second.values.as_slice());
+        let starts = &first.starts.as_slice()[x..x + out.len()];
+        let start = second.starts.as_slice()[y];
+        row_sums(a, starts, &first.offsets, b, start, &second.offsets, out);
+    }
+}

@@ -1,0 +1,111 @@
+//! A chunk of the products of a contraction: the first operand in panels of four rows, and beside
+//! them one panel of the second.
+
+ghost use Rattle.std.specs.Prelude.{◌≡◌, ℕ, ◌*◌, ◌+◌, ◌/◌, ◌%◌, ◌<◌, ◌≤◌, ◌^◌, length};
+ghost use Rattle.std.specs.Prelude.{IfOk, IsTrue, OnOk};
+ghost use Rattle.tensor_shape.specs.Wrap.{wrap};
+ghost use Rattle.tensor_kernels.specs.Panels.{AreCells, AreInside, AreSmall, rows_product};
+ghost use Rattle.tensor_kernels.specs.Values.{value_in};
+
+use crate::columns::Columns;
+use crate::packing::packed;
+use crate::pair_sums::Paired;
+use crate::small::small_tile;
+use crate::tile::wide_tile;
+use std::alloc::{AllocError, Global};
+
+/// The first operand's panels of a chunk, in cells of 64 bits or, where all values of both operands
+/// fit them, of 32.
+#[derive(Drop)]
+pub(crate) enum Panels {
+    Wide(Paired),
+    Small(Vec<i32>),
+}
+
+impl Panels {
+    ghost use Rattle.tensor_kernels.specs.Cells.{first_cells, second_cells, is_small};
+    ghost use Rattle.tensor_kernels.specs.Cells.{AreReady, IsReadyFor, HoldsRows};
+
+    /// The rows of an operand, packed. Takes a cell for each value, up to whole panels, and four
+    /// sums a panel where cells are of 64 bits.
+    pub(crate) fn of(
+        alloc: Global,
+        small: bool,
+        values: &[i64],
+        rows: &[usize],
+        offsets: &[usize],
+    ) -> Result<Panels, AllocError>
+        requires inside { AreInside values.now rows.now offsets.now }
+        requires small { IsTrue small → AreSmall values.now }
+        requires few { (length rows.now + 3) / 4 * (length offsets.now * 4) < 2 ^ 60 }
+        ensures small { IfOk result (λ panels. is_small panels ≡ small) }
+        ensures rows { IfOk result (λ panels.
+            HoldsRows (first_cells panels) values.now rows.now offsets.now) }
+        ensures ready { IfOk result
+            (AreReady ((length rows.now + 3) / 4) (length offsets.now)) }
+    {
+        if small {
+            let cells = packed::<i32>(alloc, values, rows, offsets)?;
+            Ok(Panels::Small(cells))
+        } else {
+            let paired = Paired::of(alloc, values, rows, offsets)?;
+            Ok(Panels::Wide(paired))
+        }
+    }
+
+    /// Packs the first four rows of the second operand, in cells as wide as these. Takes a cell for
+    /// each value, as far as the room isn't there.
+    pub(crate) fn pack(
+        &self,
+        columns: &mut Columns,
+        values: &[i64],
+        rows: &[usize],
+        offsets: &[usize],
+    ) -> Result<(), AllocError>
+        requires inside { AreInside values.now rows.now offsets.now }
+        requires small { IsTrue (is_small self.now) → AreSmall values.now }
+        requires some { 0 < length rows.now }
+        ensures len { OnOk result
+            (length (second_cells self.now columns.new) ≡ length offsets.now * 4) }
+        ensures cells { OnOk result
+            (AreCells (second_cells self.now columns.new) values.now rows.now offsets.now) }
+        ensures ready { OnOk result (IsReadyFor self.now (length offsets.now) columns.new) }
+    {
+        match self {
+            Panels::Wide(_) => columns.pack_wide(values, rows, offsets),
+            Panels::Small(_) => columns.pack_small(values, rows, offsets),
+        }
+    }
+
+    /// The sums of the n products of each row of panel s of the first operand and each row of a
+    /// panel of the second, modulo 2^64, in columns of four.
+    pub(crate) fn tile(&self, s: usize, columns: &Columns, n: usize) -> [i64; 16]
+        requires ready { AreReady (s + 1) n self.now }
+        requires other { IsReadyFor self.now n columns.now }
+        requires first { (s + 1) * (n * 4) ≤ length (first_cells self.now) }
+        requires second { n * 4 ≤ length (second_cells self.now columns.now) }
+        ensures len { length result ≡ 16 }
+        ensures each { (t : ℕ) → t < 16 → value_in result t ≡ wrap (rows_product
+            (first_cells self.now) (second_cells self.now columns.now) n (s * 4 + t % 4) (t / 4)) }
+    {
+        match self {
+            Panels::Wide(a) => {
+                let rows = &a.cells[s * (n * 4)..];
+                wide_tile(rows, &a.sums[s], &columns.wide, &columns.sums, n)
+            }
+            Panels::Small(a) => small_tile(&a[s * (n * 4)..], &columns.small, n),
+        }
+    }
+}
+
+/// Whether all values fit 32 bits.
+pub(crate) fn are_small(values: &[i64]) -> bool
+    ensures { IsTrue result → AreSmall values.now }
+{
+    for value in values {
+        if *value < -2147483648 || *value > 2147483647 {
+            return false;
+        }
+    }
+    true
+}

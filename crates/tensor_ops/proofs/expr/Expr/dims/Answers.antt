@@ -1,8 +1,0 @@
-use Rattle.tensor_ops.specs.Tree.{term_of}
-use Rattle.tensor_ops.proofs.Ranks.{shape_of-within}
-use Rattle.tensor_ops.proofs.expr.Expr.dims.Goals as goal
-
-pub returns-clause-shape : goal.returns-clause-shape
-returns-clause-shape c =
-    shape_of-within c.rank_limit.result (rw c.rank_limit.ensures.value c.rank_limit.ensures.limit)
-    (term_of c.args.self.now) c.args.inputs.now.tensors c.dims_within.result c.dims_within.ensures

@@ -1,0 +1,25 @@
+-- Reductions: all values along the dropped axes, combined one after the other from a unit.
+use Rattle.std.specs.Prelude.{ℕ, ℤ, List, [], ◌∷◌, length, map}
+use Rattle.std.specs.Prelude.{nat_lt, Bool, true, not, ◌&&◌, Ok, Err, if◌then◌else◌}
+use Rattle.tensor_walks.specs.Combining.{combination}
+use Rattle.tensor_terms.specs.Movement.{is_among}
+use Rattle.tensor_terms.specs.Shaped.{Shaped}
+use Rattle.tensor_terms.specs.Woven.{among, dims_at, other_dims, woven, index_lists}
+use Rattle.tensor_terms.specs.declared.fault.ExprFault.TheVariants.{OutOfRange}
+use Rattle.tensor_walks.specs.declared.reducer.Reducer.{Reducer}
+
+-- whether all of these axes are below the rank, and none stands twice
+abbrev pub are_axes : ℕ → List ℕ → Bool
+are_axes rank [] = true
+are_axes rank (x ∷ xs) = nat_lt x rank && (not (is_among x xs) && are_axes rank xs)
+
+-- the result dims of a reduction over axes, or its own fault
+abbrev pub reduced_dims : List ℕ → List ℕ → Shaped
+reduced_dims axes ds = if are_axes (length ds) axes then Ok (other_dims axes ds) else Err OutOfRange
+
+-- the value of a reduction at an index list: the combination of the operand's over all index lists
+-- of the dropped axes, in order of their places
+abbrev pub reduced : Reducer → List ℕ → List ℕ → (List ℕ → ℤ) → List ℕ → ℤ
+reduced r axes ds a is =
+    combination r (map (λ js. a (woven (among axes (length ds)) ds js is))
+    (index_lists (dims_at (among axes (length ds)) ds)))

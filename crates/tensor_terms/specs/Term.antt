@@ -1,0 +1,58 @@
+-- Expressions as terms: a constructor an arity, and the arguments inside the operation.
+use Rattle.std.specs.Prelude.{ℕ, ◌+◌, ℤ, List, Bool, nat_lt, ◌&&◌}
+use Rattle.tensor_walks.specs.declared.operations.UnaryScalar.{UnaryScalar}
+use Rattle.tensor_walks.specs.declared.operations.BinaryScalar.{BinaryScalar}
+use Rattle.tensor_walks.specs.declared.reducer.Reducer.{Reducer}
+
+-- the operations whose value at an index list is the operand's at another one, with their arguments
+pub data Movement : Type 0 where
+  broadcast : List ℕ → Movement
+  slice : List ℕ → List ℕ → Movement
+  shuffle : List ℕ → Movement
+  reshape : List ℕ → Movement
+  chip : ℕ → ℕ → Movement
+  reverse : List Bool → Movement
+  stride : List ℕ → Movement
+
+-- the operations on one tensor: on each value, one value everywhere, a movement, zeroes round it,
+-- or a reduction over axes
+pub data Unary : Type 0 where
+  each : UnaryScalar → Unary
+  constant : ℤ → Unary
+  movement : Movement → Unary
+  pad : List (ℕ × ℕ) → Unary
+  reduce : Reducer → List ℕ → Unary
+
+-- the operations on two tensors: on each pair of values, one behind the other along an axis, a
+-- contraction over pairs of axes, or a convolution along axes
+pub data Binary : Type 0 where
+  pairwise : BinaryScalar → Binary
+  concat : ℕ → Binary
+  contract : List (ℕ × ℕ) → Binary
+  convolve : List ℕ → Binary
+
+-- the operations on three tensors
+pub data Ternary : Type 0 where
+  select : Ternary
+
+-- an expression, without where it lies in memory
+pub data Term : Type 0 where
+  input : ℕ → Term
+  unary : Unary → Term → Term
+  binary : Binary → Term → Term → Term
+  ternary : Ternary → Term → Term → Term → Term
+
+-- each input has a number below that of the inputs
+abbrev pub has_inputs : Term → ℕ → Bool
+has_inputs (input n) count = nat_lt n count
+has_inputs (unary o a) count = has_inputs a count
+has_inputs (binary o a b) count = has_inputs a count && has_inputs b count
+has_inputs (ternary o a b c) count =
+    has_inputs a count && (has_inputs b count && has_inputs c count)
+
+-- how many nodes a term has
+abbrev pub nodes_of : Term → ℕ
+nodes_of (input n) = 1
+nodes_of (unary o a) = 1 + nodes_of a
+nodes_of (binary o a b) = 1 + nodes_of a + nodes_of b
+nodes_of (ternary o a b c) = 1 + nodes_of a + nodes_of b + nodes_of c

@@ -1,0 +1,258 @@
+//! The value of an expression at one place.
+
+ghost use Rattle.std.specs.Prelude.{◌≡◌, ◌<◌, List, ℕ, length, IsTrue, IsOk};
+ghost use Rattle.tensor_shape.specs.Legal.{highest_rank};
+ghost use Rattle.tensor_shape.specs.Index.{size_of, IsIndexOf, place};
+ghost use Rattle.tensor_terms.specs.Term.{has_inputs, unary, pad, reduce, binary};
+ghost use Rattle.tensor_terms.specs.Term.{concat, contract, convolve};
+ghost use Rattle.tensor_terms.specs.Tree.{term_of};
+ghost use Rattle.tensor_terms.specs.Result.{dims_of, shape_of};
+ghost use Rattle.tensor_terms.specs.Value.{value, value_of_place};
+
+use crate::contraction_dims::paired_axes;
+use crate::convolution_dims::convolved_dims;
+use crate::expr::Expr;
+use crate::index_parts::{all_among, dims_at, other_dims, woven_place};
+use crate::inputs::Inputs;
+use crate::moved_index::moved_place;
+use crate::node::{Binary, Node, Ternary, Unary};
+use crate::result_dims::dims_within;
+use crate::sliding::slid_place;
+use crate::spliced_index::{padded_place, turns_along};
+use tensor_shape::{Dims, MAX_RANK, PerAxis};
+use tensor_walks::{BinaryScalar, Reducer, applied, combined, is_true};
+
+/// An expression that has result dims, over its inputs. It gives one value at a time and takes no
+/// memory.
+#[derive(Drop)]
+pub struct Cursor<'a> {
+    expr: &'a Expr,
+    inputs: &'a Inputs,
+    ghost has_inputs: { IsTrue (has_inputs (term_of expr.now) (length inputs.now.tensors)) },
+    ghost has_dims: { IsOk (dims_of highest_rank (term_of expr.now) inputs.now.tensors) },
+}
+
+impl<'a> Cursor<'a> {
+    ghost use Rattle.tensor_terms.specs.Cursor.{term_under, inputs_under};
+
+    /// A cursor over an expression.
+    pub fn of(expr: &'a Expr, inputs: &'a Inputs) -> Cursor<'a>
+        requires inputs { IsTrue (has_inputs (term_of expr.now) (length inputs.now.tensors)) }
+        requires dims { IsOk (dims_of inputs.now.rank (term_of expr.now) inputs.now.tensors) }
+        ensures term { term_under result ≡ term_of expr.now }
+        ensures inputs { inputs_under result ≡ inputs.now.tensors }
+    {
+        // Says that the limit is a rank that dims can have.
+        let _limit = inputs.rank_limit();
+        Cursor { expr, inputs }
+    }
+
+    /// The value at a place of the result, which is that at the index list of the place.
+    pub fn value(&self, linear: u64) -> i64
+        requires { linear < size_of (shape_of (term_under self.now) (inputs_under self.now)) }
+        ensures { (index : List ℕ)
+            → IsIndexOf (shape_of (term_under self.now) (inputs_under self.now)) index
+            → place (shape_of (term_under self.now) (inputs_under self.now)) index ≡ linear
+            → result ≡ value (term_under self.now) (inputs_under self.now) index }
+    {
+        value_at(self.expr, self.inputs, linear)
+    }
+}
+
+/// The value at a place, down the tree.
+#[cycle(value)]
+fn value_at(expr: &Expr, inputs: &Inputs, place: u64) -> i64
+    requires inputs { IsTrue (has_inputs (term_of expr.now) (length inputs.now.tensors)) }
+    requires dims { IsOk (dims_of highest_rank (term_of expr.now) inputs.now.tensors) }
+    requires below { place < size_of (shape_of (term_of expr.now) inputs.now.tensors) }
+    ensures { result ≡ value_of_place (term_of expr.now) inputs.now.tensors place }
+{
+    match expr.node() {
+        Node::Input(number) => inputs.get(number).values()[place as usize],
+        Node::Unary(Unary::Each(operation), a) => applied(operation, value_at(a, inputs, place)),
+        Node::Unary(Unary::Constant(value), _) => value,
+        Node::Unary(Unary::Move(movement), a) => {
+            let read = moved_place(movement, &known_dims(a, inputs), place);
+            value_at(a, inputs, read)
+        }
+        Node::Unary(Unary::Reduce(reducer, axes), a) => {
+            reduced_at(reducer, axes, a, inputs, place)
+        }
+        Node::Binary(Binary::Pairwise(operation), a, b) => {
+            let first = value_at(a, inputs, place);
+            let second = value_at(b, inputs, place);
+            combined(operation, first, second)
+        }
+        Node::Unary(Unary::Pad(pairs), a) => padded_at(pairs, a, inputs, place),
+        Node::Binary(Binary::Concat(axis), a, b) => concatenated_at(axis, a, b, inputs, place),
+        Node::Binary(Binary::Contract(pairs), a, b) => contracted_at(pairs, a, b, inputs, place),
+        Node::Binary(Binary::Convolve(axes), a, b) => convolved_at(axes, a, b, inputs, place),
+        Node::Ternary(Ternary::Select, c, a, b) => {
+            if is_true(value_at(c, inputs, place)) {
+                value_at(a, inputs, place)
+            } else {
+                value_at(b, inputs, place)
+            }
+        }
+    }
+}
+
+/// The value of a reduction at a place: those of its operand along the dropped axes, combined.
+#[cycle(value)]
+fn reduced_at(reducer: Reducer, axes: &[u64], a: &Expr, inputs: &Inputs, place: u64) -> i64
+    requires inputs { IsTrue (has_inputs (term_of a.now) (length inputs.now.tensors)) }
+    requires dims { IsOk (dims_of highest_rank (unary (reduce reducer axes.now) (term_of a.now))
+        inputs.now.tensors) }
+    requires below { place
+        < size_of (shape_of (unary (reduce reducer axes.now) (term_of a.now)) inputs.now.tensors) }
+    ensures { result
+        ≡ value_of_place (unary (reduce reducer axes.now) (term_of a.now)) inputs.now.tensors place }
+{
+    let dims = known_dims(a, inputs);
+    let dropped = all_among(axes, dims.rank());
+    let count = dims_at(dropped.as_slice(), &dims).size();
+    let mut value = reducer.unit();
+    for inner in 0..count {
+        let read = woven_place(dropped.as_slice(), &dims, inner, place);
+        value = reducer.combine(value, value_at(a, inputs, read));
+    }
+    value
+}
+
+/// The value of a contraction at a place: the products along the paired axes, added up.
+#[cycle(value)]
+fn contracted_at(pairs: &[(u64, u64)], a: &Expr, b: &Expr, inputs: &Inputs, place: u64) -> i64
+    requires inputs_a { IsTrue (has_inputs (term_of a.now) (length inputs.now.tensors)) }
+    requires inputs_b { IsTrue (has_inputs (term_of b.now) (length inputs.now.tensors)) }
+    requires dims { IsOk (dims_of highest_rank (binary (contract pairs.now) (term_of a.now) (term_of b.now))
+        inputs.now.tensors) }
+    requires below { place < size_of (shape_of
+        (binary (contract pairs.now) (term_of a.now) (term_of b.now)) inputs.now.tensors) }
+    ensures { result ≡ value_of_place
+        (binary (contract pairs.now) (term_of a.now) (term_of b.now)) inputs.now.tensors place }
+{
+    let pairing = Pairing::of(pairs, a, b, inputs);
+    let firsts = pairing.firsts.as_slice();
+    let seconds = pairing.seconds.as_slice();
+    let mut value = 0;
+    for inner in 0..pairing.count {
+        let left = woven_place(firsts, &pairing.first, inner, place % pairing.outer);
+        let right = woven_place(seconds, &pairing.second, inner, place / pairing.outer);
+        let x = value_at(a, inputs, left);
+        let y = value_at(b, inputs, right);
+        value = combined(BinaryScalar::Add, value, combined(BinaryScalar::Mul, x, y));
+    }
+    value
+}
+
+/// The value of a pad at a place: its operand's, or 0 outside of that.
+#[cycle(value)]
+fn padded_at(pairs: &[(u64, u64)], a: &Expr, inputs: &Inputs, place: u64) -> i64
+    requires inputs { IsTrue (has_inputs (term_of a.now) (length inputs.now.tensors)) }
+    requires dims { IsOk (dims_of highest_rank (unary (pad pairs.now) (term_of a.now))
+        inputs.now.tensors) }
+    requires below { place
+        < size_of (shape_of (unary (pad pairs.now) (term_of a.now)) inputs.now.tensors) }
+    ensures { result
+        ≡ value_of_place (unary (pad pairs.now) (term_of a.now)) inputs.now.tensors place }
+{
+    match padded_place(pairs, &known_dims(a, inputs), place) {
+        Some(read) => value_at(a, inputs, read),
+        None => 0,
+    }
+}
+
+/// The value of a concatenation at a place: the first operand's, or past its part the second's.
+#[cycle(value)]
+fn concatenated_at(axis: u64, a: &Expr, b: &Expr, inputs: &Inputs, place: u64) -> i64
+    requires inputs_a { IsTrue (has_inputs (term_of a.now) (length inputs.now.tensors)) }
+    requires inputs_b { IsTrue (has_inputs (term_of b.now) (length inputs.now.tensors)) }
+    requires dims { IsOk (dims_of highest_rank
+        (binary (concat axis) (term_of a.now) (term_of b.now)) inputs.now.tensors) }
+    requires below { place < size_of (shape_of
+        (binary (concat axis) (term_of a.now) (term_of b.now)) inputs.now.tensors) }
+    ensures { result ≡ value_of_place
+        (binary (concat axis) (term_of a.now) (term_of b.now)) inputs.now.tensors place }
+{
+    let turns = turns_along(axis, &known_dims(a, inputs), &known_dims(b, inputs));
+    let place = place as usize;
+    if turns.is_of_first(place) {
+        value_at(a, inputs, turns.firsts_before(place) as u64)
+    } else {
+        value_at(b, inputs, turns.seconds_before(place) as u64)
+    }
+}
+
+/// The value of a convolution at a place: the products along the kernel's places, added up.
+#[cycle(value)]
+fn convolved_at(axes: &[u64], a: &Expr, b: &Expr, inputs: &Inputs, place: u64) -> i64
+    requires inputs_a { IsTrue (has_inputs (term_of a.now) (length inputs.now.tensors)) }
+    requires inputs_b { IsTrue (has_inputs (term_of b.now) (length inputs.now.tensors)) }
+    requires dims { IsOk (dims_of highest_rank
+        (binary (convolve axes.now) (term_of a.now) (term_of b.now)) inputs.now.tensors) }
+    requires below { place < size_of (shape_of
+        (binary (convolve axes.now) (term_of a.now) (term_of b.now)) inputs.now.tensors) }
+    ensures { result ≡ value_of_place
+        (binary (convolve axes.now) (term_of a.now) (term_of b.now)) inputs.now.tensors place }
+{
+    let dims = known_dims(a, inputs);
+    let kernel = known_dims(b, inputs);
+    let slid = convolved_dims(axes, &dims, &kernel).unwrap();
+    let mut value = 0;
+    for inner in 0..kernel.size() {
+        let read = slid_place(axes, &dims, &kernel, &slid, inner, place);
+        let x = value_at(a, inputs, read);
+        let y = value_at(b, inputs, inner);
+        value = combined(BinaryScalar::Add, value, combined(BinaryScalar::Mul, x, y));
+    }
+    value
+}
+
+/// What a contraction adds up over: both operands' dims and their paired axes.
+#[derive(Drop)]
+struct Pairing {
+    first: Dims,
+    second: Dims,
+    firsts: PerAxis,
+    seconds: PerAxis,
+    /// How many index lists there are along the paired axes.
+    count: u64,
+    /// How many there are along the first operand's others.
+    outer: u64,
+}
+
+impl Pairing {
+    ghost use Rattle.tensor_terms.specs.Pairing.{IsPairing};
+
+    /// Of a contraction that has result dims.
+    fn of(pairs: &[(u64, u64)], a: &Expr, b: &Expr, inputs: &Inputs) -> Pairing
+        requires inputs_a { IsTrue (has_inputs (term_of a.now) (length inputs.now.tensors)) }
+        requires inputs_b { IsTrue (has_inputs (term_of b.now) (length inputs.now.tensors)) }
+        requires dims { IsOk (dims_of highest_rank
+            (binary (contract pairs.now) (term_of a.now) (term_of b.now)) inputs.now.tensors) }
+        ensures { IsPairing inputs.now.tensors pairs.now (term_of a.now) (term_of b.now) result }
+    {
+        let first = known_dims(a, inputs);
+        let second = known_dims(b, inputs);
+        let (firsts, seconds) = paired_axes(pairs, &first).unwrap();
+        let count = dims_at(firsts.as_slice(), &first).size();
+        let outer = other_dims(firsts.as_slice(), &first).size();
+        Pairing {
+            first,
+            second,
+            firsts,
+            seconds,
+            count,
+            outer,
+        }
+    }
+}
+
+/// The dims of an expression that has some.
+fn known_dims(expr: &Expr, inputs: &Inputs) -> Dims
+    requires inputs { IsTrue (has_inputs (term_of expr.now) (length inputs.now.tensors)) }
+    requires dims { IsOk (dims_of highest_rank (term_of expr.now) inputs.now.tensors) }
+    ensures { result ≡ shape_of (term_of expr.now) inputs.now.tensors }
+{
+    dims_within(MAX_RANK, expr, inputs).unwrap()
+}

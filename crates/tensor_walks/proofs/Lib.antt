@@ -1,0 +1,12 @@
+pub mod Apart
+pub mod Chains
+pub mod CombinedRows
+pub mod Folding
+pub mod InTurns
+pub mod Joints
+pub mod Mapped
+pub mod Parting
+pub mod RunValues
+pub mod Soundness
+pub mod SplicedParts
+pub mod Walks

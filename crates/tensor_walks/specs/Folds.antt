@@ -1,0 +1,32 @@
+-- Values that are combined one after the other, and where they lie.
+use Rattle.std.specs.Prelude.{◌≡◌, ℕ, ℤ, ◌+◌, ◌*◌, ◌/◌, ◌%◌, ◌<◌}
+use Rattle.std.specs.Prelude.{List, length, map}
+use Rattle.std.specs.Prelude.{slice_index}
+use Rattle.std.specs.List.{fold, range_with_len}
+use Rattle.tensor_kernels.specs.Values.{value_in}
+use Rattle.tensor_walks.specs.Combining.{combine, unit}
+use Rattle.tensor_walks.specs.declared.reducer.Reducer.{Reducer}
+
+-- a value, and the first n of others combined with it, one after the other
+abbrev pub folded : Reducer → ℤ → (ℕ → ℤ) → ℕ → ℤ
+folded r x others n = fold (combine r) x (map others (range_with_len 0 n))
+
+-- the values of a run, combined from the unit, where runs of n values lie one after the other
+abbrev pub run_folded : Reducer → (ℕ → ℤ) → ℕ → ℕ → ℤ
+run_folded r values n run = folded r (unit r) (λ q. values (q + n * run)) n
+
+-- each value of a row is its old one, combined with the first n of others that belong to its place
+pub record IsCombined (r : Reducer) (old new : List ℤ)
+    (others : ℕ → ℕ → ℤ) (n : ℕ) : Type 0 where
+  pub len : length new ≡ length old
+  pub each : (i : ℕ) → i < length old → value_in new i ≡ folded r (value_in old i) (others i) n
+
+-- how far the q-th of the combined values lies from the first: they lie in runs of so many values,
+-- a step apart, and the first of each run at an offset
+abbrev pub offset_at : List ℕ → ℕ → ℕ → ℕ → ℕ
+offset_at offsets step run q = slice_index offsets (q / run) + q % run * step
+
+-- where the first of the values lies that are combined at a place of the result: rows of so many
+-- places begin at given places
+abbrev pub start_at : List ℕ → ℕ → ℕ → ℕ
+start_at rows width p = slice_index rows (p / width) + p % width
