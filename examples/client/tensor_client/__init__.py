@@ -1,0 +1,64 @@
+"""A client of the program: builds tensor expressions, has them answered, and gives their values.
+
+    from tensor_client import run, tensor, where
+    x = tensor([[1, 2, 3], [4, 5, 6]])
+    run(where(x < 4, x * 10, x)).nested()
+
+Python's own library is enough; where numpy is installed, tensors are made of arrays and give them.
+
+Column-major, the first axis fastest: so the values of a tensor stand in a request, in an answer
+and in `Tensor.values`. Nested lists and arrays are put into that order and taken out of it here
+(numpy's order="F"), whatever order they have themselves.
+"""
+
+from .expressions import Expr, Tensor, full, tensor, where
+from .faults import (
+    BadArgument,
+    BadArity,
+    BadBlock,
+    BadField,
+    BadTensor,
+    BadVersion,
+    BadWorkers,
+    Fault,
+    NoMemory,
+    NotJson,
+    OutOfRange,
+    ProgramFailed,
+    ReadFault,
+    ShapeMismatch,
+    TimedOut,
+    TooLarge,
+    TooLong,
+    UnknownInput,
+    UnknownOp,
+    WriteFault,
+)
+from .functions import (
+    all,
+    any,
+    clip,
+    concat,
+    concatenate,
+    contract,
+    dot,
+    einsum,
+    matmul,
+    max,
+    maximum,
+    min,
+    minimum,
+    ones,
+    prod,
+    reshape,
+    stack,
+    sum,
+    tensordot,
+    transpose,
+    zeros,
+)
+from .requests import answer, request
+from .running import Session, run
+from .values import GREATEST, LEAST
+
+__version__ = "1.0.0"

@@ -1,0 +1,159 @@
+"""The result dims of each operation, or the fault that its operands have: docs/REQUEST.md's rules,
+looked at where an expression is written. The program looks at them again."""
+
+from __future__ import annotations
+
+from typing import List, Sequence, Tuple
+
+from .faults import BadArgument, OutOfRange, ShapeMismatch, TooLarge
+
+Dims = Tuple[int, ...]
+Pairs = Sequence[Sequence[int]]
+
+MOST_ELEMENTS = 1_048_576
+MOST_PRODUCTS = 1_073_741_824
+# What version 2 of the request allows; version 1 allows less (requests.py).
+MOST_RANK = 8
+
+
+def product(numbers: Sequence[int]) -> int:
+    """The product, in which a 0 counts.
+
+    >>> product([2, 3]), product([])
+    (6, 1)
+    """
+    found = 1
+    for it in numbers:
+        found *= it
+    return found
+
+
+def legal(dims: Sequence[int]) -> Dims:
+    """Dims that a tensor may have: a 0 counts as 1 where the elements are counted."""
+    if len(dims) > MOST_RANK:
+        raise TooLarge(f"{len(dims)} axes, and there may be {MOST_RANK}")
+    if product([max(it, 1) for it in dims]) > MOST_ELEMENTS:
+        raise TooLarge(f"dims {tuple(dims)} have more than {MOST_ELEMENTS:,} places")
+    return tuple(dims)
+
+
+def sizes(numbers: Sequence[int]) -> List[int]:
+    for it in numbers:
+        if it < 0:
+            raise BadArgument(f"a size below 0: {it}")
+    return list(numbers)
+
+
+def axis_of(axis: int, rank: int) -> int:
+    """An axis by its number; a negative one counts from behind."""
+    if not -rank <= axis < rank:
+        raise OutOfRange(f"axis {axis} of {rank}")
+    return axis % rank
+
+
+def axes_of(axes: Sequence[int], rank: int) -> List[int]:
+    found = [axis_of(it, rank) for it in axes]
+    if len(set(found)) < len(found):
+        raise OutOfRange(f"an axis is named twice: {tuple(axes)}")
+    return found
+
+
+def one_each(what: str, arguments: Sequence[object], dims: Dims) -> None:
+    if len(arguments) != len(dims):
+        raise ShapeMismatch(f"{len(arguments)} {what} for the {len(dims)} axes of dims {dims}")
+
+
+def fitted(*shapes: Dims) -> Dims:
+    """The dims over which numpy repeats operands of these dims: from the last axis on, equal
+    numbers or 1.
+
+    >>> fitted((2, 1), (3,))
+    (2, 3)
+    """
+    rank = max(map(len, shapes))
+    found = []
+    for axis in range(-rank, 0):
+        here = {dims[axis] for dims in shapes if -axis <= len(dims)} - {1}
+        if len(here) > 1:
+            raise ShapeMismatch(f"dims {' and '.join(map(str, shapes))} don't fit")
+        found.append(here.pop() if here else 1)
+    return legal(found)
+
+
+def without(dims: Dims, axes: Sequence[int]) -> Dims:
+    return tuple(it for axis, it in enumerate(dims) if axis not in axes)
+
+
+def broadcast(dims: Dims, counts: Sequence[int]) -> Dims:
+    one_each("counts", counts, dims)
+    for it in counts:
+        if it < 1:
+            raise OutOfRange(f"repeated {it} times: {tuple(counts)}")
+    return legal([dim * count for dim, count in zip(dims, counts)])
+
+
+def sliced(dims: Dims, offsets: Sequence[int], extents: Sequence[int]) -> Dims:
+    one_each("offsets", offsets, dims)
+    one_each("extents", extents, dims)
+    for dim, offset, extent in zip(dims, sizes(offsets), sizes(extents)):
+        if offset + extent > dim:
+            raise OutOfRange(f"{extent} from {offset} on, of {dim}")
+    return tuple(extents)
+
+
+def shuffled(dims: Dims, order: Sequence[int]) -> Dims:
+    one_each("axes", order, dims)
+    return tuple(dims[axis] for axis in order)
+
+
+def reshaped(dims: Dims, to: Sequence[int]) -> Dims:
+    found = legal(sizes(to))
+    if product(found) != product(dims):
+        raise ShapeMismatch(f"{product(dims)} places of dims {dims} in dims {found}")
+    return found
+
+
+def chipped(dims: Dims, offset: int, axis: int) -> Dims:
+    if not 0 <= offset < dims[axis]:
+        raise OutOfRange(f"offset {offset} of {dims[axis]} along axis {axis}")
+    return without(dims, [axis])
+
+
+def strided(dims: Dims, steps: Sequence[int]) -> Dims:
+    one_each("steps", steps, dims)
+    for it in steps:
+        if it < 1:
+            raise OutOfRange(f"a step of {it}")
+    return tuple(-(-dim // step) for dim, step in zip(dims, steps))
+
+
+def padded(dims: Dims, pairs: Pairs) -> Dims:
+    one_each("pairs", pairs, dims)
+    return legal([dim + sum(sizes(pair)) for dim, pair in zip(dims, pairs)])
+
+
+def joined(left: Dims, right: Dims, axis: int) -> Dims:
+    if len(left) != len(right) or without(left, [axis]) != without(right, [axis]):
+        raise ShapeMismatch(f"dims {left} and {right} along axis {axis}")
+    return legal([*left[:axis], left[axis] + right[axis], *left[axis + 1 :]])
+
+
+def contracted(left: Dims, right: Dims, ours: Sequence[int], theirs: Sequence[int]) -> Dims:
+    for our, their in zip(ours, theirs):
+        if left[our] != right[their]:
+            raise ShapeMismatch(f"axis {our} of dims {left} with axis {their} of dims {right}")
+    return legal(without(left, ours) + without(right, theirs))
+
+
+def slid(dims: Dims, kernel: Dims, axes: Sequence[int]) -> Dims:
+    """The dims of a convolution along axes."""
+    if len(kernel) != len(axes):
+        raise ShapeMismatch(f"a kernel of dims {kernel} along {len(axes)} axes")
+    along = dict(zip(axes, kernel))
+    for axis, it in along.items():
+        if not 1 <= it <= dims[axis]:
+            raise OutOfRange(f"{it} of a kernel along axis {axis} of dims {dims}")
+    found = tuple(it - along.get(axis, 1) + 1 for axis, it in enumerate(dims))
+    if product(found) * product(kernel) > MOST_PRODUCTS:
+        raise TooLarge(f"a convolution of more than {MOST_PRODUCTS:,} products")
+    return found

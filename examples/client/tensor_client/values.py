@@ -1,0 +1,121 @@
+"""Which Python and numpy values are whole numbers of the i64 range, and how lists of them nest."""
+
+from __future__ import annotations
+
+import operator
+from typing import Any, Callable, Iterable, List, Sequence, Tuple, TypeVar
+
+try:
+    import numpy as numpy
+except ImportError:
+    numpy = None  # type: ignore[assignment]
+
+LEAST, GREATEST = -(2**63), 2**63 - 1
+LISTS = (list, tuple, range)
+
+Kind = TypeVar("Kind")
+
+
+def is_bool(value: Any) -> bool:
+    return isinstance(value, bool) or (numpy is not None and isinstance(value, numpy.bool_))
+
+
+def value_of(value: Any) -> int:
+    """A value of a tensor: a whole number of the i64 range, or a truth value, as 0 or 1.
+
+    >>> value_of(True), value_of(-5)
+    (1, -5)
+    """
+    return int(value) if is_bool(value) else whole(value)
+
+
+def whole(value: Any) -> int:
+    """A whole number of the i64 range, as an argument: no truth value, no float."""
+    if is_bool(value):
+        raise TypeError("a bool is no number here")
+    try:
+        number = operator.index(value)
+    except TypeError:
+        raise TypeError(f"no whole number: {value!r:.60}") from None
+    if not LEAST <= number <= GREATEST:
+        raise OverflowError("a whole number past the range of i64, -2**63 to 2**63 - 1")
+    return number
+
+
+def flag(value: Any) -> bool:
+    """A truth value, which a number is not."""
+    if is_bool(value):
+        return bool(value)
+    raise TypeError(f"neither True nor False: {value!r:.60}")
+
+
+def listed(items: Sequence[Any], kind: Callable[[Any], Kind]) -> List[Kind]:
+    """A list of arguments that was given as one list, or one after another.
+
+    >>> listed([2, 3], whole) == listed([(2, 3)], whole)
+    True
+    """
+    if len(items) == 1 and not isinstance(items[0], str) and hasattr(items[0], "__len__"):
+        items = items[0]
+    return [kind(it) for it in items]
+
+
+def checked(values: Iterable[Any]) -> List[int]:
+    """A list of values, each of the i64 range."""
+    found = list(values)
+    if set(map(type, found)) <= {int} and all(LEAST <= it <= GREATEST for it in found):
+        return found
+    return [value_of(it) for it in found]
+
+
+def are_bools(values: Sequence[Any]) -> bool:
+    return len(values) > 0 and all(map(is_bool, values))
+
+
+def checked_array(array: Any) -> Any:
+    """An array whose values are whole numbers of the i64 range, truth values as 0 and 1; others
+    are refused, with what to do about them."""
+    if isinstance(array, numpy.ma.MaskedArray):
+        raise TypeError("a masked array has places without a value: fill them, with .filled(..)")
+    if isinstance(array, numpy.matrix):
+        raise TypeError("numpy.matrix means other products by * and **: pass numpy.asarray(it)")
+    if array.dtype.kind == "O":
+        raise TypeError("an array of objects: pass a list of whole numbers, or .astype(int)")
+    if array.dtype.kind == "b":
+        return array.astype(numpy.int64)
+    if array.dtype.kind == "f":
+        raise TypeError(f"an array of {array.dtype}: round it, and then .astype(numpy.int64)")
+    if array.dtype.kind not in "iu":
+        raise TypeError(f"an array of {array.dtype} holds no whole numbers")
+    if array.dtype.kind == "u" and array.size:
+        whole(array.max())
+    return array
+
+
+def unnested(values: Any) -> Tuple[List[int], List[Any]]:
+    """The dims and the values, column-major, of nested lists: each round goes one axis deeper,
+    the earlier axes faster.
+
+    >>> unnested([[1, 2, 3], [4, 5, 6]])
+    ([2, 3], [1, 4, 2, 5, 3, 6])
+    """
+    dims: List[int] = []
+    level = [values]
+    while level and isinstance(level[0], LISTS):
+        lengths = {len(it) if isinstance(it, LISTS) else -1 for it in level}
+        if len(lengths) > 1:
+            raise ValueError(f"lists of different lengths at depth {len(dims)}")
+        dims += lengths
+        level = [it[index] for index in range(dims[-1]) for it in level]
+    return dims, level
+
+
+def nested(values: Sequence[int], dims: Tuple[int, ...]) -> Any:
+    """Values that stand column-major as nested lists; of no dims, the one value.
+
+    >>> nested([1, 4, 2, 5, 3, 6], (2, 3))
+    [[1, 2, 3], [4, 5, 6]]
+    """
+    if not dims:
+        return values[0]
+    return [nested(values[index :: dims[0]], dims[1:]) for index in range(dims[0])]

@@ -1,0 +1,362 @@
+"""Tests of the client on random arrays: each operation and each of numpy's ways, by the program and
+by numpy. They are skipped where numpy isn't installed."""
+
+import random
+import unittest
+
+import tensor_client as client
+from tensor_client.rules import slid
+from tensor_client import GREATEST, LEAST, concat, contract, full, tensor, where
+from test_asked import documented, method, run
+
+try:
+    import numpy
+except ImportError:
+    numpy = None
+
+TRIALS = 4
+ELEMENTWISE = {
+    "neg": lambda a: -a,
+    "abs": lambda a: numpy.abs(a),
+    "square": lambda a: a * a,
+    "not": lambda a: a == 0,
+    "add": lambda a, b: a + b,
+    "sub": lambda a, b: a - b,
+    "mul": lambda a, b: a * b,
+    "cwise_max": lambda a, b: numpy.maximum(a, b),
+    "cwise_min": lambda a, b: numpy.minimum(a, b),
+    "lt": lambda a, b: a < b,
+    "le": lambda a, b: a <= b,
+    "eq": lambda a, b: a == b,
+    "ne": lambda a, b: a != b,
+    "gt": lambda a, b: a > b,
+    "ge": lambda a, b: a >= b,
+    "and": lambda a, b: (a != 0) & (b != 0),
+    "or": lambda a, b: (a != 0) | (b != 0),
+    "select": lambda c, a, b: numpy.where(c != 0, a, b),
+}
+REDUCTIONS = {
+    "sum": lambda a, axes: a.sum(axis=axes),
+    "prod": lambda a, axes: a.prod(axis=axes),
+    "maximum": lambda a, axes: a.max(axis=axes, initial=LEAST),
+    "minimum": lambda a, axes: a.min(axis=axes, initial=GREATEST),
+    "all": lambda a, axes: (a != 0).all(axis=axes),
+    "any": lambda a, axes: (a != 0).any(axis=axes),
+}
+
+
+def convolved(array, kernel, axes):
+    """A convolution by numpy: the parts of an array that lie under each value of the kernel."""
+    total = numpy.zeros(slid(array.shape, kernel.shape, axes), dtype=numpy.int64)
+    for index in numpy.ndindex(kernel.shape):
+        part = [slice(None)] * array.ndim
+        for axis, at in zip(axes, index):
+            part[axis] = slice(at, at + total.shape[axis])
+        total = total + array[tuple(part)] * kernel[index]
+    return total
+
+
+class Random:
+    """Arrays of random dims and values, in either order of memory, the same at each run."""
+
+    def __init__(self, seed):
+        self.source = random.Random(seed)
+
+    def upto(self, most):
+        return self.source.randrange(most + 1)
+
+    def dims(self, least=0):
+        return [self.upto(3) + least for _ in range(self.upto(4))]
+
+    def array(self, dims):
+        near = [-2, -1, 0, 0, 1, 2, LEAST, GREATEST]
+        count = int(numpy.prod(dims, dtype=int))
+        values = [
+            self.source.choice([self.source.randrange(LEAST, GREATEST + 1), *near])
+            for _ in range(count)
+        ]
+        return numpy.array(values, dtype=numpy.int64).reshape(dims, order="CF"[self.upto(1)])
+
+    def some(self, count):
+        """A list of some of so many axes, in any order."""
+        return self.source.sample(range(count), self.upto(count))
+
+    def index(self, dim):
+        """A number or a slice, of either sign, for an axis of so many places."""
+        if self.upto(2) == 0:
+            return self.source.randrange(-dim, dim)
+        ends = [self.source.choice([None, self.source.randrange(-dim - 1, dim + 2)]) for _ in "ab"]
+        return slice(*ends, self.source.choice([None, 1, 2, 3, -1, -2]))
+
+    def indices(self, dims):
+        """Indices of several forms, for dims."""
+        full = tuple(map(self.index, dims))
+        yield full
+        yield full[0]
+        yield full[:1]
+        yield (..., full[-1])
+        yield (full[0], ..., None, full[-1])
+        yield (None, *full[:2])
+
+    def request(self):
+        return {"workers": 1 + self.upto(3), "block": 1 + self.upto(8)}
+
+
+@unittest.skipIf(numpy is None, "numpy isn't installed")
+class AgainstNumpy(unittest.TestCase):
+    """Each operation on random arrays, by the program and by numpy."""
+
+    def agree(self, expr, wanted, source):
+        found = run(expr, **source.request())
+        self.assertEqual(found.dims, expr.dims)
+        self.assertEqual(found.dims, wanted.shape)
+        numpy.testing.assert_array_equal(found.array(), wanted.astype(numpy.int64))
+
+    def each_trial(self, operation):
+        for trial in range(TRIALS):
+            with self.subTest(operation=operation, trial=trial):
+                yield Random(f"{operation} {trial}")
+
+    def test_elementwise(self):
+        for operation, wanted in ELEMENTWISE.items():
+            for source in self.each_trial(operation):
+                dims = source.dims()
+                arrays = [source.array(dims) for _ in range(wanted.__code__.co_argcount)]
+                expr = method(tensor(arrays[0]), operation)(*map(tensor, arrays[1:]))
+                self.agree(expr, wanted(*arrays), source)
+
+    def test_reductions(self):
+        for operation, wanted in REDUCTIONS.items():
+            for source in self.each_trial(operation):
+                array = source.array(source.dims())
+                axes, reduce = source.some(array.ndim), method(tensor(array), operation)
+                self.agree(reduce(axes), wanted(array, tuple(axes)), source)
+                self.agree(reduce(), wanted(array, None), source)
+
+    def test_constant(self):
+        for source in self.each_trial("constant"):
+            array, value = source.array(source.dims()), int(source.array([])[()])
+            self.agree(tensor(array).constant(value), numpy.full_like(array, value), source)
+            self.agree(tensor(array) + value, array + numpy.int64(value), source)
+            self.agree(full(array.shape, value), numpy.full_like(array, value), source)
+
+    def test_broadcast(self):
+        for source in self.each_trial("broadcast"):
+            array = source.array(source.dims())
+            counts = [1 + source.upto(2) for _ in array.shape]
+            self.agree(tensor(array).broadcast(counts), numpy.tile(array, counts), source)
+
+    def test_slice(self):
+        for source in self.each_trial("slice"):
+            array = source.array(source.dims())
+            offsets = [source.upto(it) for it in array.shape]
+            extents = [source.upto(it - offset) for it, offset in zip(array.shape, offsets)]
+            part = tuple(slice(it, it + extent) for it, extent in zip(offsets, extents))
+            self.agree(tensor(array).slice(offsets, extents), array[part], source)
+
+    def test_shuffle(self):
+        for source in self.each_trial("shuffle"):
+            array = source.array(source.dims())
+            order = source.source.sample(range(array.ndim), array.ndim)
+            self.agree(tensor(array).shuffle(order), array.transpose(order), source)
+
+    def test_reshape(self):
+        for source in self.each_trial("reshape"):
+            array = source.array(source.dims())
+            sizes = [1, array.size] if source.upto(1) else list(array.shape[::-1])
+            self.agree(tensor(array).reshape(sizes), array.reshape(sizes), source)
+            flat = array.reshape(sizes, order="F")
+            self.agree(tensor(array).reshape(sizes, order="F"), flat, source)
+
+    def test_chip(self):
+        for source in self.each_trial("chip"):
+            array = source.array([3, *source.dims(least=1)])
+            axis = source.upto(array.ndim - 1)
+            offset = source.upto(array.shape[axis] - 1)
+            self.agree(tensor(array).chip(offset, axis), array.take(offset, axis), source)
+
+    def test_reverse(self):
+        for source in self.each_trial("reverse"):
+            array = source.array(source.dims())
+            axes = source.some(array.ndim)
+            flags = [axis in axes for axis in range(array.ndim)]
+            self.agree(tensor(array).reverse(flags), numpy.flip(array, axes), source)
+
+    def test_stride(self):
+        for source in self.each_trial("stride"):
+            array = source.array(source.dims())
+            steps = [1 + source.upto(3) for _ in array.shape]
+            part = tuple(slice(None, None, it) for it in steps)
+            self.agree(tensor(array).stride(steps), array[part], source)
+
+    def test_pad(self):
+        for source in self.each_trial("pad"):
+            array = source.array([2, *source.dims()])
+            pairs = [(source.upto(2), source.upto(2)) for _ in array.shape]
+            self.agree(tensor(array).pad(pairs), numpy.pad(array, pairs), source)
+
+    def test_concat(self):
+        for source in self.each_trial("concat"):
+            left = source.array([2, *source.dims()])
+            axis, dims = source.upto(left.ndim - 1), list(left.shape)
+            dims[axis] = source.upto(3)
+            right = source.array(dims)
+            wanted = numpy.concatenate([left, right], axis)
+            self.agree(concat(left, right, axis), wanted, source)
+            self.agree(tensor(left).concat(right, axis), wanted, source)
+
+    def test_convolve(self):
+        for source in self.each_trial("convolve"):
+            array = source.array([2, *source.dims(least=1)])
+            axes = source.some(array.ndim)
+            kernel = source.array([1 + source.upto(array.shape[axis] - 1) for axis in axes])
+            wanted = convolved(array, kernel, axes)
+            self.agree(tensor(array).convolve(kernel, axes), wanted, source)
+
+    def test_contract(self):
+        for source in self.each_trial("contract"):
+            left = source.array(source.dims())
+            ours = source.some(left.ndim)
+            theirs = source.source.sample(range(len(ours)), len(ours))
+            dims = [None] * len(ours) + [1 + source.upto(2)]
+            for axis, at in zip(ours, theirs):
+                dims[at] = left.shape[axis]
+            right = source.array(dims)
+            wanted = numpy.asarray(numpy.tensordot(left, right, (ours, theirs)))
+            self.agree(contract(left, right, list(zip(ours, theirs))), wanted, source)
+
+    def test_every_operation_is_here(self):
+        alone = documented() - {*ELEMENTWISE, *REDUCTIONS}
+        self.assertLessEqual({f"test_{it}" for it in alone}, set(dir(self)))
+
+    def test_operators_with_arrays(self):
+        left, right = numpy.array([[1, 2], [3, 4]]), numpy.array([[5, 0], [7, 8]])
+        for expr, wanted in (
+            (left - tensor(right) * 2, left - right * 2),
+            (tensor(left) - right, left - right),
+            ((left < tensor(right)) | (tensor(left) == 3), (left < right) | (left == 3)),
+            (~(tensor(right) >= 7) & (1 - tensor(left) != 0), ~(right >= 7) & (1 - left != 0)),
+            (numpy.int64(3) - tensor(left), 3 - left),
+            (where(tensor(left) < right, left, -1), numpy.where(left < right, left, -1)),
+            (abs(-tensor(left).sum(0)) * 2, left.sum(0) * 2),
+        ):
+            numpy.testing.assert_array_equal(run(expr).array(), wanted.astype(numpy.int64))
+
+    def test_arrays_in_and_out(self):
+        array = numpy.arange(24, dtype=numpy.int16).reshape(2, 3, 4)
+        for it in (array, numpy.asfortranarray(array), array[:, ::-1], array > 5):
+            numpy.testing.assert_array_equal(numpy.asarray(run(tensor(it))), it.astype(int))
+        self.assertEqual(tensor(array).nested(), array.tolist())
+        self.assertEqual(tensor(array.tolist()).values, tensor(array).values)
+
+    def test_arrays_that_are_refused(self):
+        masked = numpy.ma.masked_array([1, 2], mask=[False, True])
+        for array in (
+            masked,
+            numpy.matrix([[1]]),
+            numpy.array([1.0]),
+            numpy.float64(1),
+            numpy.array([1, 2], dtype=object),
+            numpy.array([1j]),
+            numpy.array(["1"]),
+        ):
+            self.assertRaises(TypeError, tensor, array)
+            self.assertRaises(TypeError, lambda it: tensor([1, 2]) + it, array)
+        self.assertRaises(OverflowError, tensor, numpy.array([2**63], dtype=numpy.uint64))
+
+    def test_an_expression_is_no_array(self):
+        with self.assertRaisesRegex(TypeError, r"run\(it\)"):
+            numpy.asarray(tensor([1, 2]) + 1)
+
+    def test_broadcasting(self):
+        for source in self.each_trial("broadcasting"):
+            array = source.array([2, 3, *source.dims(least=1)])
+            dims = [1 if source.upto(1) else it for it in array.shape]
+            other = source.array(dims[source.upto(2) :])
+            self.agree(tensor(array) + other, array + other, source)
+            self.agree(tensor(other) * array, other * array, source)
+            self.agree(other < tensor(array), other < array, source)
+            chosen = numpy.where(other > 0, array, other)
+            self.agree(where(tensor(other) > 0, array, other), chosen, source)
+
+    def test_indexing(self):
+        for source in self.each_trial("indexing"):
+            array = source.array([3, 4, *source.dims(least=1)])
+            for index in source.indices(array.shape):
+                self.agree(tensor(array)[index], numpy.asarray(array[index]), source)
+
+    def test_reshape_by_both_orders(self):
+        for source in self.each_trial("reshape"):
+            array = source.array([2, 3, 4, 1 + source.upto(2)])
+            for sizes in ([-1], [4, -1], [3, 2, -1, 2], [1, 24, -1, 1]):
+                for order in "CF":
+                    wanted = array.reshape(sizes, order=order)
+                    self.agree(tensor(array).reshape(sizes, order=order), wanted, source)
+
+    def test_named_axes(self):
+        for source in self.each_trial("axes"):
+            array = source.array([2, 3, 1 + source.upto(2)])
+            for name in ("sum", "prod", "max", "min"):
+                for axis in (None, 0, -1, (0, -1), (1,)):
+                    for keepdims in (False, True):
+                        settings = {"axis": axis, "keepdims": keepdims}
+                        wanted = numpy.asarray(getattr(array, name)(**settings))
+                        self.agree(getattr(tensor(array), name)(**settings), wanted, source)
+                        self.agree(getattr(client, name)(array, **settings), wanted, source)
+            for name in ("all", "any"):
+                wanted = numpy.asarray(getattr(numpy, name)(array, axis=-1, keepdims=True))
+                self.agree(getattr(client, name)(array, axis=-1, keepdims=True), wanted, source)
+
+    def test_products(self):
+        for source in self.each_trial("products"):
+            a, b, c = source.array([3, 4]), source.array([4, 5]), source.array([2, 3, 4])
+            x, y = source.array([4]), source.array([2, 4, 5])
+            for left, right in ((a, b), (a, x), (x, b), (x, x), (c, b), (c, y), (x, y), (a, y)):
+                self.agree(tensor(left) @ right, numpy.asarray(left @ right), source)
+                self.agree(left @ tensor(right), numpy.asarray(left @ right), source)
+            self.agree(tensor(c).dot(b), c.dot(b), source)
+            self.agree(client.tensordot(c, b, 1), numpy.tensordot(c, b, 1), source)
+            axes = [1, 2], [0, 1]
+            self.agree(client.tensordot(c, a, axes), numpy.tensordot(c, a, axes), source)
+            for labels, arrays in (
+                ("ij,jk->ik", (a, b)),
+                ("ij,jk", (a, b)),
+                ("ij,jk->ki", (a, b)),
+                ("hij,jk->kh", (c, b)),
+                ("ij->ji", (a,)),
+                ("ij->", (a,)),
+                ("ij,k->kij", (a, x)),
+                ("hij,ij->h", (c, a)),
+            ):
+                wanted = numpy.asarray(numpy.einsum(labels, *arrays))
+                self.agree(client.einsum(labels, *arrays), wanted, source)
+
+    def test_what_arrays_have_beside(self):
+        for source in self.each_trial("beside"):
+            array, other = source.array([3, 4]), source.array([3, 4])
+            x = tensor(array)
+            for expr, wanted in (
+                (x.T, array.T),
+                (x.ravel(), array.ravel()),
+                (x.clip(-1, 1), array.clip(-1, 1)),
+                (x.clip(greatest=0), array.clip(None, 0)),
+                (x**2, array**2),
+                (x**5, array**5),
+                (x**0, array**0),
+                (x.pad(2), numpy.pad(array, 2)),
+                (x.pad((1, 0)), numpy.pad(array, (1, 0))),
+                (x.pad([(1, 0), (2, 3)]), numpy.pad(array, [(1, 0), (2, 3)])),
+                (client.stack([x, other], axis=1), numpy.stack([array, other], axis=1)),
+                (client.stack([x, other, x], -1), numpy.stack([array, other, array], -1)),
+                (client.concatenate([x, other, x]), numpy.concatenate([array, other, array])),
+                (client.concatenate([x, other], -1), numpy.concatenate([array, other], -1)),
+                (client.maximum(x, other), numpy.maximum(array, other)),
+                (client.minimum(x, 0), numpy.minimum(array, 0)),
+                (client.zeros((2, 3)), numpy.zeros((2, 3))),
+                (client.ones(4), numpy.ones(4)),
+            ):
+                self.agree(expr, wanted, source)
+
+
+if __name__ == "__main__":
+    unittest.main()
