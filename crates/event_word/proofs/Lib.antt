@@ -5,6 +5,8 @@ pub mod Histories
 pub mod Waking
 pub mod Stopping
 pub mod Frames
+pub mod Absent
+pub mod Parking
 pub mod Owing
 pub mod Rooms
 pub mod Stored

@@ -7,9 +7,11 @@ pub mod Step
 pub mod Lawful
 pub mod Runs
 pub mod Waking
+pub mod Present
 pub mod Balance
 pub mod Frame
 pub mod Debts
 pub mod Stored
 pub mod Play
+pub mod Played
 pub mod Shown

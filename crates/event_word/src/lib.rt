@@ -15,8 +15,8 @@ pub use after::{
 };
 pub use event::Event;
 pub use laws::{
-    events_leave_others_alone, runs_are_lawful, runs_balance, runs_stay_awake, runs_wake_all,
-    word_follows_world,
+    events_leave_others_alone, plays_are_runs, runs_are_lawful, runs_balance, runs_stay_awake,
+    runs_stay_awake_by_present, runs_wake_all, word_follows_world,
 };
 pub use phase::Phase;
 pub use word::{Fields, NOBODY, PRE_WAITER, pack, unpack};

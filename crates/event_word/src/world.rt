@@ -1,6 +1,7 @@
 ghost use Rattle.std.specs.Prelude.{◌≡◌, [], false, ◌+◌, ◌<◌, ◌≤◌, IfOk, length, map, replicate};
 ghost use Rattle.std.specs.Prelude.{slice_get};
 ghost use Rattle.std.specs.Prelude.{slice_index, vec_len, vec_capacity};
+ghost use Rattle.event_word.specs.Lawful.{Lawful, HasSizes};
 ghost use Rattle.event_word.specs.Limits.{most_workers};
 ghost use Rattle.event_word.specs.World.{phase_of, owed_by, has_token, length_of, opening_world};
 
@@ -75,6 +76,16 @@ impl<A: Allocator> World<A> {
             notifiers,
             stop: 0,
         })
+    }
+
+    /// Every World is lawful, whatever was done with it. Does nothing.
+    pub fn stays_lawful(&self)
+        ensures lawful { Lawful self.now }
+        ensures sizes { HasSizes (length self.now.phases) (length self.now.owed)
+            (length self.now.lengths) self.now }
+    {
+        // The type's invariant says so, and is known once a field is read.
+        let _stop = self.stop;
     }
 
     /// The pre-waiting seats in order of arrival.

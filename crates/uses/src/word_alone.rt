@@ -5,7 +5,7 @@ ghost use Rattle.event_word.specs.Play.{Plays};
 ghost use Rattle.event_word.specs.Waking.{StaysAwake};
 ghost use Rattle.event_word.specs.World.{opening_world};
 
-use event_word::{Event, Phase, World, runs_stay_awake};
+use event_word::{Event, Phase, World, plays_are_runs, runs_stay_awake};
 use std::alloc::{AllocError, Global};
 use std::test::Fail;
 
@@ -26,6 +26,7 @@ pub fn tried(
 {
     let mut world = World::new(alloc, workers, notifiers, rows)?;
     world.play(events);
+    plays_are_runs();
     runs_stay_awake();
     Ok(world)
 }

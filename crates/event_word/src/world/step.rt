@@ -32,9 +32,7 @@ impl<A: Allocator> World<A> {
     {
         let mut taken = 0;
         for event in events {
-            if self.step(*event) {
-                taken += 1;
-            }
+            taken += u64::from(self.step(*event));
         }
         taken
     }
@@ -80,6 +78,13 @@ impl<A: Allocator> World<A> {
         self.is_free(actor) && !self.announcing[actor as usize]
     }
 
+    // Whether the seat is a worker's that is quiet.
+    fn is_quiet_seat(&self, seat: u16) -> bool
+        ensures { IsTrue result ↔ (seat < length self.now.phases) × IsQuiet self.now seat }
+    {
+        usize::from(seat) < self.phases.len() && self.is_quiet(u32::from(seat))
+    }
+
     fn publish(&mut self, actor: u32, row: u16) -> bool
         ensures { IsStep self.old (Event.Publish actor row) result self.new }
     {
@@ -98,10 +103,10 @@ impl<A: Allocator> World<A> {
     fn prewait(&mut self, seat: u16) -> bool
         ensures { IsStep self.old (Event.Prewait seat) result self.new }
     {
-        let place = usize::from(seat);
-        if place >= self.phases.len() || !self.is_quiet(u32::from(seat)) {
+        if !self.is_quiet_seat(seat) {
             return false;
         }
+        let place = usize::from(seat);
         self.phases[place] = Phase::Pre;
         self.flags[place] = false;
         clear(&mut self.passed[place]);
@@ -254,11 +259,10 @@ impl<A: Allocator> World<A> {
     fn end(&mut self, seat: u16) -> bool
         ensures { IsStep self.old (Event.End seat) result self.new }
     {
-        let place = usize::from(seat);
-        if self.stop == 0 || place >= self.phases.len() || !self.is_quiet(u32::from(seat)) {
+        if self.stop == 0 || !self.is_quiet_seat(seat) {
             return false;
         }
-        self.phases[place] = Phase::Ended;
+        self.phases[usize::from(seat)] = Phase::Ended;
         true
     }
 }

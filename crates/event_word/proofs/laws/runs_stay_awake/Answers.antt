@@ -1,4 +1,4 @@
-use Rattle.event_word.proofs.Waking.{stay_awake}
+use Rattle.event_word.proofs.Parking.{stay_awake}
 use Rattle.event_word.proofs.laws.runs_stay_awake.Goals as goal
 
 pub returns : goal.returns

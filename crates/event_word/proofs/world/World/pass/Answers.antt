@@ -40,7 +40,6 @@ invariant_of-self g c =
       omega (
         arith,
         jobs_read i s c.args.row _ c.index.result.now row c.from-at.ensures c.index.ensures,
-        c.if-index-gt0.false,
       ),
     ) in
     let is = pass_view i s c.args.seat c.args.row _ _ c.index_mut.result.now _ known
@@ -69,7 +68,6 @@ returns g c =
       omega (
         arith,
         jobs_read i s c.args.row _ c.index.result.now row c.from-at.ensures c.index.ensures,
-        c.if-index-gt0.false,
       ),
     ) in
     let is = pass_view i s c.args.seat c.args.row _ _ c.index_mut.result.now _ known

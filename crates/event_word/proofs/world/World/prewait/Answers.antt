@@ -1,30 +1,23 @@
-use Rattle.std.proofs.Common.{false, replicate, refl, ap, ◌∙◌, arith, length-set}
+use Rattle.std.proofs.Common.{false, replicate, refl, sym, ap, subst, ◌∙◌, arith, length-set}
 use Rattle.event_word.specs.Step.{Possible}
-use Rattle.event_word.specs.Stored.{world_view}
 use Rattle.event_word.specs.declared.event.Event.TheVariants.{Prewait}
 use Rattle.event_word.proofs.Stored.{stored_step, room_to_prewait, prewait_view}
 use Rattle.event_word.proofs.Passing.{rows_set, rows_long}
-use Rattle.event_word.proofs.Taken.{stepped, quiet_same}
+use Rattle.event_word.proofs.Taken.{stepped}
 use Rattle.event_word.proofs.world.World.prewait.Goals as goal
 
 pub push_reserved-requires : goal.push_reserved-requires
 push_reserved-requires g c =
     let i = c.self.inside in let s = c.self.invariant in
-    let p : Possible (world_view i) (Prewait c.args.seat) = (
-      omega (arith, i.phases.ok.0),
-      quiet_same _ _ _ _ c.self.view_is c.from.ensures
-          (c.is_quiet.ensures.0 c.if-not-is_quiet.false),
-    ) in
+    let p = subst (λ w. Possible w (Prewait c.args.seat)) (sym c.self.view_is)
+    (c.is_quiet_seat.ensures.0 c.if-not-is_quiet_seat.false) in
     room_to_prewait i s c.args.seat p
 
 pub invariant_of-self : goal.invariant_of-self
 invariant_of-self g c =
     let i = c.self.inside in let s = c.self.invariant in
-    let p : Possible (world_view i) (Prewait c.args.seat) = (
-      omega (arith, i.phases.ok.0),
-      quiet_same _ _ _ _ c.self.view_is c.from.ensures
-          (c.is_quiet.ensures.0 c.if-not-is_quiet.false),
-    ) in
+    let p = subst (λ w. Possible w (Prewait c.args.seat)) (sym c.self.view_is)
+    (c.is_quiet_seat.ensures.0 c.if-not-is_quiet_seat.false) in
     stored_step i s _ (Prewait c.args.seat) p
     (prewait_view i s c.args.seat _ _ _ c.from-place.ensures
     (rows_set i s c.args.seat _ c.clear.new.list _ c.from-place.ensures (c.clear.ensures
@@ -42,11 +35,8 @@ invariant_of-self g c =
 pub returns : goal.returns
 returns g c =
     let i = c.self.inside in let s = c.self.invariant in
-    let p : Possible (world_view i) (Prewait c.args.seat) = (
-      omega (arith, i.phases.ok.0),
-      quiet_same _ _ _ _ c.self.view_is c.from.ensures
-          (c.is_quiet.ensures.0 c.if-not-is_quiet.false),
-    ) in
+    let p = subst (λ w. Possible w (Prewait c.args.seat)) (sym c.self.view_is)
+    (c.is_quiet_seat.ensures.0 c.if-not-is_quiet_seat.false) in
     stepped i _ _ (Prewait c.args.seat) c.self.view_is p
     (prewait_view i s c.args.seat _ _ _ c.from-place.ensures
     (rows_set i s c.args.seat _ c.clear.new.list _ c.from-place.ensures (c.clear.ensures
