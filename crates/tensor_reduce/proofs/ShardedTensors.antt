@@ -1,7 +1,7 @@
 -- What shards give of all values of a reduction or a contraction is its tensor.
 use Rattle.std.proofs.Common.{◌≡◌, ℕ, ℤ, pos, ◌+◌, ◌-◌, ◌*◌, ◌/◌, ◌%◌, ◌<◌, ◌≤◌, true, Ok}
 use Rattle.std.proofs.Common.{List, [], length, map, take, drop, slice_index_or}
-use Rattle.std.proofs.Common.{mul-le-mul_right, refl, ap, sym, ◌∙◌, arith}
+use Rattle.std.proofs.Common.{mul-le-mul_right, refl, ap, sym, subst, ◌∙◌, arith}
 use Rattle.std.proofs.Math.Nat.{mod-eq_of_lt, mul-add-mod_self_right}
 use Rattle.std.proofs.lemmas.List.{get_or-take, get_or-drop, length-take-le, length-drop, length-map}
 use Rattle.std.proofs.lemmas.List.{ext_get_or, get_or-map}
@@ -22,28 +22,29 @@ use Rattle.tensor_walks.specs.declared.reducer.Reducer.{Reducer}
 use Rattle.tensor_terms.specs.Value.{value, value_of_place, tensor_of}
 use Rattle.tensor_ops.proofs.Evaluated.{map-values_from, tensor_of-made}
 use Rattle.tensor_reduce.specs.Combined.{reducer_of, shard_value, value_shard, combined_by}
-use Rattle.tensor_reduce.specs.Shards.{Shard, shards_by, shards_of, width_of}
-use Rattle.tensor_reduce.proofs.Sharding.{one-shard, reduced-shards, contracted-shards}
+use Rattle.tensor_reduce.specs.Shards.{Shard, shards_by, shards_of, most_shards, width_of}
+use Rattle.tensor_reduce.proofs.Sharding.{one-shard, reduced-shards, contracted-shards, width_of-enough}
 
 -- of one value
-combination-shards_of : (t : Term) (inputs : List Contents) (p w : ℕ) → has_parts t ≡ true → 0 < w
+combination-shards_of : (t : Term) (inputs : List Contents) (p w : ℕ) → has_parts t ≡ true
+    → inner_size t inputs ≤ most_shards * w
     → combination (reducer_of t) (map (shard_value t inputs p) (shards_by (inner_size t inputs) w))
     ≡ value_of_place t inputs p
-combination-shards_of (input n) inputs p w parts some = (cc)
-combination-shards_of (unary (each o) a) inputs p w parts some = (cc)
-combination-shards_of (unary (constant v) a) inputs p w parts some = (cc)
-combination-shards_of (unary (movement m) a) inputs p w parts some = (cc)
-combination-shards_of (unary (pad pairs) a) inputs p w parts some = (cc)
-combination-shards_of (unary (reduce r axes) a) inputs p w parts some =
+combination-shards_of (input n) inputs p w parts wide = (cc)
+combination-shards_of (unary (each o) a) inputs p w parts wide = (cc)
+combination-shards_of (unary (constant v) a) inputs p w parts wide = (cc)
+combination-shards_of (unary (movement m) a) inputs p w parts wide = (cc)
+combination-shards_of (unary (pad pairs) a) inputs p w parts wide = (cc)
+combination-shards_of (unary (reduce r axes) a) inputs p w parts wide =
     reduced-shards r axes (shape_of a inputs) (value a inputs)
-    (index_of (shape_of (unary (reduce r axes) a) inputs) p) w some
-combination-shards_of (binary (pairwise o) a b) inputs p w parts some = (cc)
-combination-shards_of (binary (concat axis) a b) inputs p w parts some = (cc)
-combination-shards_of (binary (contract pairs) a b) inputs p w parts some =
+    (index_of (shape_of (unary (reduce r axes) a) inputs) p) w wide
+combination-shards_of (binary (pairwise o) a b) inputs p w parts wide = (cc)
+combination-shards_of (binary (concat axis) a b) inputs p w parts wide = (cc)
+combination-shards_of (binary (contract pairs) a b) inputs p w parts wide =
     contracted-shards pairs (shape_of a inputs) (shape_of b inputs) (value a inputs)
-    (value b inputs) (index_of (shape_of (binary (contract pairs) a b) inputs) p) w some
-combination-shards_of (binary (convolve axes) a b) inputs p w parts some = (cc)
-combination-shards_of (ternary o a b c) inputs p w parts some = (cc)
+    (value b inputs) (index_of (shape_of (binary (contract pairs) a b) inputs) p) w wide
+combination-shards_of (binary (convolve axes) a b) inputs p w parts wide = (cc)
+combination-shards_of (ternary o a b c) inputs p w parts wide = (cc)
 
 -- those of a value among those of all
 shards-of_value : (t : Term) (inputs : List Contents) (shards : List Shard) (found : List ℤ)
@@ -91,7 +92,8 @@ value_shard-one t inputs n w p some one all =
 
 -- of all of them
 pub tensor_of-shards : (t : Term) (inputs : List Contents) (w : ℕ) (shards : List Shard)
-    (found : List ℤ) (made : Contents) → has_parts t ≡ true → 0 < w
+    (found : List ℤ) (made : Contents) → has_parts t ≡ true
+    → inner_size t inputs ≤ most_shards * w
     → shards ≡ shards_by (inner_size t inputs) w
     → found ≡ map (value_shard t inputs shards)
     (range_with_len 0 (size_of (shape_of t inputs) * length shards))
@@ -99,7 +101,7 @@ pub tensor_of-shards : (t : Term) (inputs : List Contents) (w : ℕ) (shards : L
     → made.values ≡ map (combined_by (reducer_of t) (length shards) found)
     (range_with_len 0 (size_of (shape_of t inputs)))
     → made ≡ tensor_of t inputs
-tensor_of-shards t inputs w shards found made parts some are is dims values =
+tensor_of-shards t inputs w shards found made parts wide are is dims values =
     let v : ℕ = size_of (shape_of t inputs) in
     let r = reducer_of t in
     tensor_of-made inputs t made v dims
@@ -108,7 +110,7 @@ tensor_of-shards t inputs w shards found made parts some are is dims values =
     (λ p below.
     ap (combination r) (shards-of_value t inputs shards found v p below is)
     ∙ ap (λ l. combination r (map (shard_value t inputs p) l)) are
-    ∙ combination-shards_of t inputs p w parts some)
+    ∙ combination-shards_of t inputs p w parts wide)
     (omega arith))
     refl
 
@@ -123,20 +125,21 @@ module _ (t s : Term) (inputs others : List Contents) (term : s ≡ t) (tensors 
 
   pub tensor_of-cut : (inner width v count : ℕ) (shards : List Shard) (found : List ℤ)
       (r : Reducer) (made : Contents)
-      → has_parts t ≡ true → inner ≡ inner_size s others → 0 < width
-      → shards ≡ shards_of inner width
+      → has_parts t ≡ true → inner ≡ inner_size s others → shards ≡ shards_of inner width
       → v ≡ size_of ds → count ≡ length shards
       → found ≡ map (value_shard s others shards) (range_with_len 0 (v * count))
       → r ≡ reducer_of t → made.dims ≡ ds
       → made.values ≡ map (combined_by r count found) (range_with_len 0 v)
       → made ≡ tensor_of t inputs
-  tensor_of-cut inner width v count shards found r made parts lists some are size all is reducer
+  tensor_of-cut inner width v count shards found r made parts lists are size all is reducer
       dims values =
       let w : ℕ = width_of inner width in
+      let wide : inner_size t inputs ≤ most_shards * w =
+      subst (λ n. n ≤ most_shards * w) (lists ∙ same-inner) (width_of-enough inner width) in
       let size_is : v ≡ size_of (shape_of t inputs) = size ∙ ap size_of (sym shape) in
       let places : v * count ≡ size_of (shape_of t inputs) * length shards =
       ap (λ n. n * count) size_is ∙ ap (λ n. size_of (shape_of t inputs) * n) all in
-      tensor_of-shards t inputs w shards found made parts (omega arith)
+      tensor_of-shards t inputs w shards found made parts wide
       (are ∙ ap (λ n. shards_by n w) (lists ∙ same-inner))
       (is
       ∙ ap (λ x. map (value_shard x others shards) (range_with_len 0 (v * count))) term

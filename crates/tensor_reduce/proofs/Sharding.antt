@@ -2,7 +2,7 @@
 use Rattle.std.proofs.Common.{◌≡◌, ℕ, zero, suc, ◌+◌, ◌-◌, ◌*◌, ◌<◌, ◌≤◌, min, max}
 use Rattle.std.proofs.Common.{ℤ, pos, ◌+ℤ◌, ◌*ℤ◌, take, drop, slice_index_or}
 use Rattle.std.proofs.Common.{List, [], ◌∷◌, ◌++◌, length, map, inl, inr}
-use Rattle.std.proofs.Common.{append-nil, mul-le-mul_right, refl, ap, sym, ◌∙◌, arith, rules}
+use Rattle.std.proofs.Common.{append-nil, mul-le-mul_right, refl, ap, sym, subst, ◌∙◌, arith, rules}
 use Rattle.std.specs.List.{fold, range_with_len}
 use Rattle.std.proofs.Math.Nat.{lt_of_mul-lt-mul_right}
 use Rattle.std.proofs.lemmas.Bool.{cases_lt}
@@ -58,19 +58,57 @@ lists_of-run n w i (suc k) =
           ∙ ap (range_with_len (i * w)) all
     ]
 
-lists_of-shards_by : (n w : ℕ) → 0 < w → lists_of (shards_by n w) ≡ range_with_len 0 n
-lists_of-shards_by n w some =
+pub width_of-enough : (n block : ℕ) → n ≤ most_shards * width_of n block
+width_of-enough n block =
+    let enough = div_ceil_times n most_shards (omega arith) in
+    let wide : div_up n most_shards * most_shards ≤ width_of n block * most_shards =
+    mul-le-mul_right most_shards (omega arith) in
+    omega (arith, enough.0, wide)
+
+-- shards that are wide enough have all index lists: they have no width only where there are none
+all-covered : (n w : ℕ) → n ≤ most_shards * w → n ≤ max 1 (div_up n w) * w
+all-covered n w wide =
+    elim (cases_lt 0 w) [
+      | inl some ↦
+          let enough = div_ceil_times n w some in
+          let more : div_up n w * w ≤ max 1 (div_up n w) * w = mul-le-mul_right w (omega arith) in
+          omega (arith, enough.0, more)
+      | inr none ↦
+          let flat : w ≡ 0 = omega arith in
+          let nothing : most_shards * w ≡ 0 = rw flat (omega arith) in
+          omega (arith, wide, nothing)
+    ]
+
+lists_of-shards_by : (n w : ℕ) → n ≤ most_shards * w
+    → lists_of (shards_by n w) ≡ range_with_len 0 n
+lists_of-shards_by n w wide =
     let count : ℕ = max 1 (div_up n w) in
-    let enough = div_ceil_times n w some in
-    let more : div_up n w * w ≤ count * w = grind arith in
-    let whole : min ((0 + count) * w) n - 0 * w ≡ n = omega (arith, enough.0, more) in
+    let all : n ≤ count * w = all-covered n w wide in
+    let whole : min ((0 + count) * w) n - 0 * w ≡ n = omega (arith, all) in
     let start : 0 * w ≡ 0 = omega arith in
     lists_of-run n w 0 count ∙ ap (range_with_len (0 * w)) whole
     ∙ ap (λ a. range_with_len a n) start
 
-pub lists_of-shards_of : (n block : ℕ) → 0 < block
-    → lists_of (shards_of n block) ≡ range_with_len 0 n
-lists_of-shards_of n block some = lists_of-shards_by n (width_of n block) (omega arith)
+pub lists_of-shards_of : (n block : ℕ) → lists_of (shards_of n block) ≡ range_with_len 0 n
+lists_of-shards_of n block =
+    lists_of-shards_by n (width_of n block) (width_of-enough n block)
+
+-- where there are no index lists, their one shard is the same at no width and at a width of one
+pub shards_by-some : (n block : ℕ) → shards_by n (max (width_of n block) 1) ≡ shards_of n block
+shards_by-some n block =
+    elim (cases_lt 0 (width_of n block)) [
+      | inl some ↦
+          let same : max (width_of n block) 1 ≡ width_of n block = omega arith in
+          ap (shards_by n) same
+      | inr none ↦
+          let flat : width_of n block ≡ 0 = omega arith in
+          let enough : n ≤ most_shards * 0 = subst (λ w. n ≤ most_shards * w) flat (width_of-enough n block) in
+          let nothing : n ≡ 0 = omega (arith, enough) in
+          let empty : shards_by 0 1 ≡ shards_by 0 0 = refl in
+          ap (λ w. shards_by n (max w 1)) flat
+          ∙ ap (λ m. shards_by m 1) nothing ∙ empty ∙ ap (λ m. shards_by m 0) (sym nothing)
+          ∙ ap (shards_by n) (sym flat)
+    ]
 
 -- the shards one by one
 pub length-shards_by : (n w : ℕ) → length (shards_by n w) ≡ max 1 (div_up n w)
@@ -118,13 +156,6 @@ div_up-few n w some wide =
     (omega (arith, enough.1, more)) in
     omega arith
 
-pub width_of-enough : (n block : ℕ) → n ≤ most_shards * width_of n block
-width_of-enough n block =
-    let enough = div_ceil_times n most_shards (omega arith) in
-    let wide : div_up n most_shards * most_shards ≤ width_of n block * most_shards =
-    mul-le-mul_right most_shards (omega arith) in
-    omega (arith, enough.0, wide)
-
 -- the combinations of shards, combined, are that of their index lists
 fold-shards : (r : Reducer) (f : ℕ → ℤ) (x : ℤ) (shards : List Shard) → IsWhole r x
     → fold (combine r) x (map (λ s. combination r (map f (lists_in s))) shards)
@@ -139,12 +170,12 @@ fold-shards r f x (s ∷ shards) whole =
     ∙ sym (fold-append (combine r) x part rest)
     ∙ ap (fold (combine r) x) (sym (map-append f (lists_in s) (lists_of shards)))
 
-combination-shards : (r : Reducer) (f : ℕ → ℤ) (n w : ℕ) → 0 < w
+combination-shards : (r : Reducer) (f : ℕ → ℤ) (n w : ℕ) → n ≤ most_shards * w
     → combination r (map (λ s. combination r (map f (lists_in s))) (shards_by n w))
     ≡ combination r (map f (range_with_len 0 n))
-combination-shards r f n w some =
+combination-shards r f n w wide =
     fold-shards r f (unit r) (shards_by n w) (whole-unit r)
-    ∙ ap (λ l. combination r (map f l)) (lists_of-shards_by n w some)
+    ∙ ap (λ l. combination r (map f l)) (lists_of-shards_by n w wide)
 
 -- a sum that wraps at each step is the wrap of the whole sum
 fold-wrap : (xs : List ℤ) (s : ℤ) → fold (combine Sum) (wrap s) xs ≡ wrap (fold ◌+ℤ◌ s xs)
@@ -163,11 +194,11 @@ map-ext f g same [] = refl
 map-ext f g same (x ∷ xs) = let here = same x in let rest = map-ext f g same xs in cc (here, rest)
 
 pub reduced-shards : (r : Reducer) (axes ds : List ℕ) (a : List ℕ → ℤ) (is : List ℕ) (w : ℕ)
-    → 0 < w
+    → size_of (dims_at (among axes (length ds)) ds) ≤ most_shards * w
     → combination r (map (λ s. reduced_part r axes ds a is s.0 (s.1 - s.0))
     (shards_by (size_of (dims_at (among axes (length ds)) ds)) w))
     ≡ reduced r axes ds a is
-reduced-shards r axes ds a is w some =
+reduced-shards r axes ds a is w wide =
     let dims : List ℕ = dims_at (among axes (length ds)) ds in
     let f : List ℕ → ℤ = λ js. a (woven (among axes (length ds)) ds js is) in
     let g : ℕ → ℤ = λ q. f (index_of dims q) in
@@ -175,15 +206,15 @@ reduced-shards r axes ds a is w some =
     (λ s. combination r (map g (lists_in s)))
     (λ s. ap (combination r) (map-map f (index_of dims) (lists_in s)))
     (shards_by (size_of dims) w))
-    ∙ combination-shards r g (size_of dims) w some
+    ∙ combination-shards r g (size_of dims) w wide
     ∙ ap (combination r) (sym (map-map f (index_of dims) (range_with_len 0 (size_of dims))))
 
 pub contracted-shards : (pairs : List (ℕ × ℕ)) (ds es : List ℕ) (a b : List ℕ → ℤ) (is : List ℕ)
-    (w : ℕ) → 0 < w
+    (w : ℕ) → size_of (dims_at (firsts pairs) ds) ≤ most_shards * w
     → combination Sum (map (λ s. contracted_part pairs ds es a b is s.0 (s.1 - s.0))
     (shards_by (size_of (dims_at (firsts pairs) ds)) w))
     ≡ contracted pairs ds es a b is
-contracted-shards pairs ds es a b is w some =
+contracted-shards pairs ds es a b is w wide =
     let dims : List ℕ = dims_at (firsts pairs) ds in
     let f : List ℕ → ℤ = λ js.
     a (woven (firsts pairs) ds js (take (length (other_dims (firsts pairs) ds)) is))
@@ -195,6 +226,6 @@ contracted-shards pairs ds es a b is w some =
     (λ s. sym (combination-sum (map f (map (index_of dims) (lists_in s))))
     ∙ ap (combination Sum) (map-map f (index_of dims) (lists_in s)))
     (shards_by (size_of dims) w))
-    ∙ combination-shards Sum g (size_of dims) w some
+    ∙ combination-shards Sum g (size_of dims) w wide
     ∙ ap (combination Sum) (sym (map-map f (index_of dims) (range_with_len 0 (size_of dims))))
     ∙ combination-sum (map f (map (index_of dims) (range_with_len 0 (size_of dims))))

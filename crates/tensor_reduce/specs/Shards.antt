@@ -8,7 +8,7 @@ use Rattle.tensor_reduce.specs.declared.shards.Shards.{Shards}
 abbrev pub Shard : Type 0
 Shard = ℕ × ℕ
 
--- the quotient, rounded up
+-- the quotient, rounded up; of 0 by 0 it is 0
 abbrev pub div_up : ℕ → ℕ → ℕ
 div_up n k = n / k + min 1 (n % k)
 

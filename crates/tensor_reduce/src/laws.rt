@@ -1,6 +1,6 @@
 //! What holds of the definitions: why values may be worked out shard by shard.
 
-ghost use Rattle.std.specs.Prelude.{◌≡◌, ◌-◌, ◌<◌, List, ℕ, ℤ, length, map};
+ghost use Rattle.std.specs.Prelude.{◌≡◌, ◌-◌, List, ℕ, ℤ, length, map};
 ghost use Rattle.std.specs.Int.{w64};
 ghost use Rattle.std.specs.Int.RustNames.{FitsSigned};
 ghost use Rattle.std.specs.List.{range_with_len};
@@ -26,7 +26,7 @@ pub fn reducers_combine_in_any_grouping()
 
 /// Whatever the block, the shards meet each index list once, in order.
 pub fn shards_meet_each_index_list_once()
-    ensures { (inner block : ℕ) → 0 < block
+    ensures { (inner block : ℕ)
         → lists_of (shards_of inner block) ≡ range_with_len 0 inner }
 {}
 
@@ -34,7 +34,6 @@ pub fn shards_meet_each_index_list_once()
 /// combined in order from the unit.
 pub fn shards_give_the_reduction()
     ensures { (r : Reducer) (axes ds : List ℕ) (a : List ℕ → ℤ) (is : List ℕ) (block : ℕ)
-        → 0 < block
         → combination r (map (λ s. reduced_part r axes ds a is s.0 (s.1 - s.0))
         (shards_of (size_of (dims_at (among axes (length ds)) ds)) block))
         ≡ reduced r axes ds a is }
@@ -43,7 +42,7 @@ pub fn shards_give_the_reduction()
 /// The same of a contraction's value, whose shards are sums.
 pub fn shards_give_the_contraction()
     ensures { (pairs : List (ℕ × ℕ)) (ds es : List ℕ) (a b : List ℕ → ℤ) (is : List ℕ)
-        (block : ℕ) → 0 < block
+        (block : ℕ)
         → combination Sum (map (λ s. contracted_part pairs ds es a b is s.0 (s.1 - s.0))
         (shards_of (size_of (dims_at (firsts pairs) ds)) block))
         ≡ contracted pairs ds es a b is }

@@ -26,15 +26,12 @@ pub(crate) struct Cut {
     pub(crate) width: u64,
     /// How many shards are worked out at a time.
     pub(crate) leaf: u64,
-    ghost wide: { 0 < width },
     ghost some: { 0 < leaf },
 }
 
 impl Cut {
     /// Shards of a block of index lists, each a leaf of its own.
-    pub(crate) fn by_blocks(block: u64) -> Cut
-        requires { 0 < block }
-    {
+    pub(crate) fn by_blocks(block: u64) -> Cut {
         Cut {
             width: block,
             leaf: 1,

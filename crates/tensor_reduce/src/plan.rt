@@ -55,7 +55,7 @@ impl Plan {
             → last_tensor (worked_out (terms_in (steps_in plan)) inputs.now.tensors)
             ≡ tensor_of (term_of expr.now) inputs.now.tensors) }
     {
-        // Says that the limit is a rank that dims can have.
+        // Called for its clause `limit`: no inputs allow a rank past the highest one.
         let _limit = inputs.rank_limit();
         let steps = steps_of(alloc, inputs, expr)?;
         Ok(Plan { steps })

@@ -20,15 +20,16 @@ impl Shards {
     ghost use Rattle.tensor_reduce.specs.Shards.{shards_in, shards_of, lists_cut, most_shards};
 
     /// The shards of so many index lists: as wide as a block, or wider where there would be more
-    /// than 1,024 of them. Takes no memory.
+    /// than 1,024 of them, as with a block of 0. Takes no memory.
     pub fn of(inner: u64, block: u64) -> Shards
-        requires { 0 < block }
         ensures shards { shards_in result ≡ shards_of inner block }
         ensures lists { lists_cut result ≡ inner }
     {
+        let width = block.max(inner.div_ceil(MOST_SHARDS));
+        // It is 0 for a block of 0 and no index lists, whose one shard is empty at any width.
         Shards {
             inner,
-            width: block.max(inner.div_ceil(MOST_SHARDS)),
+            width: width.max(1),
         }
     }
 

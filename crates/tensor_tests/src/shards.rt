@@ -6,7 +6,7 @@ use tensor_reduce::Shards;
 
 /// How many index lists there are, the block; and how many shards, of which width. The last may be
 /// shorter. There are at most 1,024 of them, however small the block.
-const SHARDS: [(u64, u64, u64, u64); 15] = [
+const SHARDS: [(u64, u64, u64, u64); 18] = [
     (10, 4, 3, 4),
     (8, 4, 2, 4),
     (4, 4, 1, 4),
@@ -22,11 +22,13 @@ const SHARDS: [(u64, u64, u64, u64); 15] = [
     (1_048_576, 7, 1024, 1024),
     (1_048_576, 100_000, 11, 100_000),
     (u64::MAX, 1, 1024, 1 << 54),
+    (10, 0, 10, 1),
+    (0, 0, 1, 0),
+    (4096, 0, 1024, 4),
 ];
 
 // So many index lists have so many shards of a width, one behind the other.
 fn are(rt: &impl Abort, inner: u64, block: u64, count: u64, width: u64) {
-    assert!(rt; block > 0);
     let shards = Shards::of(inner, block);
     let mut first = 0u64;
     for shard in 0..shards.count() {

@@ -31,7 +31,7 @@ returns-clause-tensor g c =
     c.in_ok-parts.ensures.term c.in_ok-parts.ensures.inputs c.args.dims.now c.requires.dims
     c.inner-inner.result c.args.cut.width c.size-values.result c.count-count.result
     (shards_in c.of-shards.result) c.deref.result.now c.reducer_of.result c.new.result
-    c.requires.parts c.inner-inner.ensures c.args.cut.wide c.of-shards.ensures.shards
+    c.requires.parts c.inner-inner.ensures c.of-shards.ensures.shards
     c.size-values.ensures.value c.count-count.ensures.count
     (c.deref.ensures.value ∙ c.in_ok-found.ensures.items) c.reducer_of.ensures
     (c.new.ensures.dims ∙ c.copied.ensures) (c.new.ensures.values ∙ c.in_ok-combined.ensures)
