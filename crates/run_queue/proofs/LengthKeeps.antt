@@ -12,7 +12,7 @@ use Rattle.run_queue.specs.declared.slot_rows.view.View.{View}
 use Rattle.run_queue.specs.Bag.{total}
 use Rattle.run_queue.specs.Lengths.{length_word, owed_to}
 use Rattle.run_queue.specs.Lengths.{job_in_row}
-use Rattle.run_queue.specs.Views.{view_of, nothing}
+use Rattle.run_queue.specs.Views.{owing, nothing}
 use Rattle.run_queue.specs.RowTable.{KeepsAccount}
 use Rattle.run_queue.specs.Plays.{Sat, raises}
 use Rattle.run_queue.specs.Plays.{lowers}
@@ -68,8 +68,7 @@ module _ {J : Type 0} where
   raise_keeps {c} n id me k i near is live works owes_none s a wide at _ =
       let m : ℕ = length s.homes in
       let r : ℕ = i / 1024 in
-      let w : View J =
-      view_of me.0.parts me.0.puts me.0.takes me.0.busy me.0.busy me.0.notes in
+      let w : View J = owing me.0 me.0.busy in
       let wide' : m ≡ n = wide in
       let low : r ≤ m / 1024 = omega arith in
       let small = length_small s a r low in
@@ -87,17 +86,17 @@ module _ {J : Type 0} where
         tt,
         counted s a r ((y + 1) % 2 ^ 64) id me.0 w low at refl live refl refl refl more
             (λ j ne. ap (owed_to j) works ∙ in_row_other j i ne ∙ sym (ap (owed_to j) owes_none)),
-        (refl, refl),
+        (i, works, ap (λ x. length_word x r) wide, refl, refl, refl),
       )
 
   pub lower_keeps : {c : ℕ} (n id : ℕ) (me : Sat J) (k i : ℕ) → i < n
-      → k ≡ length_word n (i / 1024) → 0 < me.0.parts → me.0.owes ≡ Some i
+      → k ≡ length_word n (i / 1024) → 0 < me.0.parts → me.0.busy ≡ None → me.0.owes ≡ Some i
       → Allows (KeepsAccount c) n id me k (λ y. (y + (2 ^ 64 - 1)) % 2 ^ 64)
       (lowers (step n k 1 0 none) me)
-  lower_keeps {c} n id me k i near is live owed s a wide at _ =
+  lower_keeps {c} n id me k i near is live rests owed s a wide at _ =
       let m : ℕ = length s.homes in
       let r : ℕ = i / 1024 in
-      let w : View J = view_of me.0.parts me.0.puts me.0.takes me.0.busy None me.0.notes in
+      let w : View J = owing me.0 None in
       let wide' : m ≡ n = wide in
       let low : r ≤ m / 1024 = omega arith in
       let small = length_small s a r low in
@@ -116,5 +115,5 @@ module _ {J : Type 0} where
         tt,
         counted s a r ((y + (2 ^ 64 - 1)) % 2 ^ 64) id me.0 w low at refl live refl refl refl less
             (λ j ne. sym (ap (owed_to j) owed ∙ in_row_other j i ne)),
-        (refl, refl),
+        (i, rests, owed, ap (λ x. length_word x r) wide, refl, refl, refl),
       )

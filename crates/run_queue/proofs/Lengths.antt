@@ -9,7 +9,7 @@ use lib.ListN.{get_elem?}
 use Rattle.atomic_table.specs.Table.{Allows, step, keeps}
 use Rattle.run_queue.specs.declared.slot_rows.view.Notes.{Notes}
 use Rattle.run_queue.specs.Elements.{Phase, empty, busy, ready, word_of, home_of}
-use Rattle.run_queue.specs.Lengths.{length_word, row_of_length, in_row, total_at, ready_in_row}
+use Rattle.run_queue.specs.Lengths.{length_word, in_row, total_at, ready_in_row}
 use Rattle.run_queue.specs.Lengths.{job_in_row}
 use Rattle.run_queue.specs.Plays.{Sat, looks}
 use Rattle.run_queue.specs.Views.{looked_at, noted}
@@ -118,9 +118,9 @@ module _ {J : Type 0} where
       → k ≡ length_word n row → 0 < me.0.parts
       → Allows (KeepsAccount c) n id me k (λ y. y) (looks c (step n k 0 0 none) me)
   look_keeps {c} n id me k row low is live s r wide at _ =
-      let t : Notes = looked_at (row_of_length n k) (get_or s.words k 0) me.0.notes in
+      let t : Notes = looked_at row (get_or s.words k 0) me.0.notes in
       let low' : row < length s.homes / 1024 = subst (λ m. row < m / 1024) (sym wide) low in
       let here : length_word (length s.homes) row ≡ k = ap (λ m. length_word m row) wide ∙ sym is in
       let few : get_or s.words k 0 ≤ 1024 + c =
       subst (λ m. get_or s.words m 0 ≤ 1024 + c) here (are_bounded c s r row low') in
-      (noted me.0 t, keeps, tt, stays s r k id me.0 t live at, (refl, refl, few))
+      (noted me.0 t, keeps, tt, stays s r k id me.0 t live at, (row, is, refl, refl, few))

@@ -1,5 +1,5 @@
 -- The lengths of rows: where their words lie, and what they count.
-use Rattle.std.specs.Prelude.{ℕ, suc, ◌+◌, ◌-◌, ◌*◌, ◌/◌, ◌==◌, if◌then◌else◌, List, [], ◌∷◌}
+use Rattle.std.specs.Prelude.{ℕ, suc, ◌+◌, ◌*◌, ◌==◌, if◌then◌else◌, List, [], ◌∷◌}
 use Rattle.std.specs.Prelude.{Option, Some, None}
 use mathlib.Core.Option.{some, none}
 use mathlib.Core.Option as maybe
@@ -14,10 +14,6 @@ line_words = 8
 -- line behind the one before it, or behind the last element
 abbrev pub length_word : ℕ → ℕ → ℕ
 length_word elements row = elements + line_words * (row + 1)
-
--- the row whose length is in a word
-abbrev pub row_of_length : ℕ → ℕ → ℕ
-row_of_length elements word = (word - elements) / line_words - 1
 
 -- 1 where the element is of the row, and else 0
 abbrev pub in_row : ℕ → ℕ → ℕ

@@ -2,9 +2,10 @@
 use Rattle.std.specs.Prelude.{◌≡◌, ◌≢◌, ◌≤◌, ℕ, ◌+◌, [], ◌∷◌, ◌++◌, Option, Some, None}
 use Rattle.atomic_table.specs.Table.{Me, Step, rest}
 use Rattle.run_queue.specs.declared.slot_rows.view.View.{View}
-use Rattle.run_queue.specs.Views.{claimed, looked_at, moved, view_of, noted, nothing}
-use Rattle.run_queue.specs.Lengths.{row_of_length}
+use Rattle.run_queue.specs.Views.{claimed, looked_at, moved, view_of, noted, owing, nothing}
+use Rattle.run_queue.specs.Lengths.{length_word}
 use Rattle.run_queue.specs.Limits.{most_jobs}
+use Rattle.run_queue.specs.Positions.{row_with}
 
 -- a seat's view, and the slots that it holds
 abbrev pub Sat : Type 0 → Type 0
@@ -14,6 +15,10 @@ abbrev pub Told : Type 0 → Type 1
 Told J = Step (Option J) → Sat J → ℕ → Sat J → Type 0
 
 module _ {J : Type 0} where
+  -- the step is on the word with the length of the row
+  abbrev pub OnLengthOf : ℕ → Step (Option J) → Type 0
+  OnLengthOf row step = step.word ≡ length_word step.slots row
+
   -- a claim that found another word than it wanted is counted, and that is all
   abbrev pub misses : Told J
   misses step before found after =
@@ -29,12 +34,11 @@ module _ {J : Type 0} where
       × (after.1 ≡ (step.word, None) ∷ before.1))
       × (found ≢ step.first → misses step before found after)
 
-  -- the length of the row of the element that the seat has is raised
+  -- the length of the row of the element that the seat has is raised by one, in its own word
   abbrev pub raises : Told J
   raises step before found after =
-      (after.0
-      ≡ view_of before.0.parts before.0.puts before.0.takes before.0.busy before.0.busy
-      before.0.notes)
+      (element : ℕ) × (before.0.busy ≡ Some element) × OnLengthOf (row_with element) step
+      × (step.first ≡ 1) × (after.0 ≡ owing before.0 before.0.busy)
       × (after.1 ≡ before.1)
 
   -- the element that the seat has is given back with a job, which is put
@@ -64,18 +68,20 @@ module _ {J : Type 0} where
       ≡ view_of before.0.parts before.0.puts before.0.takes None before.0.owes before.0.notes)
       × (after.1 ≡ rest before.1)
 
-  -- the length of the row that the seat took a job out of is lowered
+  -- the length of the row that the seat took a job out of is lowered by one, in its own word,
+  -- once the seat has given the element back
   abbrev pub lowers : Told J
   lowers step before found after =
-      (after.0
-      ≡ view_of before.0.parts before.0.puts before.0.takes before.0.busy None before.0.notes)
+      (element : ℕ) × (before.0.busy ≡ None) × (before.0.owes ≡ Some element)
+      × OnLengthOf (row_with element) step × (step.first ≡ 1) × (after.0 ≡ owing before.0 None)
       × (after.1 ≡ before.1)
 
-  -- a length is looked at: it is at most a row's most jobs and one for each seat
+  -- a row's length is looked at, in its own word: it is at most a row's most jobs and one for
+  -- each seat
   abbrev pub looks : ℕ → Told J
   looks seats step before found after =
-      (after.0
-      ≡ noted before.0 (looked_at (row_of_length step.slots step.word) found before.0.notes))
+      (row : ℕ) × OnLengthOf row step
+      × (after.0 ≡ noted before.0 (looked_at row found before.0.notes))
       × (after.1 ≡ before.1) × (found ≤ most_jobs + seats)
 
   -- the new seat has no account

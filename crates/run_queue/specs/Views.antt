@@ -74,6 +74,10 @@ module _ {J : Type 0} where
   abbrev pub noted : View J → Notes → View J
   noted view notes = view_of view.parts view.puts view.takes view.busy view.owes notes
 
+  -- the same view, which owes the row of this element, or none
+  abbrev pub owing : View J → Option ℕ → View J
+  owing view owes = view_of view.parts view.puts view.takes view.busy owes view.notes
+
   -- so many seats' accounts, with nothing in them
   abbrev pub fresh : ℕ → View J
   fresh parts = view_of parts [] [] None None no_notes

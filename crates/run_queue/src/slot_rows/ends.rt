@@ -37,7 +37,7 @@ impl<J, A: Allocator> SlotRows<J, A> {
         ensures stays { OnErr result (front_of seat.new ≡ front_of seat.old) }
         ensures looks { looks_of seat.new ≡ looks_of seat.old }
     {
-        let element = seat.number as usize * ROW_JOBS + seat.front;
+        let element = self.element(seat.number as usize, seat.front);
         let pushed = self.push_at::<MovesUp>(&mut seat.held, element, job);
         if pushed.is_ok() {
             seat.front = (seat.front + 1) % ROW_JOBS;
@@ -62,7 +62,7 @@ impl<J, A: Allocator> SlotRows<J, A> {
         ensures looks { looks_of seat.new ≡ looks_of seat.old }
     {
         let before = (seat.front + ROW_JOBS - 1) % ROW_JOBS;
-        let element = seat.number as usize * ROW_JOBS + before;
+        let element = self.element(seat.number as usize, before);
         let popped = self.pop_at::<MovesDown>(&mut seat.held, element);
         if popped.is_some() {
             seat.front = before;
@@ -94,7 +94,7 @@ impl<J, A: Allocator> SlotRows<J, A> {
     {
         let mut back = self.backs[usize::from(row)].lock(rt);
         let before = (back.at + ROW_JOBS - 1) % ROW_JOBS;
-        let element = usize::from(row) * ROW_JOBS + before;
+        let element = self.element(usize::from(row), before);
         let pushed = self.push_at::<Stays>(&mut seat.held, element, job);
         if pushed.is_ok() {
             back.at = before;
@@ -118,7 +118,7 @@ impl<J, A: Allocator> SlotRows<J, A> {
     {
         let mut back = self.backs[usize::from(row)].lock(rt);
         let at = back.at;
-        let element = usize::from(row) * ROW_JOBS + at;
+        let element = self.element(usize::from(row), at);
         let popped = self.pop_at::<Stays>(&mut seat.held, element);
         if popped.is_some() {
             back.at = (at + 1) % ROW_JOBS;

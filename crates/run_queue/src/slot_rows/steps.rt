@@ -1,11 +1,12 @@
-//! What is done to one element.
-ghost use Rattle.std.specs.Prelude.{◌≡◌, ◌<◌, ◌≤◌, ◌+◌, ◌++◌, option_to_list};
+//! What is done to one element, and to the length of its row.
+ghost use Rattle.std.specs.Prelude.{◌≡◌, ◌<◌, ◌≤◌, ◌+◌, ◌++◌, option_to_list, Some, None};
 ghost use Rattle.std.specs.Prelude.{IfErr, OnOk, OnErr, OnSome, IfNone};
 ghost use Rattle.run_queue.specs.Account.{AddsIfOk};
 ghost use Rattle.run_queue.specs.Elements.{empty_word, ready_word};
 ghost use Rattle.run_queue.specs.Lengths.{length_word};
 ghost use Rattle.run_queue.specs.Limits.{most_jobs};
-ghost use Rattle.run_queue.specs.Views.{Hit, Missed, looked_at};
+ghost use Rattle.run_queue.specs.Positions.{element_at};
+ghost use Rattle.run_queue.specs.Views.{Hit, Missed, looked_at, owing};
 ghost use Rattle.run_queue.specs.SlotSeats.{elements_of, row_count_of, seat_count_of, rows_id};
 ghost use Rattle.run_queue.specs.SlotSeats.{held_id, puts_in, takes_in, notes_in};
 
@@ -16,6 +17,8 @@ use crate::slot_rows::plays::{
 };
 use crate::slot_rows::rule::{BUSY, EMPTY, LINE_WORDS, READY};
 use crate::slot_rows::seat::Held;
+use crate::slot_rows::view::View;
+use atomic_table::Seat;
 use std::alloc::Allocator;
 
 impl<J, A: Allocator> SlotRows<J, A> {
@@ -25,6 +28,46 @@ impl<J, A: Allocator> SlotRows<J, A> {
         ensures { result ≡ length_word (elements_of self.now) row }
     {
         self.table.slot_count() + LINE_WORDS * (row + 1)
+    }
+
+    // The element at a position of a row.
+    pub(crate) fn element(&self, row: usize, position: usize) -> usize
+        requires row { row < row_count_of self.now }
+        requires position { position < most_jobs }
+        ensures at { result ≡ element_at row position }
+        ensures near { result < elements_of self.now }
+    {
+        row * ROW_JOBS + position
+    }
+
+    // Raises the length of the row of an element on which the seat works.
+    fn raise(&self, seat: &mut Seat<Option<J>, View<J>>, element: usize)
+        requires of { seat.old.table_id ≡ rows_id self.now }
+        requires near { element < elements_of self.now }
+        requires one_part { seat.old.me.0.parts ≡ 1 }
+        requires works { seat.old.me.0.busy ≡ Some element }
+        requires none_owed { seat.old.me.0.owes ≡ None }
+        ensures of { seat.new.table_id ≡ seat.old.table_id }
+        ensures owes { seat.new.me.0 ≡ owing seat.old.me.0 (Some element) }
+        ensures held { seat.new.me.1 ≡ seat.old.me.1 }
+    {
+        let word = self.length_word(element / ROW_JOBS);
+        self.table.shared.fetch_add::<Raises>(seat, word, 1);
+    }
+
+    // Lowers the length of the row of an element that the seat took a job out of and gave back.
+    fn lower(&self, seat: &mut Seat<Option<J>, View<J>>, element: usize)
+        requires of { seat.old.table_id ≡ rows_id self.now }
+        requires near { element < elements_of self.now }
+        requires one_part { seat.old.me.0.parts ≡ 1 }
+        requires given_back { seat.old.me.0.busy ≡ None }
+        requires owed { seat.old.me.0.owes ≡ Some element }
+        ensures of { seat.new.table_id ≡ seat.old.table_id }
+        ensures none_owed { seat.new.me.0 ≡ owing seat.old.me.0 None }
+        ensures held { seat.new.me.1 ≡ seat.old.me.1 }
+    {
+        let word = self.length_word(element / ROW_JOBS);
+        self.table.shared.fetch_sub::<Lowers>(seat, word, 1);
     }
 
     // Loads the length of a row.
@@ -66,7 +109,7 @@ impl<J, A: Allocator> SlotRows<J, A> {
         if shared.compare_exchange::<ClaimsIn<M>>(seat, element, EMPTY, BUSY) != EMPTY {
             return Err(job);
         }
-        shared.fetch_add::<Raises>(seat, self.length_word(element / ROW_JOBS), 1);
+        self.raise(seat, element);
         let before = shared.exchange(seat, element, Some(job));
         let None = before else { unreachable!() };
         shared.store::<MakesReady>(seat, element, READY);
@@ -93,7 +136,7 @@ impl<J, A: Allocator> SlotRows<J, A> {
         }
         let job = shared.exchange(seat, element, None);
         shared.store::<MakesEmpty>(seat, element, EMPTY);
-        shared.fetch_sub::<Lowers>(seat, self.length_word(element / ROW_JOBS), 1);
+        self.lower(seat, element);
         Some(job.unwrap())
     }
 }

@@ -6,15 +6,15 @@ use Rattle.run_queue.proofs.locked_rows.LockedRowsRows.open.Goals as goal
 
 pub returns-in_err-new-clause-too_many : goal.returns-in_err-new-clause-too_many
 returns-in_err-new-clause-too_many g c =
-    not_too_many _ _ c.if-rows-gt-MOST_ROWS.false c.from_residual.ensures.1
+    not_too_many _ _ (omega arith) c.from_residual.ensures.1
 
 pub returns-in_err-seats-clause-too_many : goal.returns-in_err-seats-clause-too_many
 returns-in_err-seats-clause-too_many g c =
-    not_too_many _ _ c.if-rows-gt-MOST_ROWS.false c.from_residual-in_err-seats.ensures.1
+    not_too_many _ _ (omega arith) c.from_residual-in_err-seats.ensures.1
 
 pub returns-clause-too_many : goal.returns-clause-too_many
 returns-clause-too_many g c =
-    (λ e. cc, λ many. absurd (omega (arith, many, c.if-rows-gt-MOST_ROWS.false)))
+    (λ e. cc, λ many. absurd (omega (arith, many)))
 
 pub returns-clause-numbers : goal.returns-clause-numbers
 returns-clause-numbers g c =

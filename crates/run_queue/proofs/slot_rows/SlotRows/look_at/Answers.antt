@@ -1,5 +1,6 @@
 -- A look is always allowed.
-use Rattle.std.proofs.Common.{rules, subst, ◌<◌, sym, arith}
+use Rattle.std.proofs.Common.{rules, subst, ◌≡◌, ◌<◌, ◌∙◌, ap, sym, arith}
+use Rattle.run_queue.specs.Views.{looked_at}
 use Rattle.run_queue.proofs.Lengths.{look_keeps}
 use Rattle.run_queue.proofs.slot_rows.SlotRows.look_at.Goals as goal
 
@@ -10,5 +11,12 @@ load-requires g c =
       search rules,
       search rules,
       rw c.requires.seats (look_keeps _ _ _ _ c.args.row (omega (arith, c.requires.row))
-          c.length_word-word.ensures live),
+          (omega arith) live),
     )
+
+pub returns-clause-looked : goal.returns-clause-looked
+returns-clause-looked g c =
+    let told = c.load.ensures.2 in
+    let same : told.0 ≡ c.args.row = omega (arith, told.1) in
+    ap (λ v. v.notes) told.2
+    ∙ ap (λ row. looked_at row c.load.result c.args.held.now.seat.me.0.notes) same

@@ -5,15 +5,15 @@ use Rattle.run_queue.proofs.slot_rows.SlotRows.open.Goals as goal
 
 pub returns-in_err-backs-clause-too_many : goal.returns-in_err-backs-clause-too_many
 returns-in_err-backs-clause-too_many g c =
-    not_too_many _ _ c.if-rows-gt-MOST_ROWS.false c.from_residual.ensures.1
+    not_too_many _ _ (omega arith) c.from_residual.ensures.1
 
 pub returns-in_err-left-clause-too_many : goal.returns-in_err-left-clause-too_many
 returns-in_err-left-clause-too_many g c =
-    not_too_many _ _ c.if-rows-gt-MOST_ROWS.false c.from_residual-in_err-left.ensures.1
+    not_too_many _ _ (omega arith) c.from_residual-in_err-left.ensures.1
 
 pub returns-in_err-table-clause-too_many : goal.returns-in_err-table-clause-too_many
 returns-in_err-table-clause-too_many g c =
-    not_too_many _ _ c.if-rows-gt-MOST_ROWS.false c.from_residual-in_err-table.ensures.1
+    not_too_many _ _ (omega arith) c.from_residual-in_err-table.ensures.1
 
 pub invariant_of-result : goal.invariant_of-result
 invariant_of-result g c =
