@@ -1,6 +1,6 @@
 -- The Worlds of a count behind a lock.
-use Rattle.std.proofs.Common.{◌≡◌, ℕ, ◌<◌, ◌≤◌, ◌^◌, Bool, true, false, List, [], ◌∷◌, length, sym}
-use Rattle.std.proofs.Common.{ap, refl, ◌∙◌, subst, ⊎_elim, arith, get_or-set_same}
+use Rattle.std.proofs.Common.{◌≡◌, ℕ, ◌+◌, ◌<◌, ◌≤◌, ◌^◌, Bool, true, false, List, [], ◌∷◌, length}
+use Rattle.std.proofs.Common.{sym, ap, refl, ◌∙◌, subst, ⊎_elim, arith, get_or-set_same}
 use Rattle.std.proofs.lemmas.Bool.{cases_lt}
 use Rattle.std.proofs.lemmas.List.{get_or_past}
 use Rattle.event_word.specs.declared.phase.Phase.TheVariants.{Ended}
@@ -10,40 +10,32 @@ use Rattle.event_word.specs.Lists.{times}
 use Rattle.event_word.specs.World.{World, owed_by}
 use Rattle.event_word.specs.Step.{Possible, effect, unpark}
 use Rattle.event_word.specs.Play.{IsStep}
-use Rattle.event_word.specs.Lawful.{sleeps, Lawful, HasSizes}
+use Rattle.event_word.specs.Lawful.{sleeps}
 use Rattle.event_word.specs.Shown.{top_of}
 use Rattle.event_word.proofs.Lists.{one_if-same}
+use Rattle.event_word.proofs.Histories.{lawful_history}
 use Rattle.event_word.proofs.Keeps.{lawful_effect}
 use Rattle.event_word.proofs.Frames.{frames_effect}
 use Rattle.event_count.specs.Limits.{most_waiters}
+use Rattle.event_count.specs.declared.rule.Sizes.{Sizes}
+use Rattle.event_count.specs.Known.{first_world}
 use Rattle.event_count.specs.LockedCount.{IsCountWorld, unparked, settled}
 
--- a lawful World without rows whose entries are counted
-of_sizes : (workers actors : ℕ) (w : World) → Lawful w → HasSizes workers actors 0 w
-    → workers ≤ most_waiters → IsCountWorld w
-of_sizes workers actors w lawful s few = record {
-  lawful = lawful;
-  sizes = record {
-    phases = refl;
-    flags = s.flags ∙ sym s.phases;
-    passed = s.passed ∙ sym s.phases;
-    passed_rows = λ seat h. let same = s.phases in s.passed_rows seat (omega arith);
-    owed = refl;
-    announcing = s.announcing ∙ sym s.owed;
-    tokens = s.tokens ∙ sym s.phases;
-    lengths = s.lengths;
-  };
-  few = let same = s.phases in omega arith;
-}
+-- the first World is one
+pub IsCountWorld-first : (k : Sizes) → k.waiters ≤ most_waiters → IsCountWorld k (first_world k)
+IsCountWorld-first k few =
+    let first = lawful_history k.waiters k.notifiers 0 [] (first_world k) refl in
+    record { lawful = first.0; sizes = first.1; few = few }
 
 -- a step leads from such a World to one
-pub IsCountWorld-step : (w : World) (e : Event) (b : Bool) (u : World) → IsCountWorld w
-    → IsStep w e b u → IsCountWorld u
-IsCountWorld-step w e true u c p = subst IsCountWorld (sym p.1)
-    (of_sizes (length w.phases) (length w.owed) (effect w e)
-    (lawful_effect w e c.sizes.tokens c.lawful p.0)
-    ((frames_effect w e).sizes (length w.phases) (length w.owed) 0 c.sizes) c.few)
-IsCountWorld-step w e false u c p = subst IsCountWorld (sym p.1) c
+pub IsCountWorld-step : (k : Sizes) (w : World) (e : Event) (b : Bool) (u : World)
+    → IsCountWorld k w → IsStep w e b u → IsCountWorld k u
+IsCountWorld-step k w e true u c p = subst (IsCountWorld k) (sym p.1) record {
+  lawful = lawful_effect w e (c.sizes.tokens ∙ sym c.sizes.phases) c.lawful p.0;
+  sizes = (frames_effect w e).sizes k.waiters (k.waiters + k.notifiers) 0 c.sizes;
+  few = c.few;
+}
+IsCountWorld-step k w e false u c p = subst (IsCountWorld k) (sym p.1) c
 
 module _ (w : World) (actor : ℕ) where
   module _ (seat : ℕ) (rest : List ℕ) (is : owed_by w actor ≡ seat ∷ rest) where
@@ -96,7 +88,7 @@ module _ (w : World) (actor : ℕ) where
   pub settled-none : (Possible w (Unpark actor) → ⊥) → settled w actor ≡ w
   settled-none = none-by (owed_by w actor) refl
 
-module _ (w : World) (c : IsCountWorld w) where
+module _ (k : Sizes) (w : World) (c : IsCountWorld k w) where
   -- a seat on the stack is a waiter
   on_stack : (seat : ℕ) → 0 < times seat w.stack → seat < length w.phases
   on_stack seat some = ⊎_elim (λ less. less)
@@ -108,7 +100,8 @@ module _ (w : World) (c : IsCountWorld w) where
   top-by [] is = omega arith
   top-by (seat ∷ rest) is =
       let there = ap (times seat) is in let once = one_if-same seat seat refl in
-      let waiter = on_stack seat (omega arith) in let few = c.few in omega arith
+      let waiter = on_stack seat (omega arith) in let few = c.few in
+      let phases = c.sizes.phases in omega arith
 
   -- the top fits its bits
   pub top_of-fits : top_of w.stack < 2 ^ 14

@@ -1,8 +1,8 @@
--- What the history tells of pushes and wakes.
+-- What the history tells of pushes, of stacks that were taken, and of wakes.
 use Rattle.std.proofs.Common.{◌≡◌, ℕ, ◌+◌, ◌==◌, nat_lt, if◌then◌else◌, Bool, true, false, List, []}
 use Rattle.std.proofs.Common.{◌∷◌, ◌++◌, sym, ap, refl, ◌∙◌, subst, ⊎_elim, arith, ◌-◌}
-use Rattle.std.proofs.Common.{get_or-set_same}
-use Rattle.std.proofs.lemmas.Bool.{cases_lt, lt-ltb, cond-true}
+use Rattle.std.proofs.Common.{get_or-set_same, length, eq-eqb, ne_eqb}
+use Rattle.std.proofs.lemmas.Bool.{cases_eq, cases_lt, lt-ltb, cond-true, cond-false}
 use Rattle.std.proofs.lemmas.List.Elements.{All-weaker}
 use Rattle.event_word.specs.declared.event.Event.{Event}
 use Rattle.event_word.specs.declared.event.Event.TheVariants.{Publish, Prewait, Pass, PassFlag}
@@ -10,17 +10,21 @@ use Rattle.event_word.specs.declared.event.Event.TheVariants.{Cancel, Commit, No
 use Rattle.event_word.specs.declared.event.Event.TheVariants.{Unpark, Wake, Take, Stop, End}
 use Rattle.event_word.specs.declared.phase.Phase.TheVariants.{Running, Stacked, Ended}
 use Rattle.event_word.specs.Lists.{one_if}
-use Rattle.event_word.specs.World.{World, phase_of}
+use Rattle.event_word.specs.Fields.{fields_of}
+use Rattle.event_word.specs.World.{World, phase_of, owed_by}
 use Rattle.event_word.specs.Step.{Possible, actor_of, effect, leave, park}
 use Rattle.event_word.specs.Runs.{Runs}
 use Rattle.event_word.specs.Balance.{wake_of, over}
 use Rattle.event_word.proofs.Keeps.{pre_known}
+use Rattle.event_word.proofs.Frames.{alone_effect}
 use Rattle.event_word.proofs.Balancing.{balance}
 use Rattle.event_count.specs.declared.rule.Sizes.{Sizes}
 use Rattle.event_count.specs.declared.view.Card.{Card}
 use Rattle.event_count.specs.Known.{first_world, events_of, Agrees}
+use Rattle.event_count.specs.Shown.{CountState, Shows}
 use Rattle.event_count.specs.Counts.{wakes_in, CardCounts}
-use Rattle.event_count.specs.Laws.{SeatsStandOnce, PushesFoundNoSignal, CountsFollow}
+use Rattle.event_count.specs.Laws.{SeatsStandOnce, ExchangesFoundNoSignal, CommitsFoundNoSignal}
+use Rattle.event_count.specs.Laws.{TakenStacksAreOwed, CountsFollow}
 use Rattle.event_count.proofs.Closing.{is_lawful, sleeps-cases}
 
 pub stand_once : SeatsStandOnce
@@ -28,12 +32,19 @@ stand_once k s history w r seat =
     let stands = (is_lawful k s (history, w, r)).0.standing seat in
     let few = (sleeps-cases (phase_of w seat)).0 in omega arith
 
--- what a run leads to is possible next, if the run goes on so
-Runs-next : (w : World) (before after : List Event) (e : Event) (u last : World)
-    → Runs w before u → Runs w (before ++ e ∷ after) last → Possible u e
-Runs-next w [] after e u last r whole = subst (λ x. Possible x e) r whole.0
-Runs-next w (x ∷ before) after e u last r whole =
-    Runs-next (effect w x) before after e u last r.1 whole.1
+-- a run that goes on beyond a World goes on from there
+Runs-rest : (w : World) (before after : List Event) (u last : World) → Runs w before u
+    → Runs w (before ++ after) last → Runs u after last
+Runs-rest w [] after u last r whole = subst (λ x. Runs x after last) r whole
+Runs-rest w (x ∷ before) after u last r whole =
+    Runs-rest (effect w x) before after u last r.1 whole.1
+
+-- in a history that is shown, what comes after a World is a run from there
+rest_of : (k : Sizes) (s : CountState) (history : List Event) (w : World) → Shows k s history w
+    → (before after : List Event) (u : World) → history ≡ before ++ after
+    → Runs (first_world k) before u → Runs u after w
+rest_of k s history w r before after u is runs = Runs-rest (first_world k) before after u w runs
+    (subst (λ h. Runs (first_world k) h w) is r.runs)
 
 -- a commit that leaves its seat stacked found no signal
 pushed_by_none : (u : World) (seat : ℕ) → Possible u (Commit seat)
@@ -47,10 +58,43 @@ pushed_by_none u seat may stacked = ⊎_elim
     (λ none. omega arith)
     (cases_lt 0 u.signals)
 
-pub found_no_signal : PushesFoundNoSignal
-found_no_signal k s history w r before after seat u is runs stacked = pushed_by_none u seat
-    (Runs-next (first_world k) before after (Commit seat) u w runs
-    (subst (λ h. Runs (first_world k) h w) is r.runs)) stacked
+pub exchanges_found : ExchangesFoundNoSignal
+exchanges_found c d word (offered, next, offers, hits) =
+    let found = ap (λ x. x.exchange.found) hits in (found, ap (λ n. (fields_of n).signals) found ∙ offers.1.0)
+
+pub commits_found : CommitsFoundNoSignal
+commits_found k s history w r before after seat u is runs stacked = pushed_by_none u seat
+    (rest_of k s history w r before (Commit seat ∷ after) u is runs).0 stacked
+
+-- events of others leave what a seat owes
+owed_kept : (n : ℕ) (w : World) (events : List Event) (u : World) → events_of n events ≡ []
+    → Runs w events u → owed_by u n ≡ owed_by w n
+owed_kept n w [] u none runs = ap (λ x. owed_by x n) (sym runs)
+owed_kept n w (e ∷ events) u none runs = ⊎_elim
+    (λ eq. let mine = cond-true (actor_of e == n) (e ∷ events_of n events) (events_of n events)
+    (eq-eqb (actor_of e) n eq) in
+    let some = ap length (sym mine ∙ none) in absurd (omega arith))
+    (λ ne. let theirs = cond-false (actor_of e == n) (e ∷ events_of n events) (events_of n events)
+    (ne_eqb (actor_of e) n ne) in
+    owed_kept n (effect w e) events u (sym theirs ∙ none) runs.1
+    ∙ (alone_effect n w e (λ is. ne (sym is))).owed)
+    (cases_eq (actor_of e) n)
+
+-- a notification of all leaves its actor the stack
+owed_all : (u : World) (actor : ℕ) → Possible u (NotifyAll actor)
+    → owed_by (effect u (NotifyAll actor)) actor ≡ u.stack
+owed_all u actor may =
+    get_or-set_same u.owed actor (owed_by u actor ++ u.stack) [] may.known
+    ∙ ap (λ seats. seats ++ u.stack) may.owes_none
+
+pub stacks_are_owed : TakenStacksAreOwed
+stacks_are_owed k s history w r before after actor u is runs none id v at =
+    let rest = rest_of k s history w r before (NotifyAll actor ∷ after) u is runs in
+    let owes = owed_kept actor (effect u (NotifyAll actor)) after w none rest.1
+    ∙ owed_all u actor rest.0 in
+    All-weaker (Agrees k history w) (λ c. c.number ≡ actor → c.owing ≡ u.stack)
+    (λ c agrees mine. agrees.owing ∙ (ap (λ n. owed_by w n) mine ∙ owes)) v.cards
+    (r.known id v at)
 
 -- the wakes of a seat are those of its own events
 module _ (n : ℕ) where

@@ -1,9 +1,8 @@
--- The steps on the state word that leave the stack keep the rule.
-use Rattle.std.proofs.Common.{◌≡◌, ℕ, ◌+◌, ◌<◌, ◌%◌, ◌^◌, ◌==◌, [], ◌∷◌, sym, ap, refl, ◌∙◌}
+-- The steps on the state word that leave the stack add their events, and so keep the rule.
+use Rattle.std.proofs.Common.{◌≡◌, ℕ, ◌+◌, ◌<◌, ◌%◌, ◌^◌, [], ◌∷◌, sym, ap, refl, ◌∙◌}
 use Rattle.std.proofs.Common.{slice_index, arith}
 use mathlib.Core.Option.{none}
-use prog.Atomic.{either}
-use Rattle.atomic_table.specs.Table.{step, keeps, Allows}
+use Rattle.atomic_table.specs.Table.{step, Allows}
 use Rattle.event_word.specs.declared.phase.Phase.TheVariants.{Running, Pre}
 use Rattle.event_word.specs.declared.event.Event.TheVariants.{Prewait, PassFlag, Cancel, Commit}
 use Rattle.event_word.specs.declared.event.Event.TheVariants.{Notify}
@@ -15,7 +14,7 @@ use Rattle.event_count.specs.declared.rule.Sizes.{Sizes}
 use Rattle.event_count.specs.declared.view.Card.{Card}
 use Rattle.event_count.specs.Cards.{exchange_of, only, card_in}
 use Rattle.event_count.specs.Gains.{looking, prewaiting, consuming, cancelling, signalling}
-use Rattle.event_count.specs.Plays.{Sat, exchanges, looks, prewaits, consumes, cancels, signals}
+use Rattle.event_count.specs.Plays.{Sat, looks, prewaits, consumes, cancels, signals}
 use Rattle.event_count.specs.Shown.{ShowsWorld}
 use Rattle.event_count.specs.Written.{shown_fields}
 use Rattle.event_count.specs.Known.{next_epoch}
@@ -24,7 +23,8 @@ use Rattle.event_count.proofs.Steps.{fits_none, epochs_after}
 use Rattle.event_count.proofs.Events.{few_pre, prewait_fits, prewait_shows, taken, consume_fits}
 use Rattle.event_count.proofs.Events.{consume_shows, cancel_fits, cancel_shows, answered}
 use Rattle.event_count.proofs.Events.{signal_fits, signal_shows}
-use Rattle.event_count.proofs.Stepping.{acted, exchange_keeps}
+use Rattle.event_count.proofs.Stepping.{Advances, Exchanging, ExchangeAllowed, allowed, acted}
+use Rattle.event_count.proofs.Stepping.{exchange_adds, exchange_allowed}
 use Rattle.event_count.proofs.Looking.{look_fits, look_past}
 
 module _ (k : Sizes) (slots id : ℕ) (me : Sat) (is : me.0 ≡ only (card_in me.0)) where
@@ -32,14 +32,11 @@ module _ (k : Sizes) (slots id : ℕ) (me : Sat) (is : me.0 ≡ only (card_in me
   abbrev c : Card
   c = card_in me.0
 
-  pub look_keeps : Allows (ShowsWorld k) slots id me STATE (λ n. n)
-      (looks (step slots STATE 0 0 none) me)
-  look_keeps s shows _ at _ =
+  pub look_adds : Advances k slots id me is STATE 0 0 (λ n. n) looks
+  look_adds s shows at _ =
       let word = slice_index s.words STATE in let d = looking c word in
       let history = shows.0 in let w = shows.1 in let r = shows.2 in (
-        only d,
-        keeps,
-        tt,
+        d,
         acted k slots id me is s shows at d (λ ws was. was) [] w word
             (fits_none k s history w r id me.0 c at is d refl refl refl refl refl refl)
             refl refl refl (word_shows k s shows)
@@ -56,17 +53,14 @@ module _ (k : Sizes) (slots id : ℕ) (me : Sat) (is : me.0 ≡ only (card_in me
         (refl, refl, look_fits k s id me.0 c shows at is),
       )
 
-  pub prewait_keeps : c.number < k.waiters → c.phase ≡ Running → c.owing ≡ []
-      → Allows (ShowsWorld k) slots id me STATE (λ n. (n + 16384) % 2 ^ 64)
-      (prewaits (step slots STATE 16384 0 none) me)
-  prewait_keeps waiter running none_owed s shows _ at small =
+  pub prewait_adds : c.number < k.waiters → c.phase ≡ Running → c.owing ≡ []
+      → Advances k slots id me is STATE 16384 0 (λ n. (n + 16384) % 2 ^ 64) prewaits
+  prewait_adds waiter running none_owed s shows at small =
       let history = shows.0 in let w = shows.1 in let r = shows.2 in
       let word = slice_index s.words STATE in let here = word_shows k s shows in
       let pre = ap (λ f. f.pre) here in
       let few = few_pre k s history w r id me.0 c at is in (
-        only (prewaiting c),
-        keeps,
-        tt,
+        prewaiting c,
         acted k slots id me is s shows at (prewaiting c) (λ ws was. was) (Prewait c.number ∷ [])
             (effect w (Prewait c.number))
             ((word + 16384) % 2 ^ 64)
@@ -77,11 +71,10 @@ module _ (k : Sizes) (slots id : ℕ) (me : Sat) (is : me.0 ≡ only (card_in me
         (refl, refl),
       )
 
-  pub consume_keeps : (old new : ℕ) → c.phase ≡ Pre → 0 < (fields_of old).signals
+  pub consume_adds : (old new : ℕ) → c.phase ≡ Pre → 0 < (fields_of old).signals
       → fields_of new ≡ consumed (fields_of old)
-      → Allows (ShowsWorld k) slots id me STATE (λ n. either (n == old) new n)
-      (exchanges consumes (step slots STATE old new none) me)
-  consume_keeps old new pre there offered = exchange_keeps k slots id me is consuming old new
+      → Exchanging k slots id me is consumes old new
+  consume_adds old new pre there offered = exchange_adds k slots id me is consuming old new
       (λ s shows at hit.
       let history = shows.0 in let w = shows.1 in let r = shows.2 in
       let x = exchange_of old new old in let e = (shown_fields s.words).epoch in
@@ -93,10 +86,9 @@ module _ (k : Sizes) (slots id : ℕ) (me : Sat) (is : me.0 ≡ only (card_in me
       (offered ∙ consume_shows k s history w r id me.0 c at is (fields_of old) e here pre
       (omega arith)) (λ was. was))
 
-  pub cancel_keeps : (old new : ℕ) → c.phase ≡ Pre → fields_of new ≡ cancelled (fields_of old)
-      → Allows (ShowsWorld k) slots id me STATE (λ n. either (n == old) new n)
-      (exchanges cancels (step slots STATE old new none) me)
-  cancel_keeps old new pre offered = exchange_keeps k slots id me is cancelling old new
+  pub cancel_adds : (old new : ℕ) → c.phase ≡ Pre → fields_of new ≡ cancelled (fields_of old)
+      → Exchanging k slots id me is cancels old new
+  cancel_adds old new pre offered = exchange_adds k slots id me is cancelling old new
       (λ s shows at hit.
       let history = shows.0 in let w = shows.1 in let r = shows.2 in
       let x = exchange_of old new old in let e = (shown_fields s.words).epoch in
@@ -107,12 +99,11 @@ module _ (k : Sizes) (slots id : ℕ) (me : Sat) (is : me.0 ≡ only (card_in me
       (offered ∙ cancel_shows k s history w r id me.0 c at is (fields_of old) e here pre)
       (λ was. was))
 
-  pub signal_keeps : (old new : ℕ) → c.phase ≡ Running → c.owing ≡ []
+  pub signal_adds : (old new : ℕ) → c.phase ≡ Running → c.owing ≡ []
       → (fields_of old).signals < (fields_of old).pre → fields_of new ≡ signalled (fields_of old)
-      → Allows (ShowsWorld k) slots id me STATE (λ n. either (n == old) new n)
-      (exchanges signals (step slots STATE old new none) me)
-  signal_keeps old new running none_owed room offered =
-      exchange_keeps k slots id me is signalling old new
+      → Exchanging k slots id me is signals old new
+  signal_adds old new running none_owed room offered =
+      exchange_adds k slots id me is signalling old new
       (λ s shows at hit.
       let history = shows.0 in let w = shows.1 in let r = shows.2 in
       let x = exchange_of old new old in let e = (shown_fields s.words).epoch in
@@ -124,3 +115,32 @@ module _ (k : Sizes) (slots id : ℕ) (me : Sat) (is : me.0 ≡ only (card_in me
       refl refl refl
       (offered ∙ signal_shows k s history w r id me.0 c at is (fields_of old) e here
       (omega arith)) (λ was. was))
+
+  pub look_keeps : Allows (ShowsWorld k) slots id me STATE (λ n. n)
+      (looks (step slots STATE 0 0 none) me)
+  look_keeps = allowed k slots id me is STATE 0 0 (λ n. n) looks look_adds
+
+  pub prewait_keeps : c.number < k.waiters → c.phase ≡ Running → c.owing ≡ []
+      → Allows (ShowsWorld k) slots id me STATE (λ n. (n + 16384) % 2 ^ 64)
+      (prewaits (step slots STATE 16384 0 none) me)
+  prewait_keeps waiter running none_owed =
+      allowed k slots id me is STATE 16384 0 (λ n. (n + 16384) % 2 ^ 64) prewaits
+      (prewait_adds waiter running none_owed)
+
+  pub consume_keeps : (old new : ℕ) → c.phase ≡ Pre → 0 < (fields_of old).signals
+      → fields_of new ≡ consumed (fields_of old)
+      → ExchangeAllowed k slots id me is consumes old new
+  consume_keeps old new pre there offered = exchange_allowed k slots id me is consumes old new
+      (consume_adds old new pre there offered)
+
+  pub cancel_keeps : (old new : ℕ) → c.phase ≡ Pre → fields_of new ≡ cancelled (fields_of old)
+      → ExchangeAllowed k slots id me is cancels old new
+  cancel_keeps old new pre offered = exchange_allowed k slots id me is cancels old new
+      (cancel_adds old new pre offered)
+
+  pub signal_keeps : (old new : ℕ) → c.phase ≡ Running → c.owing ≡ []
+      → (fields_of old).signals < (fields_of old).pre → fields_of new ≡ signalled (fields_of old)
+      → ExchangeAllowed k slots id me is signals old new
+  signal_keeps old new running none_owed room offered =
+      exchange_allowed k slots id me is signals old new
+      (signal_adds old new running none_owed room offered)

@@ -1,4 +1,5 @@
 pub mod Acting
+pub mod Adding
 pub mod Cards
 pub mod Closing
 pub mod CountWorlds

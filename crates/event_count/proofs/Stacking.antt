@@ -1,4 +1,4 @@
--- The steps that make the stack keep the rule: a store below it, a push, a read and a pop.
+-- The steps that make the stack add their events, and so keep the rule: a store below it, a push, a read and a pop.
 use Rattle.std.proofs.Common.{◌≢◌, ◌≡◌, ℕ, ◌+◌, ◌<◌, ◌==◌, List, [], ◌∷◌, sym, ap, refl, ◌∙◌, subst}
 use Rattle.std.proofs.Common.{slice_index, arith, ◌++◌, append-nil, slice_set, Some, IfSome, length}
 use Rattle.std.proofs.Common.{zero, suc, ⊎_elim, get_or-set_same}
@@ -6,8 +6,7 @@ use Rattle.std.proofs.lemmas.Bool.{cases_eq, cases_lt}
 use Rattle.std.proofs.lemmas.List.{get_or_past}
 use mathlib.Core.Option.{some, none}
 use lib.ListN.{get_elem?}
-use prog.Atomic.{either}
-use Rattle.atomic_table.specs.Table.{stepped, step, keeps, Allows}
+use Rattle.atomic_table.specs.Table.{step, Allows}
 use Rattle.event_word.specs.declared.phase.Phase.TheVariants.{Running, Pre}
 use Rattle.event_word.specs.declared.event.Event.{Event}
 use Rattle.event_word.specs.declared.event.Event.TheVariants.{PassFlag, Commit, Notify}
@@ -26,7 +25,7 @@ use Rattle.event_count.specs.declared.view.Card.{Card}
 use Rattle.event_count.specs.Places.{next_place}
 use Rattle.event_count.specs.Cards.{exchange_of, only, card_in}
 use Rattle.event_count.specs.Gains.{pushing, popping, reading, storing}
-use Rattle.event_count.specs.Plays.{Sat, exchanges, pushes, pops, reads, stores}
+use Rattle.event_count.specs.Plays.{Sat, pushes, pops, reads, stores}
 use Rattle.event_count.specs.Shown.{CountState, ShowsWorld}
 use Rattle.event_count.specs.Kept.{Knows, IsKept, Links}
 use Rattle.event_count.specs.Written.{Leads, shown_fields, next_fields, Written}
@@ -37,7 +36,8 @@ use Rattle.event_count.proofs.Words.{links_on}
 use Rattle.event_count.proofs.Steps.{acts, fits_none, epochs_after, pushes_none, truth, knowledge}
 use Rattle.event_count.proofs.Events.{law, is_pre, passed, push_fits, push_shows, taken_off}
 use Rattle.event_count.proofs.Events.{pop_fits, pop_shows}
-use Rattle.event_count.proofs.Stepping.{same_epochs, exchange_keeps}
+use Rattle.event_count.proofs.Stepping.{After, Advances, Exchanging, ExchangeAllowed, allowed}
+use Rattle.event_count.proofs.Stepping.{same_epochs, exchange_adds, exchange_allowed}
 
 -- a word that is stored where it stands
 pub set_same : (l : List ℕ) (i : ℕ) → slice_set l i (slice_index l i) ≡ l
@@ -49,10 +49,6 @@ module _ (k : Sizes) (slots id : ℕ) (me : Sat) (is : me.0 ≡ only (card_in me
   -- the card of the seat that steps
   abbrev c : Card
   c = card_in me.0
-
-  -- the table after the word at a place became n, the card d, and no slot was taken
-  abbrev After : CountState → ℕ → ℕ → Card → Type 0
-  After s place n d = ShowsWorld k (stepped s place n id me.1 (only d) keeps)
 
   -- a seat that is no stacked one is not on the stack
   off_stack : (s : CountState) (shows : ShowsWorld k s) (at : get_elem? s.views id ≡ some me.0)
@@ -72,10 +68,9 @@ module _ (k : Sizes) (slots id : ℕ) (me : Sat) (is : me.0 ≡ only (card_in me
       (cases_lt actor (length w.owed))
 
   -- the store of a pre-waiter's own next word
-  pub store_keeps : (n : ℕ) → c.phase ≡ Pre → c.number < k.waiters
-      → Allows (ShowsWorld k) slots id me (next_place c.number) (λ _. n)
-      (λ _. stores (step slots (next_place c.number) n 0 none) me n)
-  store_keeps n pre waiter s shows _ at _ =
+  pub store_adds : (n : ℕ) → c.phase ≡ Pre → c.number < k.waiters
+      → Advances k slots id me is (next_place c.number) n 0 (λ _. n) stores
+  store_adds n pre waiter s shows at _ =
       let history = shows.0 in let w = shows.1 in let r = shows.2 in
       let d = storing c n in let place = next_place c.number in
       let es = next_epoch k history in let es' = next_epoch k (history ++ []) in
@@ -90,28 +85,30 @@ module _ (k : Sizes) (slots id : ℕ) (me : Sat) (is : me.0 ≡ only (card_in me
         next_next s.words n c.number m
             (λ eq. let e = ap (λ j. times j w.stack) eq in absurd (omega arith)),
       )) in (
-        only d,
-        keeps,
-        tt,
-        acts k s history w r id me.0 c at is [] w d place n me.1 f record {
-          written = written_next k s.words es w r.written w es' c.number n refl epochs off;
-          mine = λ was. knows_on s.words words' w w es es' c.number c.stored n c.looked c.next frame
-              (get_or-set_same s.words place n 0 (omega arith)) was;
-          others = λ x ne was.
-              knows_on s.words words' w w es es' x.number x.stored x.stored x.looked x.next frame
-              (next_next s.words n c.number x.number ne ∙ was.stores) was;
-          links = λ was. links_on s.words words' c.linked c.owing
-              (λ m owed. next_next s.words n c.number m (λ eq.
-              let mine = truth k s history w r id me.0 c at is in
-              let off_list = off_owed s shows at pre c.number in
-              let a = ap (λ j. times j c.owing) eq in let b = ap (times c.number) mine.owing in
-              absurd (omega arith))) was;
-          others_links = λ x _ owing was. links_on s.words words' x.linked x.owing
-              (λ m owed. next_next s.words n c.number m (λ eq.
-              let off_list = off_owed s shows at pre x.number in
-              let a = ap (λ j. times j x.owing) eq in let b = ap (times c.number) owing in
-              absurd (omega arith))) was;
-        },
+        d,
+        (
+          [],
+          w,
+          acts k s history w r id me.0 c at is [] w d place n me.1 f record {
+            written = written_next k s.words es w r.written w es' c.number n refl epochs off;
+            mine = λ was. knows_on s.words words' w w es es' c.number c.stored n c.looked c.next frame
+                (get_or-set_same s.words place n 0 (omega arith)) was;
+            others = λ x ne was.
+                knows_on s.words words' w w es es' x.number x.stored x.stored x.looked x.next frame
+                (next_next s.words n c.number x.number ne ∙ was.stores) was;
+            links = λ was. links_on s.words words' c.linked c.owing
+                (λ m owed. next_next s.words n c.number m (λ eq.
+                let mine = truth k s history w r id me.0 c at is in
+                let off_list = off_owed s shows at pre c.number in
+                let a = ap (λ j. times j c.owing) eq in let b = ap (times c.number) mine.owing in
+                absurd (omega arith))) was;
+            others_links = λ x _ owing was. links_on s.words words' x.linked x.owing
+                (λ m owed. next_next s.words n c.number m (λ eq.
+                let off_list = off_owed s shows at pre x.number in
+                let a = ap (λ j. times j x.owing) eq in let b = ap (times c.number) owing in
+                absurd (omega arith))) was;
+          },
+        ),
         (refl, refl),
       )
 
@@ -123,17 +120,17 @@ module _ (k : Sizes) (slots id : ℕ) (me : Sat) (is : me.0 ≡ only (card_in me
   store_keeps_at place n pre waiter at =
       subst (λ p. Allows (ShowsWorld k) slots id me p (λ _. n)
       (λ _. stores (step slots p n 0 none) me n)) (sym at)
-      (λ s shows homes there small. store_keeps n pre
+      (allowed k slots id me is (next_place c.number) n 0 (λ _. n) stores
+      (λ s shows there small. store_adds n pre
       (let t = (truth k s shows.0 shows.1 shows.2 id me.0 c there is).waiters in omega arith)
-      s shows homes there small)
+      s shows there small))
 
   -- a commit that pushes: the next word has the looked stack and epoch
-  pub push_keeps : (old new : ℕ) → c.phase ≡ Pre → (fields_of old).signals ≡ 0
+  pub push_adds : (old new : ℕ) → c.phase ≡ Pre → (fields_of old).signals ≡ 0
       → fields_of new ≡ pushed (fields_of old) c.number c.epoch
       → fields_of c.stored ≡ below (fields_of old)
-      → Allows (ShowsWorld k) slots id me STATE (λ n. either (n == old) new n)
-      (exchanges pushes (step slots STATE old new none) me)
-  push_keeps old new pre none_given offered stored = exchange_keeps k slots id me is pushing old new
+      → Exchanging k slots id me is pushes old new
+  push_adds old new pre none_given offered stored = exchange_adds k slots id me is pushing old new
       (λ s shows at hit.
       let history = shows.0 in let w = shows.1 in let r = shows.2 in
       let x = exchange_of old new old in let e = (shown_fields s.words).epoch in
@@ -157,30 +154,32 @@ module _ (k : Sizes) (slots id : ℕ) (me : Sat) (is : me.0 ≡ only (card_in me
       let under : next_fields s.words c.number ≡ below (shown_fields s.words) =
       ap fields_of knows.stores ∙ (stored ∙ ap (λ m. below (fields_of m)) (sym hit)) in
       let frame = frame_push s.words words' w u es es' c.number epochs refl
-      (λ m. next_state s.words new m) in
-      acts k s history w r id me.0 c at is events u d STATE new me.1 f record {
-        written = written_push k s.words es w r.written u es' new c.number refl refl epochs
-            (off_stack s shows at pre)
-            (offered ∙ (push_shows k s history w r id me.0 c at is (fields_of old) e c.epoch here
-            pre (omega arith) ∙ ap (λ m. shown u m) mine.epoch))
-            (ap (λ g. g.top) under) (ap (λ g. g.epoch) under);
-        mine = λ was.
-            knows_on s.words words' w u es es' c.number c.stored c.stored c.looked c.next frame
-            (next_state s.words new c.number ∙ was.stores) was;
-        others = λ y _ was.
-            knows_on s.words words' w u es es' y.number y.stored y.stored y.looked y.next frame
-            (next_state s.words new y.number ∙ was.stores) was;
-        links = λ was.
-            links_on s.words words' c.linked c.owing (λ m _. next_state s.words new m) was;
-        others_links = λ y _ _ was.
-            links_on s.words words' y.linked y.owing (λ m _. next_state s.words new m) was;
-      })
+      (λ m. next_state s.words new m) in (
+        events,
+        u,
+        acts k s history w r id me.0 c at is events u d STATE new me.1 f record {
+          written = written_push k s.words es w r.written u es' new c.number refl refl epochs
+              (off_stack s shows at pre)
+              (offered ∙ (push_shows k s history w r id me.0 c at is (fields_of old) e c.epoch here
+              pre (omega arith) ∙ ap (λ m. shown u m) mine.epoch))
+              (ap (λ g. g.top) under) (ap (λ g. g.epoch) under);
+          mine = λ was.
+              knows_on s.words words' w u es es' c.number c.stored c.stored c.looked c.next frame
+              (next_state s.words new c.number ∙ was.stores) was;
+          others = λ y _ was.
+              knows_on s.words words' w u es es' y.number y.stored y.stored y.looked y.next frame
+              (next_state s.words new y.number ∙ was.stores) was;
+          links = λ was.
+              links_on s.words words' c.linked c.owing (λ m _. next_state s.words new m) was;
+          others_links = λ y _ _ was.
+              links_on s.words words' y.linked y.owing (λ m _. next_state s.words new m) was;
+        },
+      ))
 
   -- a load of the looked top's next word
-  pub read_keeps : (fields_of c.looked).top ≢ nobody
-      → Allows (ShowsWorld k) slots id me (next_place (fields_of c.looked).top) (λ n. n)
-      (reads (step slots (next_place (fields_of c.looked).top) 0 0 none) me)
-  read_keeps there s shows _ at _ =
+  pub read_adds : (fields_of c.looked).top ≢ nobody
+      → Advances k slots id me is (next_place (fields_of c.looked).top) 0 0 (λ n. n) reads
+  read_adds there s shows at _ =
       let history = shows.0 in let w = shows.1 in let r = shows.2 in
       let top = (fields_of c.looked).top in
       let place = next_place top in let n = slice_index s.words place in
@@ -191,22 +190,24 @@ module _ (k : Sizes) (slots id : ℕ) (me : Sat) (is : me.0 ≡ only (card_in me
       let f = fits_none k s history w r id me.0 c at is d refl refl refl refl refl refl in
       let epochs = same_epochs k s history w r id me.0 c at is [] w d f refl in
       let again : history ++ [] ≡ history = append-nil history in (
-        only d,
-        keeps,
-        tt,
-        acts k s history w r id me.0 c at is [] w d place n me.1 f record {
-          written = subst (λ ws. Written k ws w es') (sym same)
-              (subst (λ h. Written k s.words w (next_epoch k h)) (sym again) r.written);
-          mine = λ was. subst (λ ws. Knows ws w es' d) (sym same)
-              (subst (λ h. Knows s.words w (next_epoch k h) d) (sym again) record {
-                stores = was.stores;
-                past = λ ne. ((was.past ne).0, λ _ _. refl);
-              });
-          others = λ x _ was. subst (λ ws. Knows ws w es' x) (sym same)
-              (subst (λ h. Knows s.words w (next_epoch k h) x) (sym again) was);
-          links = λ was. subst (λ ws. Links ws c) (sym same) was;
-          others_links = λ x _ _ was. subst (λ ws. Links ws x) (sym same) was;
-        },
+        d,
+        (
+          [],
+          w,
+          acts k s history w r id me.0 c at is [] w d place n me.1 f record {
+            written = subst (λ ws. Written k ws w es') (sym same)
+                (subst (λ h. Written k s.words w (next_epoch k h)) (sym again) r.written);
+            mine = λ was. subst (λ ws. Knows ws w es' d) (sym same)
+                (subst (λ h. Knows s.words w (next_epoch k h) d) (sym again) record {
+                  stores = was.stores;
+                  past = λ ne. ((was.past ne).0, λ _ _. refl);
+                });
+            others = λ x _ was. subst (λ ws. Knows ws w es' x) (sym same)
+                (subst (λ h. Knows s.words w (next_epoch k h) x) (sym again) was);
+            links = λ was. subst (λ ws. Links ws c) (sym same) was;
+            others_links = λ x _ _ was. subst (λ ws. Links ws x) (sym same) was;
+          },
+        ),
         (refl, refl),
       )
 
@@ -217,23 +218,23 @@ module _ (k : Sizes) (slots id : ℕ) (me : Sat) (is : me.0 ≡ only (card_in me
   read_keeps_at place word looked there at =
       subst (λ p. Allows (ShowsWorld k) slots id me p (λ n. n) (reads (step slots p 0 0 none) me))
       (ap (λ m. next_place (fields_of m).top) looked ∙ sym at)
-      (read_keeps (λ e. there (ap (λ m. (fields_of m).top) (sym looked) ∙ e)))
+      (allowed k slots id me is (next_place (fields_of c.looked).top) 0 0 (λ n. n) reads
+      (read_adds (λ e. there (ap (λ m. (fields_of m).top) (sym looked) ∙ e))))
 
   -- a notification that pops the looked top, whose next word was read
-  pub pop_keeps : (old new next : ℕ) → c.phase ≡ Running → c.owing ≡ [] → c.looked ≡ old
+  pub pop_adds : (old new next : ℕ) → c.phase ≡ Running → c.owing ≡ [] → c.looked ≡ old
       → c.next ≡ Some next → (fields_of old).top ≢ nobody
       → (fields_of old).signals ≡ (fields_of old).pre
       → fields_of new ≡ popped (fields_of old) (fields_of next)
-      → Allows (ShowsWorld k) slots id me STATE (λ n. either (n == old) new n)
-      (exchanges pops (step slots STATE old new none) me)
-  pop_keeps old new next running none_owed looked read there full offered =
-      exchange_keeps k slots id me is popping old new (λ s shows at hit.
+      → Exchanging k slots id me is pops old new
+  pop_adds old new next running none_owed looked read there full offered =
+      exchange_adds k slots id me is popping old new (λ s shows at hit.
       popped_from s shows at hit shows.1.stack refl)
     where
       popped_from : (s : CountState) (shows : ShowsWorld k s)
           (at : get_elem? s.views id ≡ some me.0)
           → slice_index s.words STATE ≡ old → (stack : List ℕ) → shows.1.stack ≡ stack
-          → After s STATE new (popping c (exchange_of old new old))
+          → After k slots id me is s shows STATE new (popping c (exchange_of old new old))
       popped_from s shows at hit [] empty = absurd (there (ap (λ m. (fields_of m).top) (sym hit)
           ∙ (leads_top s.words (next_epoch k shows.0) shows.1.stack (shown_fields s.words)
           shows.2.written.stack ∙ ap top_of empty)))
@@ -271,21 +272,41 @@ module _ (k : Sizes) (slots id : ℕ) (me : Sat) (is : me.0 ≡ only (card_in me
           let right : slice_index s.words (next_place top) ≡ next =
           ap (λ j. slice_index s.words (next_place j)) (sym was_top) ∙ kept among last in
           let frame = frame_same s.words words' w u es es' epochs
-          (λ m more. (let a = ap (times m) stack in omega arith, next_state s.words new m)) in
-          acts k s history w r id me.0 c at is events u d STATE new me.1 f record {
-            written = written_pop k s.words es w r.written u es' new top rest stack refl refl epochs
-                (offered ∙ (ap (λ m. popped (fields_of old) (fields_of m)) (sym right)
-                ∙ pop_shows k s history w r id me.0 c at is (fields_of old)
-                (next_fields s.words top) e top rest here (omega arith) stack
-                (leads_top s.words es rest (next_fields s.words top) leads.2)));
-            mine = λ was.
-                knows_on s.words words' w u es es' c.number c.stored c.stored c.looked c.next frame
-                (next_state s.words new c.number ∙ was.stores) was;
-            others = λ y _ was.
-                knows_on s.words words' w u es es' y.number y.stored y.stored y.looked y.next frame
-                (next_state s.words new y.number ∙ was.stores) was;
-            links = λ _. let e = ap (λ xs. length (xs ++ (fields_of old).top ∷ [])) none_owed in
-                omega arith;
-            others_links = λ y _ _ was.
-                links_on s.words words' y.linked y.owing (λ m _. next_state s.words new m) was;
-          }
+          (λ m more. (let a = ap (times m) stack in omega arith, next_state s.words new m)) in (
+            events,
+            u,
+            acts k s history w r id me.0 c at is events u d STATE new me.1 f record {
+              written = written_pop k s.words es w r.written u es' new top rest stack refl refl epochs
+                  (offered ∙ (ap (λ m. popped (fields_of old) (fields_of m)) (sym right)
+                  ∙ pop_shows k s history w r id me.0 c at is (fields_of old)
+                  (next_fields s.words top) e top rest here (omega arith) stack
+                  (leads_top s.words es rest (next_fields s.words top) leads.2)));
+              mine = λ was.
+                  knows_on s.words words' w u es es' c.number c.stored c.stored c.looked c.next frame
+                  (next_state s.words new c.number ∙ was.stores) was;
+              others = λ y _ was.
+                  knows_on s.words words' w u es es' y.number y.stored y.stored y.looked y.next frame
+                  (next_state s.words new y.number ∙ was.stores) was;
+              links = λ _. let e = ap (λ xs. length (xs ++ (fields_of old).top ∷ [])) none_owed in
+                  omega arith;
+              others_links = λ y _ _ was.
+                  links_on s.words words' y.linked y.owing (λ m _. next_state s.words new m) was;
+            },
+          )
+
+  pub push_keeps : (old new : ℕ) → c.phase ≡ Pre → (fields_of old).signals ≡ 0
+      → fields_of new ≡ pushed (fields_of old) c.number c.epoch
+      → fields_of c.stored ≡ below (fields_of old)
+      → ExchangeAllowed k slots id me is pushes old new
+  push_keeps old new pre none_given offered stored =
+      exchange_allowed k slots id me is pushes old new
+      (push_adds old new pre none_given offered stored)
+
+  pub pop_keeps : (old new next : ℕ) → c.phase ≡ Running → c.owing ≡ [] → c.looked ≡ old
+      → c.next ≡ Some next → (fields_of old).top ≢ nobody
+      → (fields_of old).signals ≡ (fields_of old).pre
+      → fields_of new ≡ popped (fields_of old) (fields_of next)
+      → ExchangeAllowed k slots id me is pops old new
+  pop_keeps old new next running none_owed looked read there full offered =
+      exchange_allowed k slots id me is pops old new
+      (pop_adds old new next running none_owed looked read there full offered)

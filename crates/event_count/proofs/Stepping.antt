@@ -1,12 +1,13 @@
 -- A step on the state word, by the seat of a table, that finds what it expects or misses it.
 use Rattle.std.proofs.Common.{◌≢◌, ◌≡◌, ℕ, ◌==◌, List, [], sym, ap, refl, ◌∙◌, subst}
 use Rattle.std.proofs.Common.{slice_index, arith, MatchBool, eq-eqb, ne_eqb, ◌++◌, slice_set}
+use Rattle.std.proofs.Common.{◌<◌, ◌^◌}
 use Rattle.std.proofs.Common.{⊎_elim}
 use Rattle.std.proofs.lemmas.Bool.{cases_eq}
 use mathlib.Core.Option.{some, none}
 use lib.ListN.{get_elem?}
 use prog.Atomic.{either}
-use Rattle.atomic_table.specs.Table.{Act, Valid, carried_after, stepped, step, keeps, Allows}
+use Rattle.atomic_table.specs.Table.{stepped, step, keeps, Allows}
 use Rattle.atomic_table.proofs.Lists.{exchanged}
 use Rattle.event_word.specs.declared.event.Event.{Event}
 use Rattle.event_word.specs.Fields.{fields_of}
@@ -21,8 +22,9 @@ use Rattle.event_count.specs.declared.view.Card.{Card}
 use Rattle.event_count.specs.declared.view.View.{View}
 use Rattle.event_count.specs.Cards.{exchange_of, only, card_in}
 use Rattle.event_count.specs.Gains.{exchanging}
-use Rattle.event_count.specs.Plays.{Sat, Gain, exchanges, becomes}
+use Rattle.event_count.specs.Plays.{Sat, Told, Gain, exchanges, becomes}
 use Rattle.event_count.specs.Shown.{CountState, ShowsWorld, Shows}
+use Rattle.event_count.specs.Steps.{Adds}
 use Rattle.event_count.specs.Kept.{Knows, Links}
 use Rattle.event_count.specs.Written.{shown_fields}
 use Rattle.event_count.specs.Known.{next_epoch}
@@ -76,9 +78,31 @@ module _ (k : Sizes) (slots id : ℕ) (me : Sat) (is : me.0 ≡ only (card_in me
   abbrev pub c : Card
   c = card_in me.0
 
-  -- the table after the word at a place became n, the card d, and no slot was taken
-  abbrev pub After : CountState → ℕ → ℕ → Card → Type 0
-  After s place n d = ShowsWorld k (stepped s place n id me.1 (only d) keeps)
+  -- what the step adds, after which the word at a place is n and the card is d, and no slot is taken
+  abbrev pub After : (s : CountState) → ShowsWorld k s → ℕ → ℕ → Card → Type 0
+  After s shows place n d = (events : List Event) × (u : World)
+      × Adds k shows.0 shows.1 c d (stepped s place n id me.1 (only d) keeps) events u
+
+  -- whenever the seat takes the step, it adds its events, and its play is so
+  abbrev pub Advances : ℕ → ℕ → ℕ → (ℕ → ℕ) → Told → Type 0
+  Advances place a b f told =
+      (s : CountState) (shows : ShowsWorld k s) → get_elem? s.views id ≡ some me.0
+      → slice_index s.words place < 2 ^ 64
+      → (d : Card) × After s shows place (f (slice_index s.words place)) d
+      × told (step slots place a b none) me (slice_index s.words place) (only d, me.1)
+
+  -- and so the rule allows it
+  pub allowed : (place a b : ℕ) (f : ℕ → ℕ) (told : Told) → Advances place a b f told
+      → Allows (ShowsWorld k) slots id me place f (told (step slots place a b none) me)
+  allowed place a b f told advances s shows _ at small =
+      let done = advances s shows at small in
+      let after = done.1 in (
+        only done.0,
+        keeps,
+        tt,
+        (shows.0 ++ after.0, after.1, after.2.shows),
+        done.2,
+      )
 
   module _ (s : CountState) (shows : ShowsWorld k s) (at : get_elem? s.views id ≡ some me.0) where
     -- a step on the state word that is these events, and leaves the stack
@@ -88,67 +112,79 @@ module _ (k : Sizes) (slots id : ℕ) (me : Sat) (is : me.0 ≡ only (card_in me
         → u.tokens ≡ shows.1.tokens → fields_of n ≡ shown u (shown_fields s.words).epoch
         → (Knows (slice_set s.words STATE n) u (next_epoch k (shows.0 ++ events)) c
         → Knows (slice_set s.words STATE n) u (next_epoch k (shows.0 ++ events)) d)
-        → After s STATE n d
-    acted d same events u n f still stack tokens is' reads =
-        acts k s shows.0 shows.1 shows.2 id me.0 c at is events u d STATE n me.1 f
-        (state_still k s shows.0 shows.1 shows.2 id me.0 c at is events u d n f still stack tokens
-        is' reads
-        (λ was. same (slice_set s.words STATE n)
-        (links_on s.words (slice_set s.words STATE n) c.linked c.owing
-        (λ m _. next_state s.words n m) was)))
+        → After s shows STATE n d
+    acted d same events u n f still stack tokens is' reads = (
+      events,
+      u,
+      acts k s shows.0 shows.1 shows.2 id me.0 c at is events u d STATE n me.1 f
+          (state_still k s shows.0 shows.1 shows.2 id me.0 c at is events u d n f still stack tokens
+          is' reads
+          (λ was. same (slice_set s.words STATE n)
+          (links_on s.words (slice_set s.words STATE n) c.linked c.owing
+          (λ m _. next_state s.words n m) was))),
+    )
 
     -- an exchange that found another word
-    pub missed : (x : Exchange) → After s STATE (slice_index s.words STATE) (exchanging c x)
+    pub missed : (x : Exchange) → After s shows STATE (slice_index s.words STATE) (exchanging c x)
     missed x = acted (exchanging c x) (λ ws was. was) [] shows.1 (slice_index s.words STATE)
         (fits_none k s shows.0 shows.1 shows.2 id me.0 c at is (exchanging c x)
         refl refl refl refl refl refl)
         refl refl refl (word_shows k s shows) (λ was. was)
 
-  -- an exchange that finds the expected word is what the seat gains by it, and another is no event
-  pub gain_keeps : (gain : Gain) (old new : ℕ)
-      → ((s : CountState) → ShowsWorld k s → get_elem? s.views id ≡ some me.0
+  -- an exchange of the state word
+  abbrev pub Exchanging : Gain → ℕ → ℕ → Type 0
+  Exchanging gain old new =
+      Advances STATE old new (λ n. either (n == old) new n) (exchanges gain)
+
+  -- one that finds the expected word is what the seat gains by it, and another is no event
+  pub gain_adds : (gain : Gain) (old new : ℕ)
+      → ((s : CountState) (shows : ShowsWorld k s) → get_elem? s.views id ≡ some me.0
       → slice_index s.words STATE ≡ old
-      → (d : Card) × After s STATE new d × gain c (exchange_of old new old) (only d))
-      → Allows (ShowsWorld k) slots id me STATE (λ n. either (n == old) new n)
-      (exchanges gain (step slots STATE old new none) me)
-  gain_keeps gain old new wins s shows _ at _ =
+      → (d : Card) × After s shows STATE new d × gain c (exchange_of old new old) (only d))
+      → Exchanging gain old new
+  gain_adds gain old new wins s shows at _ =
       let word = slice_index s.words STATE in
       let Won : View → Type 0 = gain c (exchange_of old new old) in
-      let lost : View = only (exchanging c (exchange_of old new word)) in
+      let lost : Card = exchanging c (exchange_of old new word) in
       exchanged word old new
-      (λ x. (u : View) × (a : Act (Unit {0})) × Valid s.homes me.1 a
-      × ShowsWorld k (stepped s STATE x id me.1 u a)
-      × exchanges gain (step slots STATE old new none) me word (u, carried_after me.1 a))
+      (λ x. (d : Card) × After s shows STATE x d
+      × exchanges gain (step slots STATE old new none) me word (only d, me.1))
       (λ hit. let won = wins s shows at hit in (
-        only won.0,
-        keeps,
-        tt,
+        won.0,
         won.1,
         (
           refl,
           refl,
-          subst (λ b. MatchBool b (Won (only won.0)) ((word ≢ old) × (only won.0 ≡ lost)))
+          subst (λ b. MatchBool b (Won (only won.0)) ((word ≢ old) × (only won.0 ≡ only lost)))
               (sym (eq-eqb word old hit)) won.2,
         ),
       ))
       (λ miss. (
         lost,
-        keeps,
-        tt,
         missed s shows at (exchange_of old new word),
         (
           refl,
           refl,
-          subst (λ b. MatchBool b (Won lost) ((word ≢ old) × (lost ≡ lost)))
+          subst (λ b. MatchBool b (Won (only lost)) ((word ≢ old) × (only lost ≡ only lost)))
               (sym (ne_eqb word old miss)) (miss, refl),
         ),
       ))
 
   -- the same where the gain is one card
-  pub exchange_keeps : (gains : Card → Exchange → Card) (old new : ℕ)
-      → ((s : CountState) → ShowsWorld k s → get_elem? s.views id ≡ some me.0
-      → slice_index s.words STATE ≡ old → After s STATE new (gains c (exchange_of old new old)))
-      → Allows (ShowsWorld k) slots id me STATE (λ n. either (n == old) new n)
-      (exchanges (becomes gains) (step slots STATE old new none) me)
-  exchange_keeps gains old new wins = gain_keeps (becomes gains) old new (λ s shows at hit.
+  pub exchange_adds : (gains : Card → Exchange → Card) (old new : ℕ)
+      → ((s : CountState) (shows : ShowsWorld k s) → get_elem? s.views id ≡ some me.0
+      → slice_index s.words STATE ≡ old → After s shows STATE new (gains c (exchange_of old new old)))
+      → Exchanging (becomes gains) old new
+  exchange_adds gains old new wins = gain_adds (becomes gains) old new (λ s shows at hit.
       (gains c (exchange_of old new old), wins s shows at hit, refl))
+
+  -- the rule allows it
+  abbrev pub ExchangeAllowed : Gain → ℕ → ℕ → Type 0
+  ExchangeAllowed gain old new =
+      Allows (ShowsWorld k) slots id me STATE (λ n. either (n == old) new n)
+      (exchanges gain (step slots STATE old new none) me)
+
+  pub exchange_allowed : (gain : Gain) (old new : ℕ) → Exchanging gain old new
+      → ExchangeAllowed gain old new
+  exchange_allowed gain old new adds =
+      allowed STATE old new (λ n. either (n == old) new n) (exchanges gain) adds

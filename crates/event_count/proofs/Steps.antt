@@ -16,7 +16,8 @@ use Rattle.event_count.specs.declared.rule.Sizes.{Sizes}
 use Rattle.event_count.specs.declared.view.Card.{Card}
 use Rattle.event_count.specs.declared.view.View.{View}
 use Rattle.event_count.specs.Cards.{only}
-use Rattle.event_count.specs.Shown.{CountState, HasNoRows, Shows, ShowsWorld}
+use Rattle.event_count.specs.Shown.{CountState, HasNoRows, Shows}
+use Rattle.event_count.specs.Steps.{Adds}
 use Rattle.event_count.specs.Known.{first_world, events_of, Agrees, next_epoch}
 use Rattle.event_count.specs.Kept.{Knows, Links}
 use Rattle.event_count.specs.Written.{Written}
@@ -111,11 +112,11 @@ module _ (k : Sizes) (s : CountState) (history : List Event) (w : World)
       (held : List (ℕ × Unit {0})) → Fitting k w u events c d
       → Wording k s.words (slice_set s.words place n) w u (next_epoch k history)
       (next_epoch k (history ++ events)) c d
-      → ShowsWorld k (stepped s place n id held (only d) keeps)
-  acts events u d place n held f writes = (
-    history ++ events,
-    u,
-    record {
+      → Adds k history w c d (stepped s place n id held (only d) keeps) events u
+  acts events u d place n held f writes = record {
+    gains = f.gains;
+    runs = f.runs;
+    shows = record {
       runs = Runs-append (first_world k) history w events u r.runs f.runs;
       few = r.few;
       written = writes.written;
@@ -132,8 +133,8 @@ module _ (k : Sizes) (s : CountState) (history : List Event) (w : World)
           (Links (slice_set s.words place n)) d (writes.links linkage)
           (λ x ne was. writes.others_links x ne was.0 was.1)
           (λ j y there i e less. ((r.known j y there i e less).owing, r.linked j y there i e less));
-    },
-  )
+    };
+  }
 
   -- a step that is none leaves history and World
   pub fits_none : (d : Card) → d.waiters ≡ c.waiters → d.number ≡ c.number → d.phase ≡ c.phase

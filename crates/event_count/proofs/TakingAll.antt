@@ -1,10 +1,8 @@
--- A notification of all keeps the rule: the stack is owed as it is linked.
-use Rattle.std.proofs.Common.{◌≡◌, ℕ, ◌<◌, ◌==◌, List, [], ◌∷◌, sym, ap, refl, ◌∙◌, subst}
+-- A notification of all adds its event: the stack is owed as it is linked.
+use Rattle.std.proofs.Common.{◌≡◌, ℕ, ◌<◌, List, [], ◌∷◌, sym, ap, refl, ◌∙◌, subst}
 use Rattle.std.proofs.Common.{arith, ◌++◌, slice_set}
-use mathlib.Core.Option.{some, none}
+use mathlib.Core.Option.{some}
 use lib.ListN.{get_elem?}
-use prog.Atomic.{either}
-use Rattle.atomic_table.specs.Table.{step, Allows}
 use Rattle.event_word.specs.declared.phase.Phase.TheVariants.{Running}
 use Rattle.event_word.specs.declared.event.Event.{Event}
 use Rattle.event_word.specs.declared.event.Event.TheVariants.{NotifyAll}
@@ -17,7 +15,7 @@ use Rattle.event_count.specs.declared.rule.Sizes.{Sizes}
 use Rattle.event_count.specs.declared.view.Card.{Card}
 use Rattle.event_count.specs.Cards.{exchange_of, only, card_in}
 use Rattle.event_count.specs.Gains.{taking}
-use Rattle.event_count.specs.Plays.{Sat, exchanges, takes_all}
+use Rattle.event_count.specs.Plays.{Sat, takes_all}
 use Rattle.event_count.specs.Shown.{CountState, ShowsWorld}
 use Rattle.event_count.specs.Written.{shown_fields}
 use Rattle.event_count.specs.Known.{next_epoch}
@@ -26,7 +24,8 @@ use Rattle.event_count.proofs.Words.{word_shows, knows_on, frame_same, next_stat
 use Rattle.event_count.proofs.Words.{links_on, chain_on, chain_of}
 use Rattle.event_count.proofs.Steps.{acts, truth}
 use Rattle.event_count.proofs.Events.{law, sizes, emptied, all_fits, all_shows}
-use Rattle.event_count.proofs.Stepping.{same_epochs, gain_keeps}
+use Rattle.event_count.proofs.Stepping.{Exchanging, ExchangeAllowed, same_epochs, gain_adds}
+use Rattle.event_count.proofs.Stepping.{exchange_allowed}
 use Rattle.event_count.proofs.Looking.{sleeps_known}
 use Rattle.event_count.proofs.Unparking.{names_first}
 
@@ -44,12 +43,11 @@ module _ (k : Sizes) (slots id : ℕ) (me : Sat) (is : me.0 ≡ only (card_in me
       let phases = (sizes k s history w r id me.0 c at is).phases in (omega arith, omega arith)
 
   -- a notification of all takes the stack, linked as it is
-  pub all_keeps : (old new : ℕ) → c.phase ≡ Running → c.owing ≡ []
+  pub all_adds : (old new : ℕ) → c.phase ≡ Running → c.owing ≡ []
       → fields_of new ≡ all_notified (fields_of old)
-      → Allows (ShowsWorld k) slots id me STATE (λ n. either (n == old) new n)
-      (exchanges takes_all (step slots STATE old new none) me)
-  all_keeps old new running none_owed offered =
-      gain_keeps k slots id me is takes_all old new (λ s shows at hit.
+      → Exchanging k slots id me is takes_all old new
+  all_adds old new running none_owed offered =
+      gain_adds k slots id me is takes_all old new (λ s shows at hit.
       let history = shows.0 in let w = shows.1 in let r = shows.2 in
       let x = exchange_of old new old in let d = taking w.stack c x in
       let here = ap fields_of (sym hit) ∙ word_shows k s shows in
@@ -65,21 +63,25 @@ module _ (k : Sizes) (slots id : ℕ) (me : Sat) (is : me.0 ≡ only (card_in me
       let frame = frame_same s.words words' w u es es' epochs
       (λ m there. absurd (omega arith)) in (
         d,
-        acts k s history w r id me.0 c at is events u d STATE new me.1 f record {
-          written = written_state k s.words es w r.written u es' new refl 0 shows_new
-              (ap (λ g. g.top) shows_new, ap (λ g. g.epoch) shows_new);
-          mine = λ was.
-              knows_on s.words words' w u es es' c.number c.stored c.stored c.looked c.next frame
-              (next_state s.words new c.number ∙ was.stores) was;
-          others = λ y _ was.
-              knows_on s.words words' w u es es' y.number y.stored y.stored y.looked y.next frame
-              (next_state s.words new y.number ∙ was.stores) was;
-          links = λ _. subst (λ xs. Chain words' (xs ++ w.stack)) (sym none_owed)
-              (chain_on s.words words' w.stack (λ m _. next_state s.words new m)
-              (chain_of s.words es w.stack (shown_fields s.words) r.written.stack));
-          others_links = λ y _ _ was.
-              links_on s.words words' y.linked y.owing (λ m _. next_state s.words new m) was;
-        },
+        (
+          events,
+          u,
+          acts k s history w r id me.0 c at is events u d STATE new me.1 f record {
+            written = written_state k s.words es w r.written u es' new refl 0 shows_new
+                (ap (λ g. g.top) shows_new, ap (λ g. g.epoch) shows_new);
+            mine = λ was.
+                knows_on s.words words' w u es es' c.number c.stored c.stored c.looked c.next frame
+                (next_state s.words new c.number ∙ was.stores) was;
+            others = λ y _ was.
+                knows_on s.words words' w u es es' y.number y.stored y.stored y.looked y.next frame
+                (next_state s.words new y.number ∙ was.stores) was;
+            links = λ _. subst (λ xs. Chain words' (xs ++ w.stack)) (sym none_owed)
+                (chain_on s.words words' w.stack (λ m _. next_state s.words new m)
+                (chain_of s.words es w.stack (shown_fields s.words) r.written.stack));
+            others_links = λ y _ _ was.
+                links_on s.words words' y.linked y.owing (λ m _. next_state s.words new m) was;
+          },
+        ),
         (
           w.stack,
           names_first k slots id me is s shows at old w.stack (ap (λ g. g.top) here)
@@ -87,3 +89,10 @@ module _ (k : Sizes) (slots id : ℕ) (me : Sat) (is : me.0 ≡ only (card_in me
           refl,
         ),
       ))
+
+  pub all_keeps : (old new : ℕ) → c.phase ≡ Running → c.owing ≡ []
+      → fields_of new ≡ all_notified (fields_of old)
+      → ExchangeAllowed k slots id me is takes_all old new
+  all_keeps old new running none_owed offered =
+      exchange_allowed k slots id me is takes_all old new
+      (all_adds old new running none_owed offered)

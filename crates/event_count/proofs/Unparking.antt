@@ -1,4 +1,5 @@
--- Unparks, tokens, and the next words of seats that are owed keep the rule.
+-- Unparks, tokens, and loads of the next words of seats that are owed: they add their events, and
+-- so keep the rule.
 use Rattle.std.proofs.Common.{◌≡◌, ℕ, ◌<◌, ◌==◌, List, [], ◌∷◌, sym, ap, refl, ◌∙◌, subst}
 use Rattle.std.proofs.Common.{slice_index, arith, MatchBool, ◌≤◌, ◌++◌, append-nil, slice_set}
 use Rattle.std.proofs.Common.{length, true, false, Bool, get_or, zero, suc, ⊎_elim}
@@ -6,7 +7,7 @@ use Rattle.std.proofs.lemmas.Bool.{cases_lt}
 use Rattle.std.proofs.lemmas.List.{get_or_past}
 use mathlib.Core.Option.{some, none}
 use lib.ListN.{get_elem?}
-use Rattle.atomic_table.specs.Table.{Act, Valid, carried_after, stepped, step, keeps, Allows}
+use Rattle.atomic_table.specs.Table.{step, Allows}
 use Rattle.event_word.specs.declared.phase.Phase.TheVariants.{Stacked}
 use Rattle.event_word.specs.declared.event.Event.{Event}
 use Rattle.event_word.specs.declared.event.Event.TheVariants.{Unpark, Wake}
@@ -20,11 +21,10 @@ use Rattle.event_word.specs.Step.{effect}
 use Rattle.event_word.proofs.Keeps.{stacked_known}
 use Rattle.event_count.specs.declared.rule.Sizes.{Sizes}
 use Rattle.event_count.specs.declared.view.Card.{Card}
-use Rattle.event_count.specs.declared.view.View.{View}
 use Rattle.event_count.specs.Places.{next_place, parker_place}
 use Rattle.event_count.specs.Cards.{only, card_in}
 use Rattle.event_count.specs.Gains.{polling, unparking, waking, foremost, behind, NamesFirst}
-use Rattle.event_count.specs.Plays.{Sat, signals, reads, unparks, wakes, follows}
+use Rattle.event_count.specs.Plays.{Sat, unparks, wakes, follows}
 use Rattle.event_count.specs.Shown.{CountState, ShowsWorld}
 use Rattle.event_count.specs.Kept.{Knows, Links, AreLinked, Chain}
 use Rattle.event_count.specs.Known.{next_epoch}
@@ -34,7 +34,7 @@ use Rattle.event_count.proofs.Words.{links_behind}
 use Rattle.event_count.proofs.Steps.{Fitting, acts, fits_none, truth, linkage}
 use Rattle.event_count.proofs.Events.{law, sizes, unparked, owed_known, unpark_fits}
 use Rattle.event_count.proofs.Events.{is_stacked, wake_fits}
-use Rattle.event_count.proofs.Stepping.{same_epochs}
+use Rattle.event_count.proofs.Stepping.{After, Advances, allowed, same_epochs}
 use Rattle.event_count.proofs.Looking.{sleeps_known}
 use Rattle.event_count.proofs.Stacking.{set_same}
 
@@ -48,10 +48,6 @@ module _ (k : Sizes) (slots id : ℕ) (me : Sat) (is : me.0 ≡ only (card_in me
   abbrev c : Card
   c = card_in me.0
 
-  -- the table after the word at a place became n, the card d, and no slot was taken
-  abbrev After : CountState → ℕ → ℕ → Card → Type 0
-  After s place n d = ShowsWorld k (stepped s place n id me.1 (only d) keeps)
-
   -- a parker word of a seat, with its token
   parked : (s : CountState) (shows : ShowsWorld k s) (at : get_elem? s.views id ≡ some me.0)
       → (events : List Event) (u : World) (d : Card) (seat : ℕ) (b : Bool)
@@ -60,7 +56,7 @@ module _ (k : Sizes) (slots id : ℕ) (me : Sat) (is : me.0 ≡ only (card_in me
       → u.tokens ≡ slice_set shows.1.tokens seat b → seat < k.waiters
       → ((words : List ℕ) (es : ℕ → ℕ) → Knows words u es c → Knows words u es d)
       → ((words : List ℕ) → Links words c → Links words d)
-      → After s (parker_place seat) (one_if b) d
+      → After k slots id me is s shows (parker_place seat) (one_if b) d
   parked s shows at events u d seat b f still stack pre signals tokens known reads linked =
       let history = shows.0 in let w = shows.1 in let r = shows.2 in
       let es = next_epoch k history in let es' = next_epoch k (history ++ events) in
@@ -71,27 +67,27 @@ module _ (k : Sizes) (slots id : ℕ) (me : Sat) (is : me.0 ≡ only (card_in me
       (λ m there. (let e = ap (times m) stack in omega arith, next_parker s.words n seat m)) in
       let on : (x : Card) → Knows s.words w es x → Knows words' u es' x = λ x was.
       knows_on s.words words' w u es es' x.number x.stored x.stored x.looked x.next frame
-      (next_parker s.words n seat x.number ∙ was.stores) was in
-      acts k s history w r id me.0 c at is events u d (parker_place seat) n me.1 f record {
-        written = written_parker k s.words es w r.written u es' seat b stack (ap length pre) signals
-            tokens known (sizes k s history w r id me.0 c at is).tokens epochs;
-        mine = λ was. reads words' es' (on c was);
-        others = λ x _ was. on x was;
-        links = λ was. linked words'
-            (links_on s.words words' c.linked c.owing (λ m _. next_parker s.words n seat m) was);
-        others_links = λ x _ _ was.
-            links_on s.words words' x.linked x.owing (λ m _. next_parker s.words n seat m) was;
-      }
+      (next_parker s.words n seat x.number ∙ was.stores) was in (
+        events,
+        u,
+        acts k s history w r id me.0 c at is events u d (parker_place seat) n me.1 f record {
+          written = written_parker k s.words es w r.written u es' seat b stack (ap length pre) signals
+              tokens known (sizes k s history w r id me.0 c at is).tokens epochs;
+          mine = λ was. reads words' es' (on c was);
+          others = λ x _ was. on x was;
+          links = λ was. linked words'
+              (links_on s.words words' c.linked c.owing (λ m _. next_parker s.words n seat m) was);
+          others_links = λ x _ _ was.
+              links_on s.words words' x.linked x.owing (λ m _. next_parker s.words n seat m) was;
+        },
+      )
 
   -- the first seat owed gets its token
-  pub unpark_keeps : (seat : ℕ) (rest : List ℕ) → c.owing ≡ seat ∷ rest
-      → Allows (ShowsWorld k) slots id me (parker_place seat) (λ _. 1)
-      (λ _. unparks (step slots (parker_place seat) 1 0 none) me 1)
-  unpark_keeps seat rest owing s shows _ at _ =
+  pub unpark_adds : (seat : ℕ) (rest : List ℕ) → c.owing ≡ seat ∷ rest
+      → Advances k slots id me is (parker_place seat) 1 0 (λ _. 1) unparks
+  unpark_adds seat rest owing s shows at _ =
       let history = shows.0 in let w = shows.1 in let r = shows.2 in (
-        only (unparking c),
-        keeps,
-        tt,
+        unparking c,
         parked s shows at (Unpark c.number ∷ [])
             (unparked k s history w r id me.0 c at is seat rest) (unparking c) seat true
             (unpark_fits k s history w r id me.0 c at is seat rest owing) refl
@@ -101,10 +97,9 @@ module _ (k : Sizes) (slots id : ℕ) (me : Sat) (is : me.0 ≡ only (card_in me
       )
 
   -- a stacked seat takes its token, where it is there
-  pub wake_keeps : c.phase ≡ Stacked
-      → Allows (ShowsWorld k) slots id me (parker_place c.number) (λ _. 0)
-      (wakes (step slots (parker_place c.number) 0 0 none) me)
-  wake_keeps stacked s shows _ at _ =
+  pub wake_adds : c.phase ≡ Stacked
+      → Advances k slots id me is (parker_place c.number) 0 0 (λ _. 0) wakes
+  wake_adds stacked s shows at _ =
       let history = shows.0 in let w = shows.1 in let r = shows.2 in
       let place = parker_place c.number in let word = slice_index s.words place in
       let phase = is_stacked k s history w r id me.0 c at is stacked in
@@ -117,16 +112,13 @@ module _ (k : Sizes) (slots id : ℕ) (me : Sat) (is : me.0 ≡ only (card_in me
           → phase_of shows.1 c.number ≡ Stacked → c.number < k.waiters
           → slice_index s.words (parker_place c.number) ≡ one_if (has_token shows.1 c.number)
           → (b : Bool) → has_token shows.1 c.number ≡ b
-          → (u : View) × (a : Act (Unit {0})) × Valid s.homes me.1 a
-          × ShowsWorld k (stepped s (parker_place c.number) 0 id me.1 u a)
+          → (d : Card) × After k slots id me is s shows (parker_place c.number) 0 d
           × wakes (step slots (parker_place c.number) 0 0 none) me
-          (slice_index s.words (parker_place c.number)) (u, carried_after me.1 a)
+          (slice_index s.words (parker_place c.number)) (only d, me.1)
       by_token s shows at phase waiter token true there =
           let history = shows.0 in let w = shows.1 in let r = shows.2 in
           let d = polling c in let won = only (waking d) in let one = token ∙ ap one_if there in (
-            won,
-            keeps,
-            tt,
+            waking d,
             parked s shows at (Wake c.number ∷ []) (effect w (Wake c.number)) (waking d) c.number
                 false (wake_fits k s history w r id me.0 c at is stacked there) refl
                 refl refl refl refl waiter (λ words es was. was) (λ words was. was),
@@ -136,9 +128,7 @@ module _ (k : Sizes) (slots id : ℕ) (me : Sat) (is : me.0 ≡ only (card_in me
           let history = shows.0 in let w = shows.1 in let r = shows.2 in
           let d = polling c in let lost = only d in
           let none_there = token ∙ ap one_if there in (
-            lost,
-            keeps,
-            tt,
+            d,
             parked s shows at [] w d c.number false
                 (fits_none k s history w r id me.0 c at is d refl refl refl refl refl refl) refl
                 refl refl refl (sym (set_token w.tokens c.number there)) waiter
@@ -158,13 +148,16 @@ module _ (k : Sizes) (slots id : ℕ) (me : Sat) (is : me.0 ≡ only (card_in me
       (λ _. unparks (step slots place 1 0 none) me 1)
   unpark_keeps_at place seat rest owing at =
       subst (λ p. Allows (ShowsWorld k) slots id me p (λ _. 1)
-      (λ _. unparks (step slots p 1 0 none) me 1)) (sym at) (unpark_keeps seat rest owing)
+      (λ _. unparks (step slots p 1 0 none) me 1)) (sym at)
+      (allowed k slots id me is (parker_place seat) 1 0 (λ _. 1) unparks
+      (unpark_adds seat rest owing))
 
   pub wake_keeps_at : (place : ℕ) → c.phase ≡ Stacked → place ≡ parker_place c.number
       → Allows (ShowsWorld k) slots id me place (λ _. 0) (wakes (step slots place 0 0 none) me)
   wake_keeps_at place stacked at =
       subst (λ p. Allows (ShowsWorld k) slots id me p (λ _. 0) (wakes (step slots p 0 0 none) me))
-      (sym at) (wake_keeps stacked)
+      (sym at) (allowed k slots id me is (parker_place c.number) 0 0 (λ _. 0) wakes
+      (wake_adds stacked))
 
   -- a seat that is owed has a waiter's number
   owed_waiter : (s : CountState) (shows : ShowsWorld k s) (at : get_elem? s.views id ≡ some me.0)
@@ -190,10 +183,9 @@ module _ (k : Sizes) (slots id : ℕ) (me : Sat) (is : me.0 ≡ only (card_in me
       let here = known seat (omega arith) in (top, here.0, here.1)
 
   -- a load of the next word of the first seat owed
-  pub follow_keeps : (seat : ℕ) (rest : List ℕ) → c.owing ≡ seat ∷ rest
-      → Allows (ShowsWorld k) slots id me (next_place seat) (λ n. n)
-      (follows (step slots (next_place seat) 0 0 none) me)
-  follow_keeps seat rest owing s shows _ at _ =
+  pub follow_adds : (seat : ℕ) (rest : List ℕ) → c.owing ≡ seat ∷ rest
+      → Advances k slots id me is (next_place seat) 0 0 (λ n. n) follows
+  follow_adds seat rest owing s shows at _ =
       let history = shows.0 in let w = shows.1 in let r = shows.2 in
       let place = next_place seat in let n = slice_index s.words place in
       let words' = slice_set s.words place n in
@@ -205,17 +197,19 @@ module _ (k : Sizes) (slots id : ℕ) (me : Sat) (is : me.0 ≡ only (card_in me
       λ x was. subst (λ ws. Knows ws w es' x) (sym same)
       (subst (λ h. Knows s.words w (next_epoch k h) x) (sym again) was) in
       let links = linkage k s history w r id me.0 c at is in (
-        only c,
-        keeps,
-        tt,
-        acts k s history w r id me.0 c at is [] w c place n me.1 f record {
-          written = subst (λ ws. Written k ws w es') (sym same)
-              (subst (λ h. Written k s.words w (next_epoch k h)) (sym again) r.written);
-          mine = λ was. on c was;
-          others = λ x _ was. on x was;
-          links = λ was. subst (λ ws. Links ws c) (sym same) was;
-          others_links = λ x _ _ was. subst (λ ws. Links ws x) (sym same) was;
-        },
+        c,
+        (
+          [],
+          w,
+          acts k s history w r id me.0 c at is [] w c place n me.1 f record {
+            written = subst (λ ws. Written k ws w es') (sym same)
+                (subst (λ h. Written k s.words w (next_epoch k h)) (sym again) r.written);
+            mine = λ was. on c was;
+            others = λ x _ was. on x was;
+            links = λ was. subst (λ ws. Links ws c) (sym same) was;
+            others_links = λ x _ _ was. subst (λ ws. Links ws x) (sym same) was;
+          },
+        ),
         (
           ap (λ xs. next_place (foremost xs)) (sym owing),
           (λ i. (sym is i, me.1)),
@@ -233,4 +227,5 @@ module _ (k : Sizes) (slots id : ℕ) (me : Sat) (is : me.0 ≡ only (card_in me
       → Allows (ShowsWorld k) slots id me place (λ n. n) (follows (step slots place 0 0 none) me)
   follow_keeps_at place seat rest owing at =
       subst (λ p. Allows (ShowsWorld k) slots id me p (λ n. n) (follows (step slots p 0 0 none) me))
-      (sym at) (follow_keeps seat rest owing)
+      (sym at) (allowed k slots id me is (next_place seat) 0 0 (λ n. n) follows
+      (follow_adds seat rest owing))

@@ -1,12 +1,13 @@
 -- What holds in every state that a count's rule allows. The rule gives a lawful World and its
 -- history; what is said of pre-waiters, stack, pushes and counts holds of every World and history
 -- that the table shows, and so of that one, all together.
-use Rattle.std.specs.Prelude.{◌≡◌, ℕ, ◌+◌, ◌<◌, ◌≤◌, Bool, true, false, List, ◌∷◌, ◌++◌, map}
+use Rattle.std.specs.Prelude.{◌≡◌, ℕ, ◌+◌, ◌<◌, ◌≤◌, Bool, true, false, List, [], ◌∷◌, ◌++◌, map}
 use Rattle.std.specs.Prelude.{filter}
 use Rattle.event_word.specs.declared.event.Event.{Event}
-use Rattle.event_word.specs.declared.event.Event.TheVariants.{Commit}
+use Rattle.event_word.specs.declared.event.Event.TheVariants.{Commit, NotifyAll}
 use Rattle.event_word.specs.declared.phase.Phase.{Phase}
 use Rattle.event_word.specs.declared.phase.Phase.TheVariants.{Running, Pre, Stacked, Ended}
+use Rattle.event_word.specs.Fields.{fields_of}
 use Rattle.event_word.specs.Lists.{total, times}
 use Rattle.event_word.specs.Lawful.{Lawful, HasSizes}
 use Rattle.event_word.specs.Runs.{Runs}
@@ -14,10 +15,13 @@ use Rattle.event_word.specs.Balance.{Balance}
 use Rattle.event_word.specs.World.{World, phase_of}
 use Rattle.event_word.specs.Step.{effect}
 use Rattle.event_count.specs.declared.rule.Sizes.{Sizes}
+use Rattle.event_count.specs.declared.answers.TryCommit.TheVariants as commit
+use Rattle.event_count.specs.declared.view.Card.{Card}
 use Rattle.event_count.specs.declared.view.View.{View}
 use Rattle.event_count.specs.Written.{shown_fields}
-use Rattle.event_count.specs.Known.{first_world, Each}
+use Rattle.event_count.specs.Known.{first_world, events_of, Each}
 use Rattle.event_count.specs.Shown.{CountState, Shows}
+use Rattle.event_count.specs.Tries.{IsTryCommit}
 use Rattle.event_count.specs.Counts.{CardCounts}
 
 -- a rule for counts, by their sizes
@@ -61,13 +65,27 @@ SeatsStandOnce =
     (k : Sizes) (s : CountState) (history : List Event) (w : World) → Shows k s history w
     → (seat : ℕ) → times seat w.stack ≤ 1
 
+-- an exchange that pushed its seat found the looked word, and no signal in it
+abbrev pub ExchangesFoundNoSignal : Type 0
+ExchangesFoundNoSignal = (c d : Card) (word : ℕ) → IsTryCommit c word commit.Pushed d
+    → (d.exchange.found ≡ word) × ((fields_of d.exchange.found).signals ≡ 0)
+
 -- wherever a commit in the history pushed its seat, there was no signal before it
-abbrev pub PushesFoundNoSignal : Type 0
-PushesFoundNoSignal =
+abbrev pub CommitsFoundNoSignal : Type 0
+CommitsFoundNoSignal =
     (k : Sizes) (s : CountState) (history : List Event) (w : World) → Shows k s history w
     → (before after : List Event) (seat : ℕ) (u : World) → history ≡ before ++ Commit seat ∷ after
     → Runs (first_world k) before u → phase_of (effect u (Commit seat)) seat ≡ Stacked
     → u.signals ≡ 0
+
+-- From a notification of all on, until its seat's next event, the seat owes the whole stack that
+-- there was before it, top first.
+abbrev pub TakenStacksAreOwed : Type 0
+TakenStacksAreOwed =
+    (k : Sizes) (s : CountState) (history : List Event) (w : World) → Shows k s history w
+    → (before after : List Event) (actor : ℕ) (u : World)
+    → history ≡ before ++ NotifyAll actor ∷ after → Runs (first_world k) before u
+    → events_of actor after ≡ [] → Each (λ c. c.number ≡ actor → c.owing ≡ u.stack) s.views
 
 -- Each waiter was taken off the stack as often as it was pushed, but for once where it is on it;
 -- unparked as often as it was taken, but for once where it is owed; woken as often as it was

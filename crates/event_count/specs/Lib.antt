@@ -17,6 +17,7 @@ pub mod Written
 pub mod Known
 pub mod Kept
 pub mod Shown
+pub mod Steps
 pub mod Seats
 pub mod Tries
 pub mod Waits

@@ -1,19 +1,26 @@
 -- A count behind a lock: its World, and what a call makes of it.
-use Rattle.std.specs.Prelude.{◌≡◌, ℕ, ◌≤◌, ◌⊎◌, Bool, true, false, List, [], ◌∷◌, length}
+use Rattle.std.specs.Prelude.{◌≡◌, ℕ, ◌+◌, ◌≤◌, ◌⊎◌, Bool, true, false, List, [], ◌∷◌}
 use Rattle.event_word.specs.declared.event.Event.{Event}
-use Rattle.event_word.specs.declared.event.Event.TheVariants.{Unpark}
+use Rattle.event_word.specs.declared.event.Event.TheVariants.{PassFlag, Commit, Unpark, Wake}
+use Rattle.event_word.specs.declared.phase.Phase.TheVariants.{Running, Stacked}
 use Rattle.event_word.specs.Fields.{fields_of}
-use Rattle.event_word.specs.World.{World, owed_by}
+use Rattle.event_word.specs.World.{World, phase_of, owed_by}
 use Rattle.event_word.specs.Step.{Possible, effect, actor_of}
+use Rattle.event_word.specs.Play.{IsStep}
 use Rattle.event_word.specs.Lawful.{Lawful, HasSizes}
 use Rattle.event_word.specs.Shown.{shown}
+use Rattle.event_count.specs.declared.answers.Committed.{Committed}
+use Rattle.event_count.specs.declared.answers.Committed.TheVariants as committed
+use Rattle.event_count.specs.declared.answers.CommitIn.{CommitIn}
+use Rattle.event_count.specs.declared.answers.CommitIn.TheVariants as commit
+use Rattle.event_count.specs.declared.rule.Sizes.{Sizes}
 use Rattle.event_count.specs.Limits.{most_waiters}
 
--- what the lock holds whenever it is free: a lawful World, without rows and of few enough waiters
-pub record IsCountWorld (w : World) : Type 0 where
+-- what the lock holds whenever it is free: a lawful World of so many seats, without rows
+pub record IsCountWorld (k : Sizes) (w : World) : Type 0 where
   pub lawful : Lawful w
-  pub sizes : HasSizes (length w.phases) (length w.owed) 0 w
-  pub few : length w.phases ≤ most_waiters
+  pub sizes : HasSizes k.waiters (k.waiters + k.notifiers) 0 w
+  pub few : k.waiters ≤ most_waiters
 
 -- the events happen in turn, up to the first that may not; true: all of them did
 abbrev pub TakesSteps : World → List Event → Bool → World → Type 0
@@ -36,6 +43,36 @@ abbrev pub Settles : World → Event → World → Type 0
 Settles w e u =
     (Possible w e × (u ≡ settled (effect w e) (actor_of e))) ⊎ ((Possible w e → ⊥) × (u ≡ w))
 
+-- a commit: the seat passes the flag, and then commits
+abbrev pub commit_of : ℕ → List Event
+commit_of seat = PassFlag seat ∷ Commit seat ∷ []
+
+-- a commit took a signal, so that its seat runs, or pushed its seat; or one of its events may not
+-- happen
+abbrev pub IsCommitIn : World → ℕ → CommitIn → World → Type 0
+IsCommitIn w seat commit.Impossible u = TakesSteps w (commit_of seat) false u
+IsCommitIn w seat commit.Consumed u =
+    TakesSteps w (commit_of seat) true u × (phase_of u seat ≡ Running)
+IsCommitIn w seat commit.Pushed u =
+    TakesSteps w (commit_of seat) true u × (phase_of u seat ≡ Stacked)
+
+-- the seat has just taken its token
+abbrev pub HasJustWoken : ℕ → World → Type 0
+HasJustWoken seat u = (w : World) × IsStep w (Wake seat) true u
+
+-- A sleep that found this World behind the lock is unparked where its commit pushed the seat, once
+-- that has taken its token. Else it takes a signal, or may not commit.
+abbrev pub IsSleep : World → ℕ → Committed → Type 0
+IsSleep w seat committed.Consumed =
+    (u : World) × (IsCommitIn w seat commit.Consumed u ⊎ IsCommitIn w seat commit.Impossible u)
+IsSleep w seat committed.Unparked = (u last : World)
+    × IsCommitIn w seat commit.Pushed u × HasJustWoken seat last
+IsSleep w seat committed.Spent = ⊥
+
+-- the same of a World that a lock held
+abbrev pub RestsOnWorld : ℕ → Committed → Type 0
+RestsOnWorld seat answer = (k : Sizes) × (w : World) × IsCountWorld k w × IsSleep w seat answer
+
 -- a last word: that of such a World, at epoch 0
 abbrev pub IsLast : ℕ → Type 0
-IsLast word = (w : World) × IsCountWorld w × (fields_of word ≡ shown w 0)
+IsLast word = (k : Sizes) × (w : World) × IsCountWorld k w × (fields_of word ≡ shown w 0)

@@ -7,7 +7,7 @@ pub enum TryCommit {
     Consumed,
     /// The seat is on the stack. It is not answered yet.
     Pushed,
-    /// There was no signal, and the seat has no push left: it cancelled, and runs.
+    /// The seat has no push left. Whatever the signals, it cancelled, and runs.
     Spent,
     /// Another step came between the look and the exchange: nothing has changed.
     Contended,
@@ -42,8 +42,19 @@ pub enum Committed {
     Consumed,
     /// The seat parked, and was unparked. It is not answered yet.
     Unparked,
-    /// The seat has no push left: it cancelled.
+    /// The seat has no push left. Whatever the signals, it cancelled.
     Spent,
+}
+
+/// What a commit made of its seat, in the World behind a lock.
+#[derive(Clone, Copy, Debug, PartialEq, Eq)]
+pub(crate) enum CommitIn {
+    /// The World doesn't allow the commit.
+    Impossible,
+    /// The seat took a signal, and runs.
+    Consumed,
+    /// The seat is on the stack. It is not answered yet.
+    Pushed,
 }
 
 /// How a try to notify all ended.

@@ -86,7 +86,7 @@ pub use event_word::{Event, Phase};
 pub use fault::CountFault;
 pub use laws::{
     counts_follow, pre_seats_wait, pushes_found_no_signal, seats_stand_once, signals_are_answered,
-    table_shows_a_lawful_world,
+    steps_add_their_events, table_shows_a_lawful_world, taken_stacks_are_owed,
 };
 pub use locked_count::{LockedCount, LockedSeat};
 pub use rule::{EPOCHS, Law, MOST_WAITERS, Sizes};

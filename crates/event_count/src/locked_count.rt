@@ -1,13 +1,15 @@
 //! A count behind a lock.
 ghost use Rattle.std.specs.Prelude.{◌≡◌, ◌≢◌, ◌+◌, ◌<◌, ◌≤◌, [], map, All, IfOk};
 ghost use Rattle.std.specs.List.{range_with_len};
+ghost use Rattle.std.specs.Sync.Mutex.{mutex_guard_value};
 ghost use Rattle.event_word.specs.declared.phase.Phase.TheVariants.{Running, Pre};
 ghost use Rattle.event_count.specs.Limits.{most_waiters};
-ghost use Rattle.event_count.specs.LockedCount.{IsLast};
+ghost use Rattle.event_count.specs.Known.{first_world};
+ghost use Rattle.event_count.specs.LockedCount.{HasJustWoken, IsSleep, RestsOnWorld, IsLast};
 
-use crate::answers::Committed;
+use crate::answers::{CommitIn, Committed};
 use crate::fault::CountFault;
-use crate::rule::MOST_WAITERS;
+use crate::rule::{MOST_WAITERS, Sizes};
 use crate::stepped_world::SteppedWorld;
 use crate::wait_point::WaitPoint;
 use event_word::{Event, Phase};
@@ -18,13 +20,12 @@ use std::sync::{Condvar, Mutex, MutexGuard, Wait};
 /// rows.
 #[derive(Drop)]
 pub struct LockedCount<A: Allocator = Global> {
-    waiters: u16,
     // Only contracts read it.
-    notifiers: u16,
+    sizes: Sizes,
     world: Mutex<SteppedWorld<A>>,
     // Told after each notification.
     notified: Condvar,
-    ghost few: { waiters ≤ most_waiters },
+    ghost few: { sizes.waiters ≤ most_waiters },
 }
 
 /// A seat at a `LockedCount`.
@@ -69,14 +70,52 @@ fn seats<A: Allocator>(alloc: A, count: u32) -> Result<Vec<LockedSeat, A>, Alloc
 }
 
 impl<A: Allocator> LockedCount<A> {
+    // A count of the World's seats, which begins with that World.
+    fn beginning_with(world: SteppedWorld<A>) -> LockedCount<A>
+        requires { world.world ≡ first_world world.sizes }
+        ensures { result.sizes ≡ world.sizes }
+    {
+        LockedCount {
+            sizes: world.sizes(),
+            world: Mutex::new(world),
+            notified: Condvar::new(),
+        }
+    }
+
+    // Commits in the World that the lock holds, and lets go of it. A seat that was pushed sleeps.
+    fn commit<'a, R: Wait>(
+        &'a self,
+        rt: &R,
+        mut world: MutexGuard<'a, SteppedWorld<A>>,
+        seat: u16,
+    ) -> Committed
+        ensures { IsSleep (mutex_guard_value world.entry).world seat result }
+    {
+        match world.commit(seat) {
+            CommitIn::Pushed => {
+                self.take_token(rt, world, seat);
+                Committed::Unparked
+            }
+            CommitIn::Consumed | CommitIn::Impossible => Committed::Consumed,
+        }
+    }
+
     // A stacked seat sleeps until it has taken its token.
-    fn take_token<R: Wait>(&self, rt: &R, mut world: MutexGuard<'_, SteppedWorld<A>>, seat: u16) {
+    fn take_token<'a, R: Wait>(
+        &'a self,
+        rt: &R,
+        mut world: MutexGuard<'a, SteppedWorld<A>>,
+        seat: u16,
+    ) -> MutexGuard<'a, SteppedWorld<A>>
+        ensures { HasJustWoken seat (mutex_guard_value result).world }
+    {
         for _ in rt.forever() {
             if world.step(Event::Wake { seat }) {
-                return;
+                return world;
             }
             world = self.notified.wait(rt, world);
         }
+        unreachable!()
     }
 }
 
@@ -84,9 +123,9 @@ impl<A: Allocator> LockedCount<A> {
 impl<A: Allocator + Clone> WaitPoint<A> for LockedCount<A> {
     type Seat = LockedSeat;
 
-    ghost waiter_count = { λ count. count.waiters };
+    ghost waiter_count = { λ count. count.sizes.waiters };
 
-    ghost seat_count = { λ count. count.waiters + count.notifiers };
+    ghost seat_count = { λ count. count.sizes.waiters + count.sizes.notifiers };
 
     // A seat is no more than a number and a phase.
     ghost Identity = { Unit {0} };
@@ -112,15 +151,14 @@ impl<A: Allocator + Clone> WaitPoint<A> for LockedCount<A> {
         if waiters > MOST_WAITERS {
             return Err(CountFault::TooManyWaiters);
         }
-        let world = SteppedWorld::new(alloc.clone()?, waiters, notifiers)?;
-        let seats = seats(alloc, u32::from(waiters) + u32::from(notifiers))?;
-        let count = LockedCount {
+        let sizes = Sizes {
             waiters,
             notifiers,
-            world: Mutex::new(world),
-            notified: Condvar::new(),
+            first: 0,
         };
-        Ok((count, seats))
+        let world = SteppedWorld::new(alloc.clone()?, sizes)?;
+        let seats = seats(alloc, u32::from(waiters) + u32::from(notifiers))?;
+        Ok((LockedCount::beginning_with(world), seats))
     }
 
     fn enter<R: Wait>(&self, rt: &R, seat: &mut LockedSeat) {
@@ -134,15 +172,11 @@ impl<A: Allocator + Clone> WaitPoint<A> for LockedCount<A> {
         ensures number { seat.new.number ≡ seat.old.number }
         ensures running { seat.new.phase ≡ Running }
         ensures never_spent { result ≢ Committed.Spent }
+        ensures answer { RestsOnWorld seat.old.number result }
     {
         let number = seat.waiter();
         seat.phase = Phase::Running;
-        let mut world = self.world.lock(rt);
-        if world.commit(number) && world.is_stacked(number) {
-            self.take_token(rt, world, number);
-            return Committed::Unparked;
-        }
-        Committed::Consumed
+        self.commit(rt, self.world.lock(rt), number)
     }
 
     fn leave<R: Wait>(&self, rt: &R, seat: &mut LockedSeat) {

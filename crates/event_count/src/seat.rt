@@ -2,7 +2,7 @@
 ghost use Rattle.std.specs.Prelude.{◌≡◌, ◌≢◌, ◌<◌, ◌≤◌, ◌↔◌, [], false, Some, None};
 ghost use Rattle.std.specs.Prelude.{IsSome, IsTrue};
 ghost use Rattle.std.specs.Option.{ForSome};
-ghost use Rattle.event_word.specs.declared.phase.Phase.TheVariants.{Stacked};
+ghost use Rattle.event_word.specs.declared.phase.Phase.TheVariants.{Stacked, Ended};
 ghost use Rattle.event_word.specs.Fields.{fields_of};
 ghost use Rattle.event_word.specs.Word.{nobody};
 ghost use Rattle.event_count.specs.Limits.{epoch_limit};
@@ -39,6 +39,7 @@ pub struct Seat {
     ghost placed: { seat.table_id.words ≡ words_for waiters },
     ghost numbered: { (card_in seat.me.0).number ≡ number },
     ghost phased: { (card_in seat.me.0).phase ≡ phase },
+    ghost never_ended: { phase ≢ Ended },
     ghost stacked: { phase ≡ Stacked → number < waiters },
     ghost owes: { owed ≡ first_of (card_in seat.me.0).owing },
     ghost debt: { ForSome owed (λ other. other < waiters) },
@@ -63,7 +64,8 @@ impl Seat {
 
     /// Where it stands in its waiting. A notifier always runs.
     pub fn phase(&self) -> Phase
-        ensures { result ≡ (card_of self.now).phase }
+        ensures phase { result ≡ (card_of self.now).phase }
+        ensures never_ended { result ≢ Ended }
     {
         self.phase
     }

@@ -1,62 +1,84 @@
 //! What the lock of a count holds.
-ghost use Rattle.std.specs.Prelude.{◌≡◌, ◌<◌, ◌≤◌, ◌↔◌, [], ◌∷◌, length, IsTrue, IfOk};
+ghost use Rattle.std.specs.Prelude.{◌≡◌, ◌<◌, ◌≤◌, length, IsTrue, IfOk};
 ghost use Rattle.event_word.specs.Fields.{fields_of};
 ghost use Rattle.event_word.specs.Play.{IsStep};
 ghost use Rattle.event_word.specs.Shown.{shown};
-ghost use Rattle.event_word.specs.World.{phase_of, opening_world};
 ghost use Rattle.event_count.specs.Limits.{most_waiters};
-ghost use Rattle.event_count.specs.LockedCount.{IsCountWorld, TakesSteps, Settles, settled};
+ghost use Rattle.event_count.specs.Known.{first_world};
+ghost use Rattle.event_count.specs.LockedCount.{IsCountWorld, TakesSteps, commit_of, IsCommitIn};
+ghost use Rattle.event_count.specs.LockedCount.{Settles, settled};
 
+use crate::answers::CommitIn;
+use crate::rule::Sizes;
 use event_word::{Event, Fields, NOBODY, Phase, World, pack};
 use std::alloc::{AllocError, Allocator, Global};
 
-/// The World of a count. Steps alone change it, so that it stays lawful.
+/// The World of a count, and the seats that it was made with. Steps alone change it, so that it
+/// stays a lawful World of these seats.
 #[derive(Drop)]
 pub(crate) struct SteppedWorld<A: Allocator = Global> {
     world: World<A>,
-    ghost lawful: { IsCountWorld world },
+    sizes: Sizes,
+    ghost lawful: { IsCountWorld sizes world },
 }
 
 impl<A: Allocator> SteppedWorld<A> {
     /// All waiters run.
-    pub(crate) fn new(alloc: A, waiters: u16, notifiers: u16) -> Result<SteppedWorld<A>, AllocError>
+    pub(crate) fn new(alloc: A, sizes: Sizes) -> Result<SteppedWorld<A>, AllocError>
     where
         A: Clone,
-        requires some { 0 < waiters }
-        requires few { waiters ≤ most_waiters }
-        ensures { IfOk result (λ made. made.world ≡ opening_world waiters notifiers 0) }
+        requires some { 0 < sizes.waiters }
+        requires few { sizes.waiters ≤ most_waiters }
+        ensures world { IfOk result (λ made. made.world ≡ first_world sizes) }
+        ensures sizes { IfOk result (λ made. made.sizes ≡ sizes) }
     {
-        let world = World::new(alloc, waiters, notifiers, 0)?;
-        Ok(SteppedWorld { world })
+        let world = World::new(alloc, sizes.waiters, sizes.notifiers, 0)?;
+        Ok(SteppedWorld { world, sizes })
+    }
+
+    /// The seats that it was made with.
+    pub(crate) fn sizes(&self) -> Sizes
+        ensures { result ≡ self.now.sizes }
+    {
+        self.sizes
     }
 
     /// Takes a step. False: the event isn't possible now, and nothing changed.
     pub(crate) fn step(&mut self, event: Event) -> bool
-        ensures { IsStep self.old.world event result self.new.world }
+        ensures step { IsStep self.old.world event result self.new.world }
+        ensures sizes { self.new.sizes ≡ self.old.sizes }
     {
         self.world.step(event)
     }
 
-    /// The pass of the flag, and then the commit. False: one of them was not possible.
-    pub(crate) fn commit(&mut self, seat: u16) -> bool
-        ensures steps { TakesSteps self.old.world
-            (Event.PassFlag seat ∷ Event.Commit seat ∷ []) result self.new.world }
+    /// The pass of the flag, and then the commit.
+    pub(crate) fn commit(&mut self, seat: u16) -> CommitIn
+        ensures commit { IsCommitIn self.old.world seat result self.new.world }
+        ensures sizes { self.new.sizes ≡ self.old.sizes }
+    {
+        if !self.take_commit(seat) {
+            return CommitIn::Impossible;
+        }
+        if self.world.phase(seat) == Phase::Stacked {
+            CommitIn::Pushed
+        } else {
+            CommitIn::Consumed
+        }
+    }
+
+    // False: one of the two steps was not possible.
+    fn take_commit(&mut self, seat: u16) -> bool
+        ensures steps { TakesSteps self.old.world (commit_of seat) result self.new.world }
         ensures known { IsTrue result → seat < length self.new.world.phases }
+        ensures sizes { self.new.sizes ≡ self.old.sizes }
     {
         self.step(Event::PassFlag { seat }) && self.step(Event::Commit { seat })
     }
 
-    /// Whether the seat waits for a token.
-    pub(crate) fn is_stacked(&self, seat: u16) -> bool
-        requires { seat < length self.now.world.phases }
-        ensures { IsTrue result ↔ (phase_of self.now.world seat ≡ Phase.Stacked) }
-    {
-        self.world.phase(seat) == Phase::Stacked
-    }
-
     /// A notification, and the unpark of the seat that it popped.
     pub(crate) fn notify(&mut self, actor: u32)
-        ensures { Settles self.old.world (Event.Notify actor) self.new.world }
+        ensures world { Settles self.old.world (Event.Notify actor) self.new.world }
+        ensures sizes { self.new.sizes ≡ self.old.sizes }
     {
         if self.step(Event::Notify { actor }) {
             self.unpark_all(actor);
@@ -65,7 +87,8 @@ impl<A: Allocator> SteppedWorld<A> {
 
     /// A notification of all, and the unparks of the seats that were on the stack.
     pub(crate) fn notify_all(&mut self, actor: u32)
-        ensures { Settles self.old.world (Event.NotifyAll actor) self.new.world }
+        ensures world { Settles self.old.world (Event.NotifyAll actor) self.new.world }
+        ensures sizes { self.new.sizes ≡ self.old.sizes }
     {
         if self.step(Event::NotifyAll { actor }) {
             self.unpark_all(actor);
@@ -74,7 +97,8 @@ impl<A: Allocator> SteppedWorld<A> {
 
     // Unparks all seats that the actor owes.
     fn unpark_all(&mut self, actor: u32)
-        ensures { self.new.world ≡ settled self.old.world actor }
+        ensures world { self.new.world ≡ settled self.old.world actor }
+        ensures sizes { self.new.sizes ≡ self.old.sizes }
     {
         while self.step(Event::Unpark { actor }) {}
     }

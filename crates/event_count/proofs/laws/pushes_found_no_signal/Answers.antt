@@ -1,5 +1,8 @@
-use Rattle.event_count.proofs.Following.{found_no_signal}
+use Rattle.event_count.proofs.Following.{exchanges_found, commits_found}
 use Rattle.event_count.proofs.laws.pushes_found_no_signal.Goals as goal
 
-pub returns : goal.returns
-returns c = found_no_signal
+pub returns-clause-exchange : goal.returns-clause-exchange
+returns-clause-exchange c = exchanges_found
+
+pub returns-clause-history : goal.returns-clause-history
+returns-clause-history c = commits_found

@@ -5,7 +5,10 @@ use Rattle.event_count.specs.LockedCount.{settled}
 use Rattle.event_count.proofs.stepped_world.SteppedWorld.unpark_all.Given as goal
 
 abbrev pub invariant-loop : goal.invariant-loop
-invariant-loop g l = settled l.self.world l.actor ≡ settled l.initial.self.world l.actor
+invariant-loop g l = record {
+  world : settled l.self.world l.actor ≡ settled l.initial.self.world l.actor;
+  sizes : l.self.sizes ≡ l.initial.self.sizes;
+}
 
 abbrev pub decreases-loop : goal.decreases-loop
 decreases-loop g l = length (owed_by l.self.world l.actor)

@@ -11,12 +11,14 @@ pub overflow_cast-pre : goal.overflow_cast-pre
 overflow_cast-pre g c =
     let known = c.args.self.now.lawful in
     let fewer = length-pre c.args.self.now.world known.lawful in
+    let phases = known.sizes.phases in let few = known.few in
     let pre = ap length c.pre.ensures in omega arith
 
 pub overflow_cast-signals : goal.overflow_cast-signals
 overflow_cast-signals g c =
     let known = c.args.self.now.lawful in
-    let fewer = length-pre c.args.self.now.world known.lawful in omega arith
+    let fewer = length-pre c.args.self.now.world known.lawful in
+    let phases = known.sizes.phases in let few = known.few in omega arith
 
 unwrap_or-slice_get : (stack : List ℕ) → unwrap_or (slice_get stack 0) nobody ≡ top_of stack
 unwrap_or-slice_get [] = refl
@@ -33,8 +35,9 @@ pub pack-requires : goal.pack-requires
 pack-requires g c =
     let w = c.args.self.now.world in let known = c.args.self.now.lawful in
     let fewer = length-pre w known.lawful in
+    let phases = known.sizes.phases in let few = known.few in
     let pre = ap length c.pre.ensures in
-    let fits = top_of-fits w known in
+    let fits = top_of-fits c.args.self.now.sizes w known in
     let top = top_of-read w.stack c.stack.result.now c.copied.result c.unwrap_or.result
     c.stack.ensures (c.copied.ensures ∙ c.first-top.ensures.value) c.unwrap_or.ensures in
     record { top = omega arith; pre = omega arith; signals = omega arith; epoch = omega arith }
