@@ -14,7 +14,7 @@ use Rattle.serde_json.specs.Data.{Members, no_members, member, put}
 use Rattle.serde_json.specs.Events.{members_len}
 use Rattle.serde_json.specs.Find.{get_member, get, as_object}
 use Rattle.serde_json.specs.Read.{number_of, of_json, of_items, of_members, max_depth, read}
-use Rattle.tensor_terms.specs.Contents.{Contents}
+use Rattle.tensor_ops.specs.Contents.{Contents}
 use Rattle.expr_reader.specs.Counted.{member_count, count_in_items, count_in_members}
 use Rattle.expr_reader.specs.Fields.{Fields, has_members, cons_of, fields_of, reading}
 use Rattle.expr_reader.specs.Tensors.{Named, tensor_in, tensors_in, names_in, named_in}

@@ -7,7 +7,7 @@ use Rattle.std.specs.Option.{option_or}
 use Rattle.std.specs.Str.{bytes_eq}
 use Rattle.serde_json.specs.View.{view, members_view}
 use Rattle.serde_json.specs.declared.value.Value.{Value}
-use Rattle.tensor_terms.specs.Contents.{Contents, HaveRank}
+use Rattle.tensor_ops.specs.Contents.{Contents, HaveRank}
 use Rattle.expr_reader.specs.Tensors.{tensor_in, tensors_in, names_in}
 use Rattle.expr_reader.proofs.Lists.{after, after-cons_of}
 use Rattle.expr_reader.proofs.Numbers.{position_from-cons, option_or-option_or}

@@ -8,10 +8,10 @@ use Rattle.serde_json.specs.Find.{get_item}
 use Rattle.serde_json.specs.View.{view, items_view}
 use Rattle.serde_json.specs.declared.value.Value.{Value, Array}
 use Rattle.serde_json.proofs.Views.{view-Array, items_len-items_view}
-use Rattle.tensor_terms.specs.Contents.{Contents, Given}
+use Rattle.tensor_ops.specs.Contents.{Contents, Given}
 use Rattle.std.specs.Prelude.{◌&&◌}
-use Rattle.tensor_terms.specs.Result.{dims_of, operand_dims}
-use Rattle.tensor_terms.specs.Term.{Term, Unary, Binary, Ternary, unary, binary, ternary, has_inputs}
+use Rattle.tensor_ops.specs.Result.{dims_of, operand_dims}
+use Rattle.tensor_ops.specs.Term.{Term, Unary, Binary, Ternary, unary, binary, ternary, has_inputs}
 use Rattle.expr_reader.specs.Arguments.{Form, Arguments, arguments_in}
 use Rattle.expr_reader.specs.Limits.{most_nodes}
 use Rattle.expr_reader.specs.Node.{operation_at, applied, made, checked, tree_at}

@@ -1,5 +1,5 @@
 -- A request of the code, as what its text asks for.
-use Rattle.tensor_terms.specs.Tree.{term_of}
+use Rattle.tensor_ops.specs.Tree.{term_of}
 use Rattle.expr_reader.specs.Request as text
 use Rattle.expr_reader.specs.declared.request.Request.{Request}
 

@@ -1,7 +1,7 @@
 -- The faults of a request text.
 use Rattle.std.specs.Prelude.{ℕ, List, codes}
-use Rattle.tensor_terms.specs.declared.fault.ExprFault.{ExprFault}
-use Rattle.tensor_terms.specs.declared.fault.ExprFault.TheVariants as expr
+use Rattle.tensor_ops.specs.ExprFault.{ExprFault}
+use Rattle.tensor_ops.specs.ExprFault.TheVariants as expr
 use Rattle.expr_reader.specs.declared.fault.Fault.{Fault}
 use Rattle.expr_reader.specs.declared.fault.Fault.TheVariants.{TooLong, NotJson, BadField}
 use Rattle.expr_reader.specs.declared.fault.Fault.TheVariants.{BadVersion, BadWorkers, BadBlock}

@@ -9,9 +9,9 @@ use Rattle.serde_json.specs.Data.{Data, null, boolean, number, string, array, ob
 use Rattle.serde_json.specs.Data.{no_items, item}
 use Rattle.serde_json.specs.Events.{items_len}
 use Rattle.serde_json.specs.Find.{as_str}
-use Rattle.tensor_terms.specs.Contents.{Given}
-use Rattle.tensor_terms.specs.Result.{dims_of}
-use Rattle.tensor_terms.specs.Term.{Term, input, unary, binary, ternary}
+use Rattle.tensor_ops.specs.Contents.{Given}
+use Rattle.tensor_ops.specs.Result.{dims_of}
+use Rattle.tensor_ops.specs.Term.{Term, input, unary, binary, ternary}
 use Rattle.expr_reader.specs.Arguments.{Form, Arguments, arguments_in}
 use Rattle.expr_reader.specs.Faults.{text_fault}
 use Rattle.expr_reader.specs.Limits.{most_nodes}

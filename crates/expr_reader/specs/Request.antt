@@ -2,8 +2,8 @@
 use Rattle.std.specs.Prelude.{ℕ, List, length, nat_lt, Option, Result, Ok, Err, ok_or}
 use Rattle.std.specs.Prelude.{option_and_then, if◌then◌else◌}
 use Rattle.serde_json.specs.Data.{Data}
-use Rattle.tensor_terms.specs.Contents.{Contents}
-use Rattle.tensor_terms.specs.Term.{Term}
+use Rattle.tensor_ops.specs.Contents.{Contents}
+use Rattle.tensor_ops.specs.Term.{Term}
 use Rattle.expr_reader.specs.Fields.{Fields, fields_of, reading, whole_of, within}
 use Rattle.expr_reader.specs.Limits.{most_bytes, greatest_block}
 use Rattle.expr_reader.specs.Node.{tree_at}

@@ -1,15 +1,15 @@
 -- The operations of the text, as a table: what each takes, and what is made of it.
 use Rattle.std.specs.Prelude.{ℕ, ◌+◌, length, List, [], ◌∷◌, ◌++◌, codes}
-use Rattle.tensor_terms.specs.Term.{Unary, each, constant, movement, pad, reduce}
-use Rattle.tensor_terms.specs.Term.{Binary, pairwise, concat, contract, convolve}
-use Rattle.tensor_terms.specs.Term.{Ternary, select, broadcast, slice, shuffle, reshape}
-use Rattle.tensor_terms.specs.Term.{chip, reverse, stride}
-use Rattle.tensor_walks.specs.declared.operations.UnaryScalar.{UnaryScalar}
-use Rattle.tensor_walks.specs.declared.operations.UnaryScalar.TheVariants as unary
-use Rattle.tensor_walks.specs.declared.operations.BinaryScalar.{BinaryScalar}
-use Rattle.tensor_walks.specs.declared.operations.BinaryScalar.TheVariants as binary
-use Rattle.tensor_walks.specs.declared.reducer.Reducer.{Reducer}
-use Rattle.tensor_walks.specs.declared.reducer.Reducer.TheVariants.{Sum, Prod, Max, Min, All, Any}
+use Rattle.tensor_ops.specs.Term.{Unary, each, constant, movement, pad, reduce}
+use Rattle.tensor_ops.specs.Term.{Binary, pairwise, concat, contract, convolve}
+use Rattle.tensor_ops.specs.Term.{Ternary, select, broadcast, slice, shuffle, reshape}
+use Rattle.tensor_ops.specs.Term.{chip, reverse, stride}
+use Rattle.tensor_ops.specs.UnaryScalar.{UnaryScalar}
+use Rattle.tensor_ops.specs.UnaryScalar.TheVariants as unary
+use Rattle.tensor_ops.specs.BinaryScalar.{BinaryScalar}
+use Rattle.tensor_ops.specs.BinaryScalar.TheVariants as binary
+use Rattle.tensor_ops.specs.Reducer.{Reducer}
+use Rattle.tensor_ops.specs.Reducer.TheVariants.{Sum, Prod, Max, Min, All, Any}
 use Rattle.expr_reader.specs.Arguments.{Form, size, sizes, pairs, flags, value, Arguments}
 
 -- the number of operands, the forms of the arguments behind them, and what these make

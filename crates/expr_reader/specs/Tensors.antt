@@ -7,7 +7,7 @@ use Rattle.serde_json.specs.Data.{Data, Members, no_members, member}
 use Rattle.serde_json.specs.Find.{as_object}
 use Rattle.tensor_ops.specs.Index.{size_of}
 use Rattle.tensor_ops.specs.Legal.{are_legal}
-use Rattle.tensor_terms.specs.Contents.{Contents, Given}
+use Rattle.tensor_ops.specs.Contents.{Contents, Given}
 use Rattle.expr_reader.specs.Fields.{has_members, with_member, whole_of, signed_of}
 use Rattle.expr_reader.specs.Fields.{list_in, cons_of}
 

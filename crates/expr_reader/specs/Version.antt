@@ -1,8 +1,8 @@
 -- The versions and operations of the code, as profiles and operations.
 use Rattle.std.specs.Prelude.{List, [], ◌∷◌}
-use Rattle.tensor_terms.specs.Term as term
-use Rattle.tensor_terms.specs.Term.{each, constant, movement, pad, reduce, pairwise}
-use Rattle.tensor_terms.specs.Term.{concat, contract, convolve}
+use Rattle.tensor_ops.specs.Term as term
+use Rattle.tensor_ops.specs.Term.{each, constant, movement, pad, reduce, pairwise}
+use Rattle.tensor_ops.specs.Term.{concat, contract, convolve}
 use Rattle.expr_reader.specs.Arguments.{Form, size, sizes, pairs, flags, value, Arguments}
 use Rattle.expr_reader.specs.Profile.{Profile, version_1, version_2}
 use Rattle.expr_reader.specs.Table as table

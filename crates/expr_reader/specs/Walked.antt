@@ -1,9 +1,9 @@
 -- What the code has found of a tree, beside what the walk says, for the reader's private clauses.
 use Rattle.std.specs.Prelude.{◌≡◌, ◌⊎◌, length, IsTrue, Result, Ok, Err, MatchResult}
-use Rattle.tensor_terms.specs.Contents.{Given}
-use Rattle.tensor_terms.specs.Result.{dims_of}
-use Rattle.tensor_terms.specs.Term.{has_inputs}
-use Rattle.tensor_terms.specs.Tree.{term_of}
+use Rattle.tensor_ops.specs.Contents.{Given}
+use Rattle.tensor_ops.specs.Result.{dims_of}
+use Rattle.tensor_ops.specs.Term.{has_inputs}
+use Rattle.tensor_ops.specs.Tree.{term_of}
 use Rattle.expr_reader.specs.Node.{Tree}
 use Rattle.expr_reader.specs.declared.fault.Fault.{Fault}
 use Rattle.expr_reader.specs.declared.fault.Fault.TheVariants.{NoMemory}

@@ -2,8 +2,8 @@
 
 ghost use Rattle.std.specs.Prelude.{◌≡◌, length, option_map};
 ghost use Rattle.serde_json.specs.View.{view, items_view};
-ghost use Rattle.tensor_terms.specs.Term.{unary, binary};
-ghost use Rattle.tensor_terms.specs.Tree.{term_of};
+ghost use Rattle.tensor_ops.specs.Term.{unary, binary};
+ghost use Rattle.tensor_ops.specs.Tree.{term_of};
 ghost use Rattle.expr_reader.specs.Arguments.{arguments_in};
 ghost use Rattle.expr_reader.specs.Outcome.{IsReadOr};
 ghost use Rattle.expr_reader.specs.Version.{forms_of, unary_of, forms_of_two, binary_of};

@@ -4,9 +4,9 @@ ghost use Rattle.std.specs.Prelude.{◌≡◌, ℕ, Ok, length, map, IsTrue, Mat
 ghost use Rattle.std.specs.Prelude.{option_and_then};
 ghost use Rattle.serde_json.specs.Find.{get_item};
 ghost use Rattle.serde_json.specs.View.{view, items_view};
-ghost use Rattle.tensor_terms.specs.Result.{operand_dims};
-ghost use Rattle.tensor_terms.specs.Term.{has_inputs, unary, binary, ternary, select};
-ghost use Rattle.tensor_terms.specs.Tree.{term_of};
+ghost use Rattle.tensor_ops.specs.Result.{operand_dims};
+ghost use Rattle.tensor_ops.specs.Term.{has_inputs, unary, binary, ternary, select};
+ghost use Rattle.tensor_ops.specs.Tree.{term_of};
 ghost use Rattle.expr_reader.specs.Node.{operation_at, input_at, made, checked, tree_at};
 ghost use Rattle.expr_reader.specs.Shown.{IsNamed};
 ghost use Rattle.expr_reader.specs.Tensors.{Named, given};

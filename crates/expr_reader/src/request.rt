@@ -1,9 +1,9 @@
 //! The request that a text names.
 
 ghost use Rattle.std.specs.Prelude.{◌+◌, ◌^◌, ◌<◌, ◌≤◌, IsTrue, IsOk, length};
-ghost use Rattle.tensor_terms.specs.Result.{dims_of};
-ghost use Rattle.tensor_terms.specs.Term.{has_inputs, nodes_of};
-ghost use Rattle.tensor_terms.specs.Tree.{term_of};
+ghost use Rattle.tensor_ops.specs.Result.{dims_of};
+ghost use Rattle.tensor_ops.specs.Term.{has_inputs, nodes_of};
+ghost use Rattle.tensor_ops.specs.Tree.{term_of};
 ghost use Rattle.expr_reader.specs.Limits.{most_workers};
 
 use tensor_ops::{Expr, Inputs};

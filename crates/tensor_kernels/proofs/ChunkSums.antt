@@ -12,7 +12,7 @@ use Rattle.tensor_shape.specs.Wrap.{wrap}
 use Rattle.tensor_kernels.specs.Cells.{HoldsRows}
 use Rattle.tensor_kernels.specs.Chunks.{chunk_start, chunk, before}
 use Rattle.tensor_kernels.specs.Panels.{AreCells, AreInside, panel_place, rows_product}
-use Rattle.tensor_kernels.specs.Values.{value_in}
+use Rattle.tensor_values.specs.Values.{value_in}
 use Rattle.tensor_kernels.specs.Products.{sum_to}
 use Rattle.tensor_kernels.specs.Rows.{row_count, row_length, row_value}
 use Rattle.tensor_kernels.specs.declared.rows.Rows.{Rows}

@@ -7,7 +7,7 @@ use Rattle.std.proofs.Math.Arith.{digits_lt}
 use Rattle.std.proofs.lemmas.List.{get_or_append_left}
 use Rattle.std.proofs.lemmas.Simd.{get_or_narrower}
 use lib.Lanes.{Each1, number_l, digits_l, zip2}
-use Rattle.tensor_kernels.specs.Values.{value_in}
+use Rattle.tensor_values.specs.Values.{value_in}
 use Rattle.tensor_kernels.specs.Panels.{AreLanes}
 use Rattle.tensor_kernels.specs.Halves.{low_half, high_half}
 use Rattle.tensor_kernels.proofs.HalfProducts.{bits_below}

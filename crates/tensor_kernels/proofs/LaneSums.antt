@@ -6,7 +6,7 @@ use Rattle.std.proofs.lemmas.Bool.{cases_lt}
 use Rattle.tensor_shape.specs.Wrap.{wrap}
 use Rattle.tensor_kernels.specs.Halves.{joined}
 use Rattle.tensor_kernels.specs.Panels.{AreLanes}
-use Rattle.tensor_kernels.specs.Values.{value_in}
+use Rattle.tensor_values.specs.Values.{value_in}
 use Rattle.tensor_kernels.specs.Products.{sum_to}
 use Rattle.tensor_kernels.proofs.HalfLanes.{joined-bits}
 use Rattle.tensor_kernels.proofs.ProductSums.{wrap-next}

@@ -8,10 +8,8 @@ pub mod PackedRows
 pub mod PairLanes
 pub mod PairProducts
 pub mod PanelPlaces
-pub mod PanelSums
 pub mod Parts
 pub mod ProductSums
-pub mod Runs
 pub mod SimdLanes
 pub mod TilePlaces
 pub mod TurnedRows

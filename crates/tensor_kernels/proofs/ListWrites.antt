@@ -6,7 +6,7 @@ use Rattle.std.proofs.lemmas.List.{take_rest, get_or-drop}
 use Rattle.std.proofs.lemmas.Int.{SFits-int_wrap, to_z-of_z}
 use Rattle.std.specs.Int.{w64}
 use mir.Val.{SFits}
-use Rattle.tensor_kernels.specs.Values.{value_in}
+use Rattle.tensor_values.specs.Values.{value_in}
 use Rattle.tensor_shape.specs.Wrap.{wrap}
 
 -- a wrapped number fits a cell of 64 bits

@@ -3,7 +3,7 @@ use Rattle.std.proofs.Common.{◌≡◌, ℕ, ◌+◌, ◌*◌, ◌-◌, ◌/◌
 use Rattle.std.proofs.Common.{FitsSigned, sym, subst, arith}
 use Rattle.std.specs.Int.{w32}
 use Rattle.tensor_kernels.specs.Panels.{AreCells, AreInside, AreSmall}
-use Rattle.tensor_kernels.proofs.TilePlaces.{some_factor}
+use Rattle.tensor_values.proofs.Factors.{some_factor}
 
 -- cells of numbers of 32 bits
 pub are_small-cells : (cells values : List ℤ) (rows offsets : List ℕ) (panels : ℕ)

@@ -6,7 +6,7 @@ use Rattle.std.proofs.lemmas.Int.{int_wrap-add_left, int_wrap-add_right, int_wra
 use Rattle.std.proofs.lemmas.Int.{int_wrap-mul_right}
 use Rattle.std.specs.Int.{w64, int_wrap}
 use lib.Lanes.{zip2}
-use Rattle.tensor_kernels.specs.Values.{value_in}
+use Rattle.tensor_values.specs.Values.{value_in}
 use Rattle.tensor_shape.specs.Wrap.{wrap}
 use Rattle.tensor_kernels.specs.Panels.{AreLanes}
 use Rattle.tensor_kernels.proofs.HalfProducts.{wrap-bits}

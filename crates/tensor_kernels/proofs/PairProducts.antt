@@ -4,7 +4,7 @@ use Rattle.std.proofs.Common.{List, refl, ap, sym, ◌∙◌, arith}
 use Rattle.std.proofs.lemmas.Int.{ints, int_wrap-add_left, int_wrap-sub_right}
 use Rattle.std.proofs.Math.IntN.{+ℤ_idl, zero-*ℤ, suc_ℤ-+ℤ, suc_ℤ-*ℤ, pred_ℤ-+ℤ, pred_ℤ-*ℤ, *ℤ_comm}
 use Rattle.std.specs.Int.{w64}
-use Rattle.tensor_kernels.specs.Values.{value_in}
+use Rattle.tensor_values.specs.Values.{value_in}
 use Rattle.tensor_shape.specs.Wrap.{wrap}
 use Rattle.tensor_kernels.specs.Panels.{panel_product}
 use Rattle.tensor_kernels.specs.Pairs.{pair_sum, pairs_product}

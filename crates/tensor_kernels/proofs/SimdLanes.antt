@@ -10,7 +10,7 @@ use Rattle.std.proofs.lemmas.Int.{wraps, wrapping_add-bits, to_z-of_z, SFits-int
 use Rattle.std.proofs.lemmas.Simd.{get_or-zip2, length-zip2, get_or-chunk, length-chunk}
 use Rattle.std.proofs.Math.Facts.{sfits_widen}
 use lib.Lanes.{zip2, chunk}
-use Rattle.tensor_kernels.specs.Values.{value_in}
+use Rattle.tensor_values.specs.Values.{value_in}
 use Rattle.tensor_shape.specs.Wrap.{wrap}
 use Rattle.tensor_kernels.specs.Panels.{AreLanes, AreSmall}
 

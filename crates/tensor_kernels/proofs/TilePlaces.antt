@@ -1,17 +1,12 @@
 -- Places of a panel of columns, and those of its tiles.
-use Rattle.std.proofs.Common.{◌≡◌, ◌≢◌, ℕ, zero, suc, ◌+◌, ◌*◌, ◌-◌, ◌/◌, ◌%◌, ◌<◌, ◌≤◌, ℤ, List}
+use Rattle.std.proofs.Common.{◌≡◌, ◌≢◌, ℕ, ◌+◌, ◌*◌, ◌-◌, ◌/◌, ◌%◌, ◌<◌, ◌≤◌, ℤ, List}
 use Rattle.std.proofs.Common.{length, slice_set, ap, sym, subst, arith, inl, inr}
 use Rattle.std.proofs.Common.{get_or-set_other, get_or-set_same}
 use Rattle.std.proofs.Math.Nat.{mul-add-mod_self_right, mul-add-div_right, div-add-mod}
 use Rattle.std.proofs.Math.Nat.{div-mul-le_self}
 use Rattle.std.proofs.lemmas.Bool.{cases_lt, cases_eq}
 use Rattle.std.proofs.lemmas.Nat.{div-mul-add, mod-mul-add, le-div}
-use Rattle.tensor_kernels.specs.Values.{value_in}
-
--- a factor of a number that is not 0
-pub some_factor : (a b c : ℕ) → c < a * b → 0 < b
-some_factor a zero c below = absurd (omega arith)
-some_factor a (suc b) c below = omega arith
+use Rattle.tensor_values.specs.Values.{value_in}
 
 -- the row and the column of a place of a panel of columns
 pub panel-row : (p m l : ℕ) → (p * (4 * m) + l) % m ≡ l % m

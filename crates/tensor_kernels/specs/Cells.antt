@@ -8,8 +8,8 @@ use Rattle.tensor_kernels.specs.Chunks.{chunk}
 use Rattle.tensor_kernels.specs.Pairs.{HasPairSums, ArePairSums}
 use Rattle.tensor_kernels.specs.Panels.{AreCells, AreSmall}
 use Rattle.tensor_kernels.specs.Rows.{row_count}
-use Rattle.tensor_kernels.specs.declared.columns.Columns.{Columns}
-use Rattle.tensor_kernels.specs.declared.pair_sums.Paired.{Paired}
+use Rattle.tensor_kernels.specs.declared.tiling.columns.Columns.{Columns}
+use Rattle.tensor_kernels.specs.declared.panels.pair_sums.Paired.{Paired}
 use Rattle.tensor_kernels.specs.declared.panels.Panels.{Panels}
 use Rattle.tensor_kernels.specs.declared.panels.Panels.TheVariants.{Wide, Small}
 use Rattle.tensor_kernels.specs.declared.rows.Rows.{Rows}

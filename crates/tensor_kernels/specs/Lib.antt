@@ -1,5 +1,4 @@
-pub use Rattle.tensor_shape.specs.Legal
-pub use Rattle.tensor_shape.specs.Wrap
+-- for private clauses alone
 pub mod Cells
 pub mod Chunks
 pub mod Contracting
@@ -14,4 +13,3 @@ pub mod SlidRuns
 pub mod StripDots
 pub mod Strips
 pub mod Tiling
-pub mod Values

@@ -2,7 +2,7 @@
 use Rattle.std.specs.Prelude.{◌≡◌, ℕ, zero, suc, ℤ, pos, ◌+ℤ◌, ◌*ℤ◌, ◌+◌, ◌/◌, ◌%◌, ◌<◌, List}
 use Rattle.std.specs.Prelude.{slice_index}
 use Rattle.tensor_shape.specs.Wrap.{wrap}
-use Rattle.tensor_kernels.specs.Values.{value_in}
+use Rattle.tensor_values.specs.Values.{value_in}
 
 -- f 0 + f 1 + .. of the first n
 abbrev pub sum_to : (ℕ → ℤ) → ℕ → ℤ

@@ -1,7 +1,7 @@
 -- Operands as rows.
 use Rattle.std.specs.Prelude.{ℕ, ℤ, ◌+◌, length, slice_index}
 use Rattle.std.specs.Cow.{cow_slice_items}
-use Rattle.tensor_kernels.specs.Values.{value_in}
+use Rattle.tensor_values.specs.Values.{value_in}
 use Rattle.tensor_kernels.specs.Products.{rows_dot}
 use Rattle.tensor_kernels.specs.declared.rows.Rows.{Rows}
 

@@ -3,7 +3,7 @@ use Rattle.std.specs.Prelude.{ℕ, ℤ}
 use Rattle.tensor_kernels.specs.Products.{rows_dot}
 use Rattle.tensor_kernels.specs.Rows.{row_value}
 use Rattle.tensor_kernels.specs.SlidRuns.{slid_count, slid_length, slid_value}
-use Rattle.tensor_kernels.specs.declared.slid_dots.SlidDots.{SlidDots}
+use Rattle.tensor_kernels.specs.declared.dots.slid_dots.SlidDots.{SlidDots}
 
 -- how many values the result has
 abbrev pub slid_dots_count : SlidDots → ℕ

@@ -1,8 +1,8 @@
 -- Operands of convolutions as runs.
 use Rattle.std.specs.Prelude.{ℕ, ℤ, ◌+◌, ◌*◌, ◌/◌, ◌%◌, length, slice_index}
 use Rattle.std.specs.Cow.{cow_slice_items}
-use Rattle.tensor_kernels.specs.Values.{value_in}
-use Rattle.tensor_kernels.specs.declared.slid_runs.SlidRuns.{SlidRuns}
+use Rattle.tensor_values.specs.Values.{value_in}
+use Rattle.tensor_kernels.specs.declared.rows.slid_runs.SlidRuns.{SlidRuns}
 
 -- how many places all runs have
 abbrev pub slid_count : SlidRuns → ℕ

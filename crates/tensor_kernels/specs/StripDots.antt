@@ -2,7 +2,7 @@
 use Rattle.std.specs.Prelude.{ℕ, ℤ, ◌*◌}
 use Rattle.tensor_kernels.specs.Products.{rows_dot}
 use Rattle.tensor_kernels.specs.Strips.{strip_count, strip_value}
-use Rattle.tensor_kernels.specs.declared.strip_dots.StripDots.{StripDots}
+use Rattle.tensor_kernels.specs.declared.dots.strip_dots.StripDots.{StripDots}
 
 -- how many values the result has
 abbrev pub strip_dots_count : StripDots → ℕ

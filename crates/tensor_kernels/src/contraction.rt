@@ -2,18 +2,18 @@
 
 ghost use Rattle.std.specs.Prelude.{◌≡◌, ◌<◌, ◌≤◌, ◌+◌, ◌*◌, ◌-◌, ℕ, length, map, IfOk, OnOk};
 ghost use Rattle.std.specs.List.{range_with_len};
-ghost use Rattle.tensor_kernels.specs.Values.{value_in};
+ghost use Rattle.tensor_values.specs.Values.{value_in};
 ghost use Rattle.tensor_kernels.specs.Products.{rows_dot};
 ghost use Rattle.tensor_kernels.specs.Rows.{row_count, row_length, row_value, dot_at};
 ghost use Rattle.tensor_kernels.specs.SlidRuns.{slid_count, slid_length, slid_value};
-ghost use Rattle.tensor_kernels.specs.Strips.{strip_count, strip_value};
+ghost use Rattle.tensor_kernels.specs.Strips.{strip_count, strip_length, strip_value};
 
 use crate::dots::Dots;
+use crate::dots::slid_dots::SlidDots;
+use crate::dots::strip_dots::StripDots;
 use crate::rows::Rows;
-use crate::slid_dots::SlidDots;
-use crate::slid_runs::SlidRuns;
-use crate::strip_dots::StripDots;
-use crate::strips::Strips;
+use crate::rows::slid_runs::SlidRuns;
+use crate::rows::strips::Strips;
 use crate::tiling::Tiled;
 use std::alloc::{AllocError, Allocator, Global};
 
@@ -75,12 +75,12 @@ impl<'a> Contraction<'a> {
 
     /// The contraction of two operands whose rows lie side by side, value by value.
     pub fn of_strips(first: Strips<'a>, second: Strips<'a>) -> Contraction<'a>
-        requires { first.width ≡ second.width }
+        requires { strip_length first ≡ strip_length second }
         ensures count { contraction_count result
             ≡ strip_count second.entry * strip_count first.entry }
         ensures value { (p : ℕ) → contraction_value result p
-            ≡ rows_dot (strip_count first.entry) first.entry.width (strip_value first.entry)
-            (strip_value second.entry) p }
+            ≡ rows_dot (strip_count first.entry) (strip_length first.entry)
+            (strip_value first.entry) (strip_value second.entry) p }
     {
         Contraction::InStrips(StripDots::of(first, second))
     }

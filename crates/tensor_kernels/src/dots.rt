@@ -1,10 +1,17 @@
 //! Contractions row by row: for operands with few rows, which tiles would hold zeros for.
 
+pub(crate) mod row_sums;
+pub(crate) mod sixteens;
+pub(crate) mod slid_dots;
+pub(crate) mod small_eight;
+pub(crate) mod strip_dots;
+pub(crate) mod wide_eight;
+
 ghost use Rattle.std.specs.Prelude.{◌≡◌, ℕ, ◌*◌, ◌+◌, ◌<◌, ◌≤◌, length};
-ghost use Rattle.tensor_kernels.specs.Values.{value_in};
+ghost use Rattle.tensor_values.specs.Values.{value_in};
 ghost use Rattle.tensor_kernels.specs.Rows.{row_count, row_length, dot_at};
 
-use crate::row_sums::row_sums;
+use crate::dots::row_sums::row_sums;
 use crate::rows::Rows;
 
 /// Two operands whose rows have equally many values.

@@ -1,17 +1,22 @@
 //! A chunk of the products of a contraction: the first operand in panels of four rows, and beside
 //! them one panel of the second.
 
+pub(crate) mod cell;
+pub(crate) mod chunks;
+pub(crate) mod packing;
+pub(crate) mod pair_sums;
+
 ghost use Rattle.std.specs.Prelude.{◌≡◌, ℕ, ◌*◌, ◌+◌, ◌/◌, ◌%◌, ◌<◌, ◌≤◌, ◌^◌, length};
 ghost use Rattle.std.specs.Prelude.{IfOk, IsTrue, OnOk};
 ghost use Rattle.tensor_shape.specs.Wrap.{wrap};
 ghost use Rattle.tensor_kernels.specs.Panels.{AreCells, AreInside, AreSmall, rows_product};
-ghost use Rattle.tensor_kernels.specs.Values.{value_in};
+ghost use Rattle.tensor_values.specs.Values.{value_in};
 
-use crate::columns::Columns;
-use crate::packing::packed;
-use crate::pair_sums::Paired;
-use crate::small::small_tile;
-use crate::tile::wide_tile;
+use crate::panels::packing::packed;
+use crate::panels::pair_sums::Paired;
+use crate::tiling::columns::Columns;
+use crate::tiling::small::small_tile;
+use crate::tiling::tile::wide_tile;
 use std::alloc::{AllocError, Global};
 
 /// The first operand's panels of a chunk, in cells of 64 bits or, where all values of both operands

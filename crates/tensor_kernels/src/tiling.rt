@@ -1,6 +1,12 @@
 //! Ranges of a contraction's values, tile by tile. A tile holds four rows by four columns of the
 //! result, a panel of columns four columns, whose places lie side by side.
 
+pub(crate) mod columns;
+pub(crate) mod halves;
+pub(crate) mod pairs;
+pub(crate) mod small;
+pub(crate) mod tile;
+
 ghost use Rattle.std.specs.Prelude.{◌≡◌, ℕ, ◌*◌, ◌+◌, ◌-◌, ◌/◌, ◌%◌, ◌<◌, ◌≤◌, ◌^◌, length};
 ghost use Rattle.std.specs.Prelude.{IfOk, IfSome, IsTrue, None, OnOk, ◌+ℤ◌};
 ghost use Rattle.std.specs.Cow.{cow_slice_items};
@@ -10,13 +16,13 @@ ghost use Rattle.tensor_kernels.specs.Cells.{first_cells, second_cells, AreReady
 ghost use Rattle.tensor_kernels.specs.Cells.{AreChunks, AreChunks-prop};
 ghost use Rattle.tensor_kernels.specs.Chunks.{before};
 ghost use Rattle.tensor_kernels.specs.Panels.{AreSmall, rows_product};
-ghost use Rattle.tensor_kernels.specs.Values.{value_in};
+ghost use Rattle.tensor_values.specs.Values.{value_in};
 ghost use Rattle.tensor_kernels.specs.Rows.{row_count, row_length, dot_at};
 
-use crate::chunks::{chunk_count, chunk_of};
-use crate::columns::Columns;
+use crate::panels::chunks::{chunk_count, chunk_of};
 use crate::panels::{Panels, are_small};
 use crate::rows::Rows;
+use crate::tiling::columns::Columns;
 use std::alloc::{AllocError, Global};
 
 /// Two operands whose rows have equally many values, the first packed chunk by chunk of the

@@ -4,16 +4,16 @@ use Rattle.std.proofs.Common.{ap, ◌∙◌, arith}
 use Rattle.std.specs.List.{range_with_len}
 use Rattle.std.proofs.lemmas.Nat.{column_fits}
 use Rattle.tensor_walks.specs.Folds.{folded, run_folded}
-use Rattle.tensor_kernels.specs.Values.{value_in}
+use Rattle.tensor_values.specs.Values.{value_in}
 use Rattle.tensor_ops.specs.InRuns.{run_whole}
-use Rattle.tensor_walks.specs.Combining.{unit}
+use Rattle.tensor_values.specs.Combining.{unit}
 use Rattle.tensor_ops.specs.ValueRuns.{run_value, run_combined}
-use Rattle.tensor_ops.specs.declared.in_runs.InRuns.TheVariants.{Combined}
-use Rattle.tensor_walks.specs.declared.reducer.Reducer.{Reducer}
-use Rattle.tensor_ops.specs.declared.value_runs.ValueRuns.{ValueRuns}
+use Rattle.tensor_ops.specs.declared.part_evaluator.in_runs.InRuns.TheVariants.{Combined}
+use Rattle.tensor_values.specs.declared.reducer.Reducer.{Reducer}
+use Rattle.tensor_ops.specs.declared.part_evaluator.value_runs.ValueRuns.{ValueRuns}
 use Rattle.tensor_walks.proofs.Folding.{folded-ext}
 use Rattle.tensor_ops.proofs.PartValues.{piece-value}
-use Rattle.tensor_kernels.proofs.Runs.{map-shifted}
+use Rattle.tensor_values.proofs.Runs.{map-shifted}
 
 -- how many values runs have
 pub long-runs : (n first last : ℕ) → first ≤ last

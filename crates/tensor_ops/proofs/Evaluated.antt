@@ -8,7 +8,7 @@ use Rattle.tensor_terms.specs.Contents.{Contents, value_at}
 use Rattle.tensor_terms.specs.Result.{shape_of}
 use Rattle.tensor_terms.specs.Term.{Term}
 use Rattle.tensor_terms.specs.Value.{value, value_of_place, values_from, tensor_of}
-use Rattle.tensor_kernels.proofs.Runs.{map-shifted}
+use Rattle.tensor_values.proofs.Runs.{map-shifted}
 
 module _ (inputs : List Contents) (t : Term) where
   -- a function that has the term's values at all places gives its values

@@ -1,9 +1,9 @@
+pub use Rattle.tensor_terms.proofs.OtherAxes
+pub use Rattle.tensor_terms.proofs.Ranks
+pub use Rattle.tensor_terms.proofs.Shapes
 pub mod CombinedRuns
 pub mod Convolved
-pub mod Dropping
 pub mod Evaluated
-pub mod FirstAxes
-pub mod LedRows
 pub mod PartValues
 pub mod Placings
 pub mod SameTensors

@@ -20,27 +20,27 @@ use Rattle.tensor_walks.specs.Folds.{folded}
 use Rattle.tensor_ops.specs.InRuns.{GivesParts}
 use Rattle.tensor_ops.specs.Meaning.{meaning}
 use Rattle.tensor_terms.specs.Movement.{moved, moved_dims, shuffled_dims, scattered}
-use Rattle.tensor_kernels.specs.Values.{value_in}
+use Rattle.tensor_values.specs.Values.{value_in}
 use Rattle.tensor_ops.specs.Placing.{Gives, meaning_at}
 use Rattle.tensor_kernels.specs.Products.{sum_to}
 use Rattle.tensor_terms.specs.Reduction.{are_axes}
-use Rattle.tensor_walks.specs.Combining.{combine, unit}
+use Rattle.tensor_values.specs.Combining.{combine, unit}
 use Rattle.tensor_terms.specs.Result.{dims_of, shape_of}
 use Rattle.tensor_terms.specs.Term.{Term, unary, binary, reduce, contract, shuffle}
 use Rattle.tensor_terms.specs.Value.{value}
 use Rattle.tensor_ops.specs.ValueRuns.{run_value, LieInRuns}
 use Rattle.tensor_terms.specs.Woven.{among, others, dims_at, other_dims, woven}
-use Rattle.tensor_ops.specs.declared.in_runs.InRuns.TheVariants.{Combined, Multiplied}
+use Rattle.tensor_ops.specs.declared.part_evaluator.in_runs.InRuns.TheVariants.{Combined, Multiplied}
 use Rattle.tensor_ops.specs.declared.placed.Placed.{Placed}
-use Rattle.tensor_walks.specs.declared.reducer.Reducer.{Reducer}
-use Rattle.tensor_ops.specs.declared.value_runs.ValueRuns.{ValueRuns}
-use Rattle.tensor_terms.proofs.Contractions.{fold-sum_to}
+use Rattle.tensor_values.specs.declared.reducer.Reducer.{Reducer}
+use Rattle.tensor_ops.specs.declared.part_evaluator.value_runs.ValueRuns.{ValueRuns}
+use Rattle.tensor_operands.proofs.Contractions.{fold-sum_to}
 use Rattle.tensor_terms.proofs.Dropped.{axes_first, other_dims-among}
 use Rattle.tensor_walks.proofs.Folding.{folded-ext, folded-append}
 use Rattle.tensor_terms.proofs.OtherAxes.{are_axes-among}
 use Rattle.tensor_ops.proofs.Placings.{gives-index}
 use Rattle.tensor_kernels.proofs.ProductSums.{sum_to-ext, sum_to-append}
-use Rattle.tensor_kernels.proofs.Runs.{map-shifted}
+use Rattle.tensor_values.proofs.Runs.{map-shifted}
 use Rattle.tensor_terms.proofs.Splits.{size_of-append, dims_at-range}
 use Rattle.tensor_terms.proofs.Terms.{reduced-known, contracted-known, contracted-parts}
 use Rattle.tensor_terms.proofs.TwoParts.{shuffle-first, dims-first, part-below, woven-moved}

@@ -1,28 +1,28 @@
 -- Expressions placed: each kind of node keeps the values.
-use Rattle.std.proofs.Common.{◌≡◌, ℕ, ℤ, pos, ◌+◌, ◌<◌, ◌≤◌, ◌≢◌, ◌^◌, List, length, map, Bor, Result, Ok, Err, IfOk}
+use Rattle.std.proofs.Common.{◌≡◌, ℕ, ℤ, pos, ◌+◌, ◌<◌, ◌≤◌, ◌≢◌, ◌^◌, List, length, map, Bor, Ok}
 use Rattle.std.proofs.Common.{refl, ap, sym, subst, ◌∙◌, arith}
 use Rattle.std.specs.List.{range_with_len}
 use Rattle.std.proofs.lemmas.List.FromFn.{length-map-range_with_len, get_or-map-range_with_len}
 use Rattle.tensor_shape.specs.Index.{size_of, IsIndexOf, place, index_of}
 use Rattle.tensor_shape.specs.Legal.{highest_rank, most_elements}
 use Rattle.tensor_shape.proofs.Places.{place-below-size_of, index_of-place, place-index_of, IsIndexOf-index_of}
-use Rattle.tensor_terms.specs.Axes.{axes_from, by_steps, moved_axes, moved_start}
+use Rattle.tensor_operands.specs.Axes.{axes_from, by_steps, moved_axes, moved_start}
 use Rattle.tensor_terms.specs.Contents.{Contents, value_at}
 use Rattle.tensor_ops.specs.Meaning.{meaning, count_of, IsSound, IsListOf}
 use Rattle.tensor_terms.specs.Movement.{moved, moved_dims}
-use Rattle.tensor_kernels.specs.Values.{value_in}
+use Rattle.tensor_values.specs.Values.{value_in}
 use Rattle.tensor_ops.specs.Placing.{Gives, IsJoined, IsView, meaning_at}
 use Rattle.tensor_terms.specs.Term.{Movement, reshape}
-use Rattle.tensor_walks.specs.Scalars.{applied, combined}
+use Rattle.tensor_values.specs.Scalars.{applied, combined}
 use Rattle.tensor_walks.specs.Walk.{walk_size, reached}
-use Rattle.tensor_walks.specs.declared.operations.BinaryScalar.{BinaryScalar}
-use Rattle.tensor_walks.specs.declared.operations.UnaryScalar.{UnaryScalar}
+use Rattle.tensor_values.specs.declared.operations.BinaryScalar.{BinaryScalar}
+use Rattle.tensor_values.specs.declared.operations.UnaryScalar.{UnaryScalar}
 use Rattle.tensor_ops.specs.declared.placed.Placed.{Placed}
 use Rattle.tensor_ops.specs.declared.placed.Placed.TheVariants.{Lent}
 use Rattle.tensor_walks.specs.declared.walk.Axis.{Axis}
-use Rattle.tensor_terms.proofs.AxisLists.{are_along-from, by_steps-from}
+use Rattle.tensor_operands.proofs.AxisLists.{are_along-from, by_steps-from}
 use Rattle.tensor_terms.proofs.Known.{reshape-known}
-use Rattle.tensor_terms.proofs.Moves.{walk_size-moved, reached-moved, index-moved, moved_start-below}
+use Rattle.tensor_operands.proofs.Moves.{walk_size-moved, reached-moved, index-moved, moved_start-below}
 
 -- what is placed gives its own values
 pub gives-itself : (placed : Placed) (ds : List ℕ) → IsSound placed → count_of placed ≡ size_of ds
@@ -161,11 +161,6 @@ gives-other placed rs f g gives same = record {
   count = gives.count;
   means = λ p below. gives.means p below ∙ same (index_of rs p) (IsIndexOf-index_of rs p below);
 }
-
--- two facts of the same result
-pub IfOk-both : {X E : Type 0} (r : Result X E) (P Q R : X → Type 0) → ((x : X) → P x → Q x → R x) → IfOk r P → IfOk r Q → IfOk r R
-IfOk-both (Ok x) P Q R join p q = join x p q
-IfOk-both (Err e) P Q R join p q = p
 
 -- what stands for a placed expression gives what that gives
 pub gives-after : (placed other : Placed) (ds : List ℕ) (f : List ℕ → ℤ) → Gives other ds f → Gives placed ds (meaning_at other ds)

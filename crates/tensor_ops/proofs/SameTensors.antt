@@ -15,7 +15,7 @@ use Rattle.tensor_terms.specs.Convolution.{slid_dims}
 use Rattle.tensor_terms.specs.Movement.{moved}
 use Rattle.tensor_terms.specs.Padding.{padded_dims}
 use Rattle.tensor_terms.specs.Result.{dims_of, shape_of, unary_dims, binary_dims, ternary_dims}
-use Rattle.tensor_walks.specs.Scalars.{applied}
+use Rattle.tensor_values.specs.Scalars.{applied}
 use Rattle.tensor_terms.specs.Shaped.{with_one, with_two, with_three, equal_dims}
 use Rattle.tensor_terms.specs.Term.{Term, input, unary, binary, ternary}
 use Rattle.tensor_terms.specs.Term.{Unary, each, constant, movement, pad, reduce, Binary, pairwise}

@@ -10,18 +10,18 @@ use Rattle.tensor_shape.specs.Legal.{most_elements}
 use Rattle.tensor_walks.specs.Joining.{span, IsJoint}
 use Rattle.tensor_walks.specs.Loops.{either_way, selected}
 use Rattle.tensor_ops.specs.Meaning.{meaning, count_of, IsSound, IsListOf}
-use Rattle.tensor_kernels.specs.Values.{value_in}
+use Rattle.tensor_values.specs.Values.{value_in}
 use Rattle.tensor_ops.specs.Placing.{Gives, HasValues, IsJoined, meaning_at}
-use Rattle.tensor_walks.specs.Scalars.{applied}
+use Rattle.tensor_values.specs.Scalars.{applied}
 use Rattle.tensor_ops.specs.Settling.{Follows, meaning_along}
-use Rattle.tensor_walks.specs.Splicing.{spliced, HaveTurns}
+use Rattle.tensor_values.specs.Splicing.{spliced, HaveTurns}
 use Rattle.tensor_walks.specs.Walk.{walk_size, reached, steps_to}
 use Rattle.tensor_walks.specs.declared.loops.SelectOrder.{SelectOrder}
-use Rattle.tensor_walks.specs.declared.operations.UnaryScalar.{UnaryScalar}
-use Rattle.tensor_walks.specs.declared.operations.BinaryScalar.{BinaryScalar}
+use Rattle.tensor_values.specs.declared.operations.UnaryScalar.{UnaryScalar}
+use Rattle.tensor_values.specs.declared.operations.BinaryScalar.{BinaryScalar}
 use Rattle.tensor_ops.specs.declared.placed.Placed.{Placed}
 use Rattle.tensor_walks.specs.declared.walk.Axis.{Axis}
-use Rattle.tensor_walks.proofs.InTurns.{spliced-other}
+use Rattle.tensor_values.proofs.InTurns.{spliced-other}
 use Rattle.tensor_walks.proofs.Walks.{reached-row, row-within, mul-next}
 
 -- the last place along axes

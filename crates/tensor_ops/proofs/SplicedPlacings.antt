@@ -9,9 +9,9 @@ use Rattle.tensor_shape.specs.Legal.{highest_rank}
 use Rattle.tensor_terms.specs.Concatenation.{joined_dims, concatenated_dims, concatenated}
 use Rattle.tensor_ops.specs.Meaning.{meaning, count_of, IsSound}
 use Rattle.tensor_ops.specs.Placing.{Gives, meaning_at}
-use Rattle.tensor_walks.specs.Splicing.{is_of_first, firsts_before, seconds_before, spliced, HaveTurns}
+use Rattle.tensor_values.specs.Splicing.{is_of_first, firsts_before, seconds_before, spliced, HaveTurns}
 use Rattle.tensor_ops.specs.declared.placed.Placed.{Placed}
-use Rattle.tensor_walks.proofs.InTurns.{spliced-second, spliced-first}
+use Rattle.tensor_values.proofs.InTurns.{spliced-second, spliced-first}
 use Rattle.tensor_terms.proofs.Splices.{IsConcatenation, concatenation-known, concatenated-spliced, have_turns-concatenation, size_of-concatenation, size_of-parts}
 
 -- a splice with one operand alone

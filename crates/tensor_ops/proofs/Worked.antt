@@ -11,7 +11,7 @@ use Rattle.tensor_shape.proofs.Places.{IsIndexOf-index_of}
 use Rattle.tensor_terms.specs.Contents.{Contents}
 use Rattle.tensor_terms.specs.Contraction.{outer_dims, contracted, contracted_dims}
 use Rattle.tensor_ops.specs.Meaning.{meaning, count_of, IsSound, IsListOf}
-use Rattle.tensor_kernels.specs.Values.{value_in}
+use Rattle.tensor_values.specs.Values.{value_in}
 use Rattle.tensor_ops.specs.Placing.{Gives, HasValues, meaning_at}
 use Rattle.tensor_terms.specs.Reduction.{reduced, reduced_dims}
 use Rattle.tensor_terms.specs.Result.{shape_of, unary_dims, binary_dims}
@@ -19,7 +19,7 @@ use Rattle.tensor_terms.specs.Term.{Term, unary, binary, Unary, Binary}
 use Rattle.tensor_terms.specs.Value.{value, unary_value, binary_value}
 use Rattle.tensor_terms.specs.Woven.{other_dims}
 use Rattle.tensor_ops.specs.declared.placed.Placed.{Placed}
-use Rattle.tensor_walks.specs.declared.reducer.Reducer.{Reducer}
+use Rattle.tensor_values.specs.declared.reducer.Reducer.{Reducer}
 use Rattle.tensor_terms.proofs.Known.{reduction-known, contraction-known}
 use Rattle.tensor_ops.proofs.Placings.{gives-index, gives-other}
 use Rattle.tensor_ops.proofs.SameTensors.{agree-unary, agree-binary}

@@ -12,7 +12,7 @@ use Rattle.tensor_ops.specs.Meaning.{meaning}
 use Rattle.tensor_terms.specs.Padding.{padded_dims, padded}
 use Rattle.tensor_ops.specs.Placing.{Gives, meaning_at}
 use Rattle.tensor_terms.specs.Shaped.{Shaped}
-use Rattle.tensor_walks.specs.Splicing.{padded_along}
+use Rattle.tensor_values.specs.Splicing.{padded_along}
 use Rattle.tensor_ops.specs.declared.placed.Placed.{Placed}
 use Rattle.tensor_terms.proofs.Pads.{first_pads, padded_dims-more, bulk_of-first_pads, length-padded_dims, bulk_of-set-le, padded_along-other, padded-more}
 use Rattle.tensor_ops.proofs.Placings.{gives-index}

@@ -8,12 +8,12 @@ use Rattle.tensor_terms.specs.Contents.{Contents}
 use Rattle.tensor_walks.specs.Folds.{folded}
 use Rattle.tensor_ops.specs.Parts.{inner_size, part_value}
 use Rattle.tensor_kernels.specs.Products.{sum_to}
-use Rattle.tensor_walks.specs.Combining.{unit}
+use Rattle.tensor_values.specs.Combining.{unit}
 use Rattle.tensor_terms.specs.Result.{shape_of}
 use Rattle.tensor_terms.specs.Term.{Term}
 use Rattle.tensor_ops.specs.ValueRuns.{run_value}
-use Rattle.tensor_ops.specs.declared.in_runs.InRuns.{InRuns}
-use Rattle.tensor_ops.specs.declared.in_runs.InRuns.TheVariants.{Combined, Multiplied}
+use Rattle.tensor_ops.specs.declared.part_evaluator.in_runs.InRuns.{InRuns}
+use Rattle.tensor_ops.specs.declared.part_evaluator.in_runs.InRuns.TheVariants.{Combined, Multiplied}
 
 -- how many values a run has
 abbrev pub run_length : InRuns → ℕ

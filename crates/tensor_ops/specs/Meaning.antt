@@ -5,9 +5,9 @@ use native.Mathlib.Nat.{ℕ_set}
 use Rattle.tensor_shape.specs.Legal.{most_elements}
 use Rattle.tensor_walks.specs.Chain.{chained}
 use Rattle.tensor_walks.specs.Loops.{either_way, selected}
-use Rattle.tensor_kernels.specs.Values.{value_in}
-use Rattle.tensor_walks.specs.Scalars.{applied}
-use Rattle.tensor_walks.specs.Splicing.{spliced, HaveTurns}
+use Rattle.tensor_values.specs.Values.{value_in}
+use Rattle.tensor_values.specs.Scalars.{applied}
+use Rattle.tensor_values.specs.Splicing.{spliced, HaveTurns}
 use Rattle.tensor_walks.specs.Walk.{walk_size, reached}
 use Rattle.tensor_ops.specs.declared.placed.Placed.{Placed}
 use Rattle.tensor_walks.specs.declared.walk.Reading.{Reading}

@@ -6,14 +6,14 @@ use Rattle.tensor_shape.specs.Index.{size_of, index_of}
 use Rattle.tensor_shape.specs.Wrap.{wrap}
 use Rattle.tensor_terms.specs.Contents.{Contents}
 use Rattle.tensor_terms.specs.Contraction.{firsts, seconds}
-use Rattle.tensor_walks.specs.Combining.{combination}
+use Rattle.tensor_values.specs.Combining.{combination}
 use Rattle.tensor_terms.specs.Result.{shape_of}
 use Rattle.tensor_terms.specs.Term.{Term, input, unary, binary, ternary}
 use Rattle.tensor_terms.specs.Term.{Unary, each, constant, movement, pad, reduce}
 use Rattle.tensor_terms.specs.Term.{Binary, pairwise, concat, contract, convolve}
 use Rattle.tensor_terms.specs.Value.{value}
 use Rattle.tensor_terms.specs.Woven.{among, dims_at, other_dims, woven}
-use Rattle.tensor_walks.specs.declared.reducer.Reducer.{Reducer}
+use Rattle.tensor_values.specs.declared.reducer.Reducer.{Reducer}
 
 -- so many index lists of dims, in order, from the one at a place on
 abbrev pub index_lists_from : List ℕ → ℕ → ℕ → List (List ℕ)

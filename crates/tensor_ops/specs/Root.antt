@@ -3,9 +3,9 @@ use Rattle.std.specs.Prelude.{ℕ, ℤ}
 use Rattle.std.specs.Coded.{Unit-prop}
 use Rattle.tensor_kernels.specs.Contracting.{contraction_count, contraction_value}
 use Rattle.tensor_ops.specs.Meaning.{meaning, count_of, IsSound, IsSound-prop}
-use Rattle.tensor_ops.specs.Reduced.{places_of_result, reduction_at}
-use Rattle.tensor_ops.specs.declared.root.Root.{Root}
-use Rattle.tensor_ops.specs.declared.root.Root.TheVariants.{Placed, Reduction, Contraction}
+use Rattle.tensor_operands.specs.Reduced.{places_of_result, reduction_at}
+use Rattle.tensor_ops.specs.declared.evaluator.root.Root.{Root}
+use Rattle.tensor_ops.specs.declared.evaluator.root.Root.TheVariants.{Placed, Reduction, Contraction}
 
 -- how many values it has
 abbrev pub root_count : Root → ℕ

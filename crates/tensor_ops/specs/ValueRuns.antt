@@ -4,8 +4,8 @@ use Rattle.tensor_shape.specs.Index.{size_of, index_of}
 use Rattle.tensor_walks.specs.Folds.{run_folded}
 use Rattle.tensor_ops.specs.Meaning.{meaning}
 use Rattle.tensor_terms.specs.Woven.{dims_at, other_dims, woven}
-use Rattle.tensor_walks.specs.declared.reducer.Reducer.{Reducer}
-use Rattle.tensor_ops.specs.declared.value_runs.ValueRuns.{ValueRuns}
+use Rattle.tensor_values.specs.declared.reducer.Reducer.{Reducer}
+use Rattle.tensor_ops.specs.declared.part_evaluator.value_runs.ValueRuns.{ValueRuns}
 
 -- value q of run x
 abbrev pub run_value : ValueRuns → ℕ → ℕ → ℤ

@@ -1,5 +1,8 @@
 //! The values of an expression at ranges of places.
 
+pub(crate) mod plain;
+pub(crate) mod root;
+
 ghost use Rattle.std.specs.Prelude.{◌≡◌, ◌<◌, ◌≤◌, ◌-◌, ◌++◌, ℕ, length, IsTrue, IsOk, IfOk};
 ghost use Rattle.tensor_shape.specs.Legal.{highest_rank};
 ghost use Rattle.tensor_shape.specs.Index.{size_of};
@@ -10,13 +13,10 @@ ghost use Rattle.tensor_terms.specs.Term.{has_inputs};
 ghost use Rattle.tensor_terms.specs.Tree.{term_of};
 ghost use Rattle.tensor_terms.specs.Value.{value_of_place, values_from};
 
-use tensor_terms::Expr;
-use tensor_terms::Inputs;
-use crate::root::Root;
-use tensor_terms::Tensor;
-use tensor_terms::Tensors;
+use crate::evaluator::root::Root;
 use std::alloc::{AllocError, Allocator, Global};
 use tensor_shape::Dims;
+use tensor_terms::{Expr, Inputs, Tensor, Tensors};
 
 /// An expression that has result dims, over its inputs, made ready to be evaluated by ranges of
 /// places, as Eigen's evaluator of the same name. It is made once; all who work on ranges of it

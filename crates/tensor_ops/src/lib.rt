@@ -1,37 +1,33 @@
 //! Expressions over tensors of wrapping 64-bit integers, as in Eigen's Tensor module: their result
 //! dims, the value at one place, and the values of ranges of places, of which one is the whole.
+//!
+//! How values come to be:
+//!
+//! ```text
+//! Expr               a tree of operations, with arguments (tensor_terms)
+//!  │ placing         one walk over the tree, node by node; what is to be a list by then is
+//!  │                 worked out: operands of reductions, contractions and convolutions
+//! Placed             a tree without dims and arguments: a movement is a walk over places
+//!  │ settling        each walk goes down to the list that it reads, joined with those it meets
+//! Placed, settled    lists, each read along one walk; all else is in order
+//!  │
+//! Root               that tree, or a reduction or a contraction made ready (tensor_operands)
+//!  │ values          by 1,024 places (tensor_walks), or by rows and tiles (tensor_kernels)
+//! values of a range
+//! ```
 #![tactic(auto)]
 
-mod axes;
-mod contraction;
-mod convolution;
 mod evaluator;
-mod in_runs;
-mod kernels;
-mod offsets;
-mod operand;
-mod part;
 mod part_evaluator;
 mod placed;
 mod placing;
-mod plain;
-mod reduction;
-mod root;
-mod rows;
-mod slid_runs;
-mod splicing;
-mod strips;
-mod value_runs;
 
-pub use tensor_terms::Cursor;
 pub use evaluator::TensorEvaluator;
-pub use tensor_terms::Expr;
-pub use tensor_terms::ExprFault;
-pub use tensor_terms::Inputs;
-pub use tensor_terms::index_lists_are_woven_once;
-pub use tensor_terms::{Binary, Movement, Node, Ternary, Unary};
+pub use evaluator::plain::eval_plain;
 pub use part_evaluator::PartEvaluator;
-pub use plain::eval_plain;
-pub use tensor_terms::Tensor;
 pub use tensor_shape::{Dims, MAX_ELEMENTS, MAX_RANK, ShapeFault};
-pub use tensor_walks::{BinaryScalar, Reducer, UnaryScalar};
+pub use tensor_terms::{
+    Binary, Cursor, Expr, ExprFault, Inputs, Movement, Node, Tensor, Ternary, Unary,
+    index_lists_are_woven_once,
+};
+pub use tensor_values::{BinaryScalar, Reducer, UnaryScalar};

@@ -1,5 +1,8 @@
 //! Parts of the values of reductions and contractions.
 
+pub(crate) mod in_runs;
+pub(crate) mod value_runs;
+
 ghost use Rattle.std.specs.Prelude.{◌≡◌, ◌<◌, ◌≤◌, ◌+◌, ◌-◌, ◌++◌, ℕ, length, map};
 ghost use Rattle.std.specs.Prelude.{IsTrue, IsOk, IfOk};
 ghost use Rattle.std.specs.List.{range_with_len};
@@ -13,12 +16,9 @@ ghost use Rattle.tensor_terms.specs.Tensors.{tensors_in};
 ghost use Rattle.tensor_terms.specs.Term.{has_inputs};
 ghost use Rattle.tensor_terms.specs.Tree.{term_of};
 
-use tensor_terms::Expr;
-use crate::in_runs::InRuns;
-use tensor_terms::Inputs;
-use tensor_terms::Tensor;
-use tensor_terms::Tensors;
+use crate::part_evaluator::in_runs::InRuns;
 use std::alloc::{AllocError, Allocator, Global};
+use tensor_terms::{Expr, Inputs, Tensor, Tensors};
 
 /// A reduction or a contraction that has result dims, over its inputs, made ready to be evaluated
 /// by parts of its values: what some of the index lists give that a value is over. It is made once;

@@ -13,18 +13,19 @@ ghost use Rattle.tensor_shape.specs.Index.{size_of};
 ghost use Rattle.tensor_walks.specs.Loops.{either_way};
 ghost use Rattle.tensor_ops.specs.Meaning.{meaning, count_of, IsSound, IsListOf, IsReadingOf};
 ghost use Rattle.tensor_walks.specs.Places.{places_of, AreBelow};
-ghost use Rattle.tensor_kernels.specs.Values.{value_in};
+ghost use Rattle.tensor_values.specs.Values.{value_in};
 ghost use Rattle.tensor_ops.specs.Placing.{HasValues, meaning_at};
-ghost use Rattle.tensor_walks.specs.Splicing.{spliced, HaveTurns};
+ghost use Rattle.tensor_values.specs.Splicing.{spliced, HaveTurns};
 
 use crate::placed::settling::settled_over;
 use std::alloc::{AllocError, Allocator, Global};
 use std::borrow::CowSlice;
 use tensor_shape::Dims;
+use tensor_values::{BinaryScalar, Turns, UnaryScalar};
 use tensor_walks::{
-    Axis, BinaryScalar, Link, Places, Reading, Row, SelectOrder, Turns, UnaryScalar, apply,
-    combine, combine_along, combine_chain, combine_row, has_long_rows, parted, picked,
-    picked_along, select, sources, spliced_list, spliced_run,
+    Axis, Link, Places, Reading, Row, SelectOrder, apply, combine, combine_along, combine_chain,
+    combine_row, has_long_rows, parted, picked, picked_along, select, sources, spliced_list,
+    spliced_run,
 };
 
 /// How many places are worked out at a time, so that their values stay in the nearest cache.

@@ -1,9 +1,14 @@
 //! Placing: from an expression to a tree without dims, index lists and arguments, in one walk.
 
+pub(crate) mod convolution;
+pub(crate) mod part;
+pub(crate) mod ready;
+pub(crate) mod splicing;
+
 ghost use Rattle.std.specs.Prelude.{◌≡◌, ◌^◌, length, Ok, IsTrue, IsOk, IfOk, if◌then◌else◌};
 ghost use Rattle.tensor_shape.specs.Legal.{highest_rank};
 ghost use Rattle.tensor_shape.specs.Index.{size_of};
-ghost use Rattle.tensor_terms.specs.Axes.{AreShort};
+ghost use Rattle.tensor_operands.specs.Axes.{AreShort};
 ghost use Rattle.tensor_walks.specs.Loops.{either_way, selected};
 ghost use Rattle.tensor_ops.specs.Meaning.{meaning, count_of, IsSound};
 ghost use Rattle.tensor_terms.specs.Movement.{moved, moved_dims};
@@ -12,23 +17,21 @@ ghost use Rattle.tensor_terms.specs.Result.{dims_of, shape_of, unary_dims, binar
 ghost use Rattle.tensor_terms.specs.Tensors.{tensors_in};
 ghost use Rattle.tensor_terms.specs.Term.{has_inputs};
 ghost use Rattle.tensor_terms.specs.Tree.{term_of, movement_at, unary_at, binary_at};
-ghost use Rattle.tensor_walks.specs.Scalars.{combined, is_true};
+ghost use Rattle.tensor_values.specs.Scalars.{combined, is_true};
 ghost use Rattle.tensor_terms.specs.Value.{value, unary_value, binary_value};
 
-use crate::axes::{moved_axes, moved_start, whole_axes};
-use crate::convolution::place_convolution;
-use tensor_terms::Expr;
-use crate::kernels::{place_contraction, place_reduction};
-use tensor_terms::moved_dims;
-use tensor_terms::{Binary, Movement, Node, Ternary, Unary};
-use crate::part::Part;
 use crate::placed::Placed;
 use crate::placed::settling::{all, both, settled_over};
-use crate::splicing::{place_concatenation, place_pad};
-use tensor_terms::Tensors;
+use crate::placing::convolution::place_convolution;
+use crate::placing::part::Part;
+use crate::placing::ready::{place_contraction, place_reduction};
+use crate::placing::splicing::{place_concatenation, place_pad};
 use std::alloc::{AllocError, Global};
+use tensor_operands::{moved_axes, moved_start, whole_axes};
 use tensor_shape::{Dims, MAX_RANK};
-use tensor_walks::{Axis, BinaryScalar, SelectOrder};
+use tensor_terms::{Binary, Expr, Movement, Node, Tensors, Ternary, Unary, moved_dims};
+use tensor_values::BinaryScalar;
+use tensor_walks::{Axis, SelectOrder};
 
 /// A placed expression that is read along axes from a start.
 #[derive(Drop)]

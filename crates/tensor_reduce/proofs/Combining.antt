@@ -9,10 +9,10 @@ use Rattle.std.proofs.lemmas.Int.{int_wrap-mul_right, int_wrap_fits, ints, clamp
 use Rattle.std.proofs.Math.IntN.{*ℤ_comm, +ℤ_comm, +ℤ_assoc}
 use borrow.Author.Differences.{up, down, same_in, product_is}
 use Rattle.tensor_ops.specs.Wrap.{wrap}
-use Rattle.tensor_walks.specs.Combining.{unit, combine, combination}
-use Rattle.tensor_walks.specs.Scalars.{is_true, truth}
-use Rattle.tensor_walks.specs.declared.reducer.Reducer.{Reducer}
-use Rattle.tensor_walks.specs.declared.reducer.Reducer.TheVariants.{Sum, Prod, Max, Min, All, Any}
+use Rattle.tensor_ops.specs.Combining.{unit, combine, combination}
+use Rattle.tensor_ops.specs.Scalars.{is_true, truth}
+use Rattle.tensor_ops.specs.Reducer.{Reducer}
+use Rattle.tensor_ops.specs.Reducer.TheVariants.{Sum, Prod, Max, Min, All, Any}
 use Rattle.tensor_reduce.specs.Reducers.{alone}
 
 scaled : (k m n : ℕ) → m ≡ n → m * k ≡ n * k

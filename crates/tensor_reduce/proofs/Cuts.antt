@@ -4,10 +4,10 @@ use Rattle.std.proofs.Common.{Bool, true, false, ◌||◌, Result, Ok, Err, IfOk
 use Rattle.std.proofs.Common.{◌∙◌, arith}
 use Rattle.std.proofs.lemmas.List.{length-append, length-map, map-append, append-nil, append_assoc}
 use Rattle.tensor_ops.specs.Legal.{highest_rank}
-use Rattle.tensor_terms.specs.Contents.{Contents}
-use Rattle.tensor_terms.specs.Result.{dims_of}
-use Rattle.tensor_terms.specs.Shaped.{Shaped}
-use Rattle.tensor_terms.specs.Term.{Term, input, unary, binary, ternary, Unary, Binary, Ternary}
+use Rattle.tensor_ops.specs.Contents.{Contents}
+use Rattle.tensor_ops.specs.Result.{dims_of}
+use Rattle.tensor_ops.specs.Shaped.{Shaped}
+use Rattle.tensor_ops.specs.Term.{Term, input, unary, binary, ternary, Unary, Binary, Ternary}
 use Rattle.tensor_reduce.specs.Cutting.{IsCut, IsSettled}
 use Rattle.tensor_reduce.specs.Plan.{term_of_step, dims_of_step, terms_in, dims_in}
 use Rattle.tensor_reduce.specs.Steps.{combines, combines_two, own, operand_nodes, number_of, Cut}

@@ -6,12 +6,12 @@ use Rattle.std.proofs.lemmas.Bool.{and_parts}
 use Rattle.std.proofs.lemmas.List.{length-append, length-map, append-nil, append_assoc}
 use Rattle.std.proofs.lemmas.List.{get_or_append_left}
 use Rattle.tensor_ops.specs.Legal.{highest_rank}
-use Rattle.tensor_terms.specs.Contents.{Contents, nothing}
-use Rattle.tensor_terms.specs.Result.{dims_of, unary_dims, binary_dims, ternary_dims}
-use Rattle.tensor_terms.specs.Term.{Term, input, unary, binary, ternary, has_inputs}
-use Rattle.tensor_terms.specs.Value.{tensor_of}
+use Rattle.tensor_ops.specs.Contents.{Contents, nothing}
+use Rattle.tensor_ops.specs.Result.{dims_of, unary_dims, binary_dims, ternary_dims}
+use Rattle.tensor_ops.specs.Term.{Term, input, unary, binary, ternary, has_inputs}
+use Rattle.tensor_ops.specs.Value.{tensor_of}
 use Rattle.tensor_ops.proofs.SameTensors.{IsSameTensor, same-input, tensor_of-same}
-use Rattle.tensor_terms.proofs.Shapes.{with_one-known, with_two-known, with_three-known}
+use Rattle.tensor_ops.proofs.Shapes.{with_one-known, with_two-known, with_three-known}
 use Rattle.tensor_reduce.specs.Plan.{term_of_step, dims_of_step, terms_in, dims_in, worked_out}
 use Rattle.tensor_reduce.specs.Plan.{AreReady}
 use Rattle.tensor_reduce.specs.Steps.{combines, combines_two, own, operand_nodes, step_nodes}

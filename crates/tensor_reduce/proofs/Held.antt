@@ -7,15 +7,15 @@ use Rattle.std.proofs.lemmas.List.{length-append, get_or_append_left, append_ass
 use Rattle.std.proofs.Math.Seq.{get_or-append_seam}
 use Rattle.std.specs.Prelude.{nat_eq}
 use Rattle.tensor_ops.specs.Index.{IsIndexOf}
-use Rattle.tensor_terms.specs.Contents.{Contents, input_of, nothing, value_at}
+use Rattle.tensor_ops.specs.Contents.{Contents, input_of, nothing, value_at}
 use Rattle.tensor_ops.specs.Legal.{highest_rank}
-use Rattle.tensor_terms.specs.Result.{dims_of, shape_of}
-use Rattle.tensor_terms.specs.Term.{Term, input, has_inputs}
-use Rattle.tensor_terms.specs.Value.{tensor_of}
+use Rattle.tensor_ops.specs.Result.{dims_of, shape_of}
+use Rattle.tensor_ops.specs.Term.{Term, input, has_inputs}
+use Rattle.tensor_ops.specs.Value.{tensor_of}
 use Rattle.tensor_ops.proofs.SameTensors.{IsSameTensor}
 use Rattle.tensor_ops.proofs.SameTensors.{tensor_of-same}
 use Rattle.tensor_ops.proofs.Evaluated.{value_at-tensor_of}
-use Rattle.tensor_terms.proofs.Shapes.{Ok-unwrap}
+use Rattle.tensor_ops.proofs.Shapes.{Ok-unwrap}
 use Rattle.tensor_reduce.specs.Plan.{term_of_step, dims_of_step, terms_in, worked_out}
 use Rattle.tensor_reduce.specs.Plan.{IsReady, AreReady}
 use Rattle.tensor_reduce.specs.Reading.{reads, are_reading, through, AreHeldFor, AreHeld}

@@ -4,11 +4,11 @@ use Rattle.std.proofs.Common.{true, false, Ok, Option, Some, IfSome, get_or, tak
 use Rattle.std.proofs.Common.{refl, ap, sym, subst, ◌∙◌, arith}
 use Rattle.std.proofs.lemmas.List.{length-append, length-drop, take_all, append_assoc, append-nil}
 use Rattle.std.proofs.lemmas.List.{drop-drop, drop_more}
-use Rattle.tensor_terms.specs.Contents.{Contents}
+use Rattle.tensor_ops.specs.Contents.{Contents}
 use Rattle.tensor_ops.specs.Legal.{highest_rank}
-use Rattle.tensor_terms.specs.Result.{dims_of}
-use Rattle.tensor_terms.specs.Term.{Term, has_inputs}
-use Rattle.tensor_terms.specs.Value.{tensor_of}
+use Rattle.tensor_ops.specs.Result.{dims_of}
+use Rattle.tensor_ops.specs.Term.{Term, has_inputs}
+use Rattle.tensor_ops.specs.Value.{tensor_of}
 use Rattle.tensor_reduce.specs.Plan.{term_of_step, dims_of_step, IsReady}
 use Rattle.tensor_reduce.specs.Reading.{reads, are_reading, through, AreHeldFor, AreHeld}
 use Rattle.tensor_reduce.specs.Reading.{IsReadThrough, GivesReadThrough, HasMore}

@@ -3,7 +3,7 @@ use Rattle.std.proofs.Common.{◌≡◌, ◌≢◌, ℕ, ◌+◌, ◌-◌, ◌<�
 use Rattle.std.proofs.Common.{refl, ap, sym, subst, ◌∙◌, arith}
 use Rattle.std.proofs.lemmas.Bool.{true≢false}
 use Rattle.std.proofs.lemmas.List.{length-append, length-set, get_or-set_other, set-append_right}
-use Rattle.tensor_terms.specs.Contents.{Contents, input_of, nothing}
+use Rattle.tensor_ops.specs.Contents.{Contents, input_of, nothing}
 use Rattle.tensor_reduce.specs.Reading.{are_reading, AreHeldFor, AreHeld}
 use Rattle.tensor_reduce.specs.declared.step.Step.{Step}
 

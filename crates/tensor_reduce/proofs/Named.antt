@@ -7,14 +7,14 @@ use Rattle.std.proofs.lemmas.Bool.{lt-ltb, ltb-true}
 use Rattle.std.proofs.lemmas.List.{length-append, append-nil, append_assoc}
 use Rattle.std.proofs.Math.Seq.{get_or-append_seam}
 use Rattle.tensor_ops.specs.Legal.{highest_rank}
-use Rattle.tensor_terms.specs.Contents.{Contents, input_of, nothing}
-use Rattle.tensor_terms.specs.Result.{dims_of, unary_dims, binary_dims, ternary_dims}
-use Rattle.tensor_terms.specs.Term.{Term, input, unary, binary, ternary, Unary, Binary, Ternary}
-use Rattle.tensor_terms.specs.Term.{has_inputs}
-use Rattle.tensor_terms.specs.Value.{tensor_of}
+use Rattle.tensor_ops.specs.Contents.{Contents, input_of, nothing}
+use Rattle.tensor_ops.specs.Result.{dims_of, unary_dims, binary_dims, ternary_dims}
+use Rattle.tensor_ops.specs.Term.{Term, input, unary, binary, ternary, Unary, Binary, Ternary}
+use Rattle.tensor_ops.specs.Term.{has_inputs}
+use Rattle.tensor_ops.specs.Value.{tensor_of}
 use Rattle.tensor_ops.proofs.SameTensors.{IsSameTensor, same-worked_out, same-input, same-unary}
 use Rattle.tensor_ops.proofs.SameTensors.{same-binary, same-ternary}
-use Rattle.tensor_terms.proofs.Shapes.{with_one-known, with_two-known, with_three-known}
+use Rattle.tensor_ops.proofs.Shapes.{with_one-known, with_two-known, with_three-known}
 use Rattle.tensor_reduce.specs.Steps.{combines, combines_two, own, operand_nodes, is_input}
 use Rattle.tensor_reduce.specs.Steps.{number_of, Cut, settled, cut}
 use Rattle.tensor_reduce.specs.Steps.{combines_nothing, is_single}

@@ -3,11 +3,11 @@ use Rattle.std.proofs.Common.{◌≡◌, ℕ, ◌<◌, List, [], ◌∷◌, leng
 use Rattle.std.proofs.Common.{ap, subst, sym, ◌∙◌, arith}
 use Rattle.std.proofs.lemmas.Bool.{and_parts}
 use Rattle.tensor_ops.specs.Legal.{highest_rank}
-use Rattle.tensor_terms.specs.Contents.{Contents}
-use Rattle.tensor_terms.specs.Result.{dims_of, operand_dims, unary_dims, binary_dims, ternary_dims}
-use Rattle.tensor_terms.specs.Term.{Term, unary, binary, ternary, Unary, Binary, Ternary}
-use Rattle.tensor_terms.specs.Term.{has_inputs, nodes_of}
-use Rattle.tensor_terms.proofs.Shapes.{with_one-known, with_two-known, with_three-known}
+use Rattle.tensor_ops.specs.Contents.{Contents}
+use Rattle.tensor_ops.specs.Result.{dims_of, operand_dims, unary_dims, binary_dims, ternary_dims}
+use Rattle.tensor_ops.specs.Term.{Term, unary, binary, ternary, Unary, Binary, Ternary}
+use Rattle.tensor_ops.specs.Term.{has_inputs, nodes_of}
+use Rattle.tensor_ops.proofs.Shapes.{with_one-known, with_two-known, with_three-known}
 
 module _ (inputs : List Contents) where
   -- a term with its inputs and with dims

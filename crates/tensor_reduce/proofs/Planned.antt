@@ -4,11 +4,11 @@ use Rattle.std.proofs.Common.{Bool, true, false, ◌||◌, Ok, IsOk, refl, ap, s
 use Rattle.std.proofs.lemmas.List.{length-append, length-map, map-append, append_assoc}
 use Rattle.std.proofs.Math.Seq.{get_or-append_seam}
 use Rattle.tensor_ops.specs.Legal.{highest_rank}
-use Rattle.tensor_terms.specs.Contents.{Contents, nothing, input_of}
-use Rattle.tensor_terms.specs.Result.{dims_of}
-use Rattle.tensor_terms.specs.Shaped.{Shaped}
-use Rattle.tensor_terms.specs.Term.{Term, input, unary, binary, ternary, has_inputs, nodes_of}
-use Rattle.tensor_terms.specs.Value.{tensor_of}
+use Rattle.tensor_ops.specs.Contents.{Contents, nothing, input_of}
+use Rattle.tensor_ops.specs.Result.{dims_of}
+use Rattle.tensor_ops.specs.Shaped.{Shaped}
+use Rattle.tensor_ops.specs.Term.{Term, input, unary, binary, ternary, has_inputs, nodes_of}
+use Rattle.tensor_ops.specs.Value.{tensor_of}
 use Rattle.tensor_reduce.specs.Cutting.{IsCut, AreStepsOf}
 use Rattle.tensor_reduce.specs.Plan.{term_of_step, dims_of_step, terms_in, worked_out}
 use Rattle.tensor_reduce.specs.Plan.{last_tensor, AreReady}

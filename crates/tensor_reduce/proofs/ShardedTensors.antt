@@ -9,17 +9,17 @@ use Rattle.std.proofs.lemmas.List.FromFn.{length-map-range_with_len, get_or-map-
 use Rattle.std.proofs.lemmas.Nat.{div-mul-add}
 use Rattle.std.specs.List.{range_with_len}
 use Rattle.std.specs.Result.{result_unwrap_or}
-use Rattle.tensor_terms.specs.Contents.{Contents}
+use Rattle.tensor_ops.specs.Contents.{Contents}
 use Rattle.tensor_ops.specs.Index.{size_of, index_of}
 use Rattle.tensor_ops.specs.Legal.{highest_rank}
 use Rattle.tensor_ops.specs.Parts.{has_parts, inner_size, part_value, whole_value}
-use Rattle.tensor_walks.specs.Combining.{combination}
-use Rattle.tensor_terms.specs.Result.{dims_of, shape_of}
-use Rattle.tensor_terms.specs.Term.{Term, input, unary, binary, ternary}
-use Rattle.tensor_terms.specs.Term.{each, constant, movement, pad, reduce}
-use Rattle.tensor_terms.specs.Term.{pairwise, concat, contract, convolve}
-use Rattle.tensor_walks.specs.declared.reducer.Reducer.{Reducer}
-use Rattle.tensor_terms.specs.Value.{value, value_of_place, tensor_of}
+use Rattle.tensor_ops.specs.Combining.{combination}
+use Rattle.tensor_ops.specs.Result.{dims_of, shape_of}
+use Rattle.tensor_ops.specs.Term.{Term, input, unary, binary, ternary}
+use Rattle.tensor_ops.specs.Term.{each, constant, movement, pad, reduce}
+use Rattle.tensor_ops.specs.Term.{pairwise, concat, contract, convolve}
+use Rattle.tensor_ops.specs.Reducer.{Reducer}
+use Rattle.tensor_ops.specs.Value.{value, value_of_place, tensor_of}
 use Rattle.tensor_ops.proofs.Evaluated.{map-values_from, tensor_of-made}
 use Rattle.tensor_reduce.specs.Combined.{reducer_of, shard_value, value_shard, combined_by}
 use Rattle.tensor_reduce.specs.Shards.{Shard, shards_by, shards_of, most_shards, width_of}

@@ -13,16 +13,16 @@ use Rattle.std.proofs.lemmas.List.{map-append}
 use Rattle.std.proofs.lemmas.List.Sums.{fold-append}
 use Rattle.std.specs.Int.{w64}
 use Rattle.std.proofs.lemmas.Simd.{map-map}
-use Rattle.tensor_terms.specs.Contraction.{firsts, seconds, contracted}
+use Rattle.tensor_ops.specs.Contraction.{firsts, seconds, contracted}
 use Rattle.tensor_ops.specs.Index.{size_of, index_of}
 use Rattle.tensor_ops.specs.Parts.{reduced_part, contracted_part}
-use Rattle.tensor_walks.specs.Combining.{combine, unit, combination}
-use Rattle.tensor_terms.specs.Reduction.{reduced}
-use Rattle.tensor_terms.specs.Woven.{among, dims_at, other_dims, woven}
+use Rattle.tensor_ops.specs.Combining.{combine, unit, combination}
+use Rattle.tensor_ops.specs.Reduction.{reduced}
+use Rattle.tensor_ops.specs.Woven.{among, dims_at, other_dims, woven}
 use Rattle.tensor_ops.specs.Wrap.{wrap}
-use Rattle.tensor_walks.specs.declared.reducer.Reducer.{Reducer}
-use Rattle.tensor_walks.specs.declared.reducer.Reducer.TheVariants.{Sum}
-use Rattle.tensor_terms.proofs.OtherAxes.{range_with_len-append}
+use Rattle.tensor_ops.specs.Reducer.{Reducer}
+use Rattle.tensor_ops.specs.Reducer.TheVariants.{Sum}
+use Rattle.tensor_ops.proofs.OtherAxes.{range_with_len-append}
 use Rattle.tensor_reduce.specs.Shards.{Shard, div_up, most_shards, width_of, shard_at}
 use Rattle.tensor_reduce.specs.Shards.{shards_by, shards_of}
 use Rattle.tensor_reduce.specs.Shards.{lists_in, lists_of}

@@ -5,16 +5,16 @@ use Rattle.std.proofs.Common.{refl, ap, sym, subst, ◌∙◌, arith, ◌⊎◌,
 use Rattle.std.proofs.lemmas.Bool.{cases_Bool, cases_lt, and_parts, and_from, eq-eqb, eqb-true}
 use Rattle.std.proofs.lemmas.Bool.{eqb-false, lt-ltb, ltb-true, or_left, or_right, or_parts, or_cases}
 use Rattle.std.specs.Prelude.{nat_eq}
-use Rattle.tensor_terms.specs.Contents.{Contents, input_of}
+use Rattle.tensor_ops.specs.Contents.{Contents, input_of}
 use Rattle.tensor_ops.specs.Legal.{highest_rank}
 use Rattle.tensor_ops.specs.Parts.{has_parts}
-use Rattle.tensor_terms.specs.Result.{dims_of, unary_dims, binary_dims, ternary_dims}
-use Rattle.tensor_terms.specs.Term.{Term, input, unary, binary, ternary, has_inputs, Unary, Binary}
-use Rattle.tensor_terms.specs.Term.{each, constant, movement, pad, reduce}
-use Rattle.tensor_terms.specs.Term.{pairwise, concat, contract, convolve}
+use Rattle.tensor_ops.specs.Result.{dims_of, unary_dims, binary_dims, ternary_dims}
+use Rattle.tensor_ops.specs.Term.{Term, input, unary, binary, ternary, has_inputs, Unary, Binary}
+use Rattle.tensor_ops.specs.Term.{each, constant, movement, pad, reduce}
+use Rattle.tensor_ops.specs.Term.{pairwise, concat, contract, convolve}
 use Rattle.tensor_ops.proofs.SameTensors.{IsSameTensor, same-input, same-unary}
 use Rattle.tensor_ops.proofs.SameTensors.{same-binary, same-ternary}
-use Rattle.tensor_terms.proofs.Shapes.{with_one-known, with_two-known, with_three-known}
+use Rattle.tensor_ops.proofs.Shapes.{with_one-known, with_two-known, with_three-known}
 use Rattle.tensor_reduce.specs.Reading.{reads, instead, through}
 use Rattle.tensor_reduce.specs.Steps.{combines, combines_two, is_combining, is_input, is_single}
 

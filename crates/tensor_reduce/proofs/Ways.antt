@@ -1,9 +1,9 @@
 -- A way to work out a term that combines is one for it where it reads others through.
 use Rattle.std.proofs.Common.{◌≡◌, ℕ, true}
 use Rattle.tensor_ops.specs.Parts.{has_parts, is_reduction, is_contraction}
-use Rattle.tensor_terms.specs.Term.{Term, input, unary, binary, ternary, Unary, Binary}
-use Rattle.tensor_terms.specs.Term.{each, constant, movement, pad, reduce}
-use Rattle.tensor_terms.specs.Term.{pairwise, concat, contract, convolve}
+use Rattle.tensor_ops.specs.Term.{Term, input, unary, binary, ternary, Unary, Binary}
+use Rattle.tensor_ops.specs.Term.{each, constant, movement, pad, reduce}
+use Rattle.tensor_ops.specs.Term.{pairwise, concat, contract, convolve}
 use Rattle.tensor_reduce.specs.Reading.{through}
 use Rattle.tensor_reduce.specs.Steps.{combines, combines_two, is_combining}
 use Rattle.tensor_reduce.specs.Ways.{IsWayFor}

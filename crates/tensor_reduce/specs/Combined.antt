@@ -1,16 +1,16 @@
 -- Values that are combined of their shards.
 use Rattle.std.specs.Prelude.{ℕ, ℤ, ◌-◌, ◌*◌, ◌/◌, ◌%◌, List, length, take, drop}
 use Rattle.std.specs.Prelude.{slice_index_or}
-use Rattle.tensor_terms.specs.Contents.{Contents}
+use Rattle.tensor_ops.specs.Contents.{Contents}
 use Rattle.tensor_ops.specs.Index.{size_of}
 use Rattle.tensor_ops.specs.Parts.{part_value}
 use Rattle.tensor_ops.specs.PartEvaluator.{term_in_parts, inputs_in_parts}
-use Rattle.tensor_walks.specs.Combining.{combination}
-use Rattle.tensor_terms.specs.Result.{shape_of}
-use Rattle.tensor_terms.specs.Term.{Term, input, unary, binary, ternary}
-use Rattle.tensor_terms.specs.Term.{Unary, each, constant, movement, pad, reduce}
-use Rattle.tensor_walks.specs.declared.reducer.Reducer.{Reducer}
-use Rattle.tensor_walks.specs.declared.reducer.Reducer.TheVariants.{Sum}
+use Rattle.tensor_ops.specs.Combining.{combination}
+use Rattle.tensor_ops.specs.Result.{shape_of}
+use Rattle.tensor_ops.specs.Term.{Term, input, unary, binary, ternary}
+use Rattle.tensor_ops.specs.Term.{Unary, each, constant, movement, pad, reduce}
+use Rattle.tensor_ops.specs.Reducer.{Reducer}
+use Rattle.tensor_ops.specs.Reducer.TheVariants.{Sum}
 use Rattle.tensor_reduce.specs.Shards.{Shard, shards_in}
 use Rattle.tensor_reduce.specs.declared.shard_kernel.ShardKernel.{ShardKernel}
 

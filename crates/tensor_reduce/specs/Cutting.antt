@@ -2,9 +2,9 @@
 use Rattle.std.specs.Prelude.{◌≡◌, ◌+◌, List, [], ◌∷◌, ◌++◌, length, map, Ok, Bool}
 use Rattle.std.specs.Prelude.{if◌then◌else◌}
 use Rattle.tensor_ops.specs.Legal.{highest_rank}
-use Rattle.tensor_terms.specs.Contents.{Contents}
-use Rattle.tensor_terms.specs.Result.{dims_of}
-use Rattle.tensor_terms.specs.Term.{Term, input}
+use Rattle.tensor_ops.specs.Contents.{Contents}
+use Rattle.tensor_ops.specs.Result.{dims_of}
+use Rattle.tensor_ops.specs.Term.{Term, input}
 use Rattle.tensor_reduce.specs.Plan.{term_of_step, dims_of_step, terms_in, dims_in}
 use Rattle.tensor_reduce.specs.Steps.{operand_nodes, step_nodes, cut, steps_of, number_of}
 use Rattle.tensor_reduce.specs.declared.step.Step.{Step}

@@ -1,10 +1,10 @@
 -- What the kernel of a step works out.
 use Rattle.std.specs.Prelude.{ℕ, List}
-use Rattle.tensor_terms.specs.Contents.{Contents}
+use Rattle.tensor_ops.specs.Contents.{Contents}
 use Rattle.tensor_ops.specs.Evaluator.{term_evaluated, inputs_evaluated}
 use Rattle.tensor_ops.specs.Index.{size_of}
-use Rattle.tensor_terms.specs.Result.{shape_of}
-use Rattle.tensor_terms.specs.Term.{Term}
+use Rattle.tensor_ops.specs.Result.{shape_of}
+use Rattle.tensor_ops.specs.Term.{Term}
 use Rattle.tensor_reduce.specs.declared.step_kernel.StepKernel.{StepKernel}
 
 -- the term whose values it works out

@@ -1,12 +1,12 @@
 -- Plans: steps with their dims, and what they give one after the other.
 use Rattle.std.specs.Prelude.{◌≡◌, ◌-◌, ℕ, List, [], ◌∷◌, ◌++◌, length, map, Ok, IsTrue}
 use Rattle.tensor_ops.specs.Legal.{highest_rank}
-use Rattle.tensor_terms.specs.Contents.{Contents, input_of}
-use Rattle.tensor_terms.specs.Result.{dims_of}
-use Rattle.tensor_terms.specs.Shaped.{Shaped}
-use Rattle.tensor_terms.specs.Term.{Term, has_inputs}
-use Rattle.tensor_terms.specs.Tree.{term_of}
-use Rattle.tensor_terms.specs.Value.{tensor_of}
+use Rattle.tensor_ops.specs.Contents.{Contents, input_of}
+use Rattle.tensor_ops.specs.Result.{dims_of}
+use Rattle.tensor_ops.specs.Shaped.{Shaped}
+use Rattle.tensor_ops.specs.Term.{Term, has_inputs}
+use Rattle.tensor_ops.specs.Tree.{term_of}
+use Rattle.tensor_ops.specs.Value.{tensor_of}
 use Rattle.tensor_reduce.specs.Steps.{is_single}
 use Rattle.tensor_reduce.specs.declared.plan.Plan.{Plan}
 use Rattle.tensor_reduce.specs.declared.step.Step.{Step}

@@ -1,9 +1,9 @@
 -- Which tensors are read, and operations that read another term in the place of a tensor.
 use Rattle.std.specs.Prelude.{◌≡◌, ℕ, zero, suc, nat_eq, List, [], ◌∷◌, ◌++◌, length, drop}
 use Rattle.std.specs.Prelude.{Bool, true, false, ◌||◌, if◌then◌else◌}
-use Rattle.tensor_terms.specs.Contents.{Contents, input_of}
-use Rattle.tensor_terms.specs.Term.{Term, input, unary, binary, ternary}
-use Rattle.tensor_terms.specs.Value.{tensor_of}
+use Rattle.tensor_ops.specs.Contents.{Contents, input_of}
+use Rattle.tensor_ops.specs.Term.{Term, input, unary, binary, ternary}
+use Rattle.tensor_ops.specs.Value.{tensor_of}
 use Rattle.tensor_reduce.specs.Plan.{term_of_step, terms_in, worked_out, last_tensor, AreReady}
 use Rattle.tensor_reduce.specs.declared.read_through.ReadThrough.{ReadThrough}
 use Rattle.tensor_reduce.specs.declared.step.Step.{Step}

@@ -1,8 +1,8 @@
 -- What combinations are made of.
 use Rattle.std.specs.Prelude.{ℤ}
-use Rattle.tensor_walks.specs.Scalars.{is_true, truth}
-use Rattle.tensor_walks.specs.declared.reducer.Reducer.{Reducer}
-use Rattle.tensor_walks.specs.declared.reducer.Reducer.TheVariants.{Sum, Prod, Max, Min, All, Any}
+use Rattle.tensor_ops.specs.Scalars.{is_true, truth}
+use Rattle.tensor_ops.specs.Reducer.{Reducer}
+use Rattle.tensor_ops.specs.Reducer.TheVariants.{Sum, Prod, Max, Min, All, Any}
 
 -- what one value alone gives: itself, or for All and Any whether it is true
 abbrev pub alone : Reducer → ℤ → ℤ

@@ -1,7 +1,7 @@
 -- How steps that read others through are worked out.
 use Rattle.std.specs.Prelude.{◌<◌, IsTrue}
 use Rattle.tensor_ops.specs.Parts.{has_parts}
-use Rattle.tensor_terms.specs.Term.{Term}
+use Rattle.tensor_ops.specs.Term.{Term}
 use Rattle.tensor_reduce.specs.Steps.{is_combining}
 use Rattle.tensor_reduce.specs.declared.way.Way.{Way}
 use Rattle.tensor_reduce.specs.declared.way.Way.TheVariants.{Shards, Ranges}

@@ -2,7 +2,7 @@
 
 ghost use Rattle.std.specs.Prelude.{◌≡◌, ◌<◌, ◌*◌, length, map, IfOk};
 ghost use Rattle.std.specs.List.{range_with_len};
-ghost use Rattle.tensor_walks.specs.Combining.{combination};
+ghost use Rattle.tensor_ops.specs.Combining.{combination};
 ghost use Rattle.tensor_reduce.specs.Combined.{combined_by};
 
 use std::alloc::{AllocError, Global};

@@ -2,9 +2,9 @@
 
 ghost use Rattle.std.specs.Prelude.{◌≡◌, ◌+◌, length, map, Ok, IsTrue, IsOk, IfOk, vec_len};
 ghost use Rattle.tensor_ops.specs.Legal.{highest_rank};
-ghost use Rattle.tensor_terms.specs.Result.{dims_of, operand_dims};
-ghost use Rattle.tensor_terms.specs.Term.{has_inputs};
-ghost use Rattle.tensor_terms.specs.Tree.{term_of, unary_at, binary_at};
+ghost use Rattle.tensor_ops.specs.Result.{dims_of, operand_dims};
+ghost use Rattle.tensor_ops.specs.Term.{has_inputs};
+ghost use Rattle.tensor_ops.specs.Tree.{term_of, unary_at, binary_at};
 ghost use Rattle.tensor_reduce.specs.Cutting.{IsCut, IsSettled, AreStepsOf};
 ghost use Rattle.tensor_reduce.specs.Steps.{combines, combines_two, is_input, number_of};
 

@@ -2,10 +2,10 @@
 
 ghost use Rattle.std.specs.Prelude.{◌≡◌, ◌<◌, ◌++◌, length, IfOk, IfErr, IsTrue, Ok};
 ghost use Rattle.tensor_ops.specs.Legal.{highest_rank};
-ghost use Rattle.tensor_terms.specs.Result.{dims_of};
-ghost use Rattle.tensor_terms.specs.Term.{has_inputs};
-ghost use Rattle.tensor_terms.specs.Tree.{term_of};
-ghost use Rattle.tensor_terms.specs.Value.{tensor_of};
+ghost use Rattle.tensor_ops.specs.Result.{dims_of};
+ghost use Rattle.tensor_ops.specs.Term.{has_inputs};
+ghost use Rattle.tensor_ops.specs.Tree.{term_of};
+ghost use Rattle.tensor_ops.specs.Value.{tensor_of};
 
 use crate::step_kernel::StepKernel;
 use crate::workers::Workers;

@@ -2,12 +2,12 @@
 
 ghost use Rattle.std.specs.Prelude.{◌≡◌, ◌<◌, ◌++◌, List, length, IfOk, IfErr, IfSome};
 ghost use Rattle.std.specs.Prelude.{IsTrue, Ok};
-ghost use Rattle.tensor_terms.specs.Contents.{Contents};
+ghost use Rattle.tensor_ops.specs.Contents.{Contents};
 ghost use Rattle.tensor_ops.specs.Legal.{highest_rank};
-ghost use Rattle.tensor_terms.specs.Result.{dims_of};
-ghost use Rattle.tensor_terms.specs.Term.{has_inputs};
-ghost use Rattle.tensor_terms.specs.Tree.{term_of};
-ghost use Rattle.tensor_terms.specs.Value.{tensor_of};
+ghost use Rattle.tensor_ops.specs.Result.{dims_of};
+ghost use Rattle.tensor_ops.specs.Term.{has_inputs};
+ghost use Rattle.tensor_ops.specs.Tree.{term_of};
+ghost use Rattle.tensor_ops.specs.Value.{tensor_of};
 ghost use Rattle.tensor_reduce.specs.Reading.{AreHeldFor, GivesReadThrough};
 ghost use Rattle.tensor_reduce.specs.Ways.{IsWayFor};
 

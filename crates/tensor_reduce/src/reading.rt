@@ -1,7 +1,7 @@
 //! Which tensors expressions read, and steps that read an expression in the place of a tensor.
 
 ghost use Rattle.std.specs.Prelude.{◌≡◌, ◌+◌, ◌<◌, ◌^◌, false, IfOk};
-ghost use Rattle.tensor_terms.specs.Tree.{term_of};
+ghost use Rattle.tensor_ops.specs.Tree.{term_of};
 ghost use Rattle.tensor_reduce.specs.Plan.{term_of_step};
 ghost use Rattle.tensor_reduce.specs.Reading.{reads, are_reading, instead, through};
 

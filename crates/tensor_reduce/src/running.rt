@@ -2,7 +2,7 @@
 
 ghost use Rattle.std.specs.Prelude.{◌≡◌, ◌<◌, ◌≤◌, ◌+◌, ◌↔◌, ◌++◌, drop, length};
 ghost use Rattle.std.specs.Prelude.{vec_capacity, IfOk, IfErr, IsErrOf};
-ghost use Rattle.tensor_terms.specs.Value.{tensor_of};
+ghost use Rattle.tensor_ops.specs.Value.{tensor_of};
 ghost use Rattle.parallel_for.specs.Setup.{IsPoolSize, IsNoPoolSize, AreNoPartitions};
 ghost use Rattle.tensor_reduce.specs.Plan.{steps_in, term_of_step, terms_in, worked_out};
 ghost use Rattle.tensor_reduce.specs.Plan.{last_tensor, IsReady, AreReady};

@@ -4,10 +4,10 @@ ghost use Rattle.std.specs.Prelude.{◌≡◌, ◌<◌, ◌≤◌, ◌++◌, len
 ghost use Rattle.std.specs.List.{range_with_len};
 ghost use Rattle.tensor_ops.specs.Legal.{highest_rank};
 ghost use Rattle.tensor_ops.specs.Parts.{has_parts};
-ghost use Rattle.tensor_terms.specs.Result.{dims_of};
-ghost use Rattle.tensor_terms.specs.Term.{has_inputs};
-ghost use Rattle.tensor_terms.specs.Tree.{term_of};
-ghost use Rattle.tensor_terms.specs.Value.{tensor_of};
+ghost use Rattle.tensor_ops.specs.Result.{dims_of};
+ghost use Rattle.tensor_ops.specs.Term.{has_inputs};
+ghost use Rattle.tensor_ops.specs.Tree.{term_of};
+ghost use Rattle.tensor_ops.specs.Value.{tensor_of};
 ghost use Rattle.tensor_reduce.specs.Combined.{most_items, shard_places, shard_at_place};
 
 use crate::combined::combined_values;

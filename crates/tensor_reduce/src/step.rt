@@ -1,7 +1,7 @@
 //! The steps of a plan.
 
 ghost use Rattle.std.specs.Prelude.{◌≡◌};
-ghost use Rattle.tensor_terms.specs.Tree.{term_of};
+ghost use Rattle.tensor_ops.specs.Tree.{term_of};
 
 use std::alloc::Global;
 use tensor_ops::{Dims, Expr};

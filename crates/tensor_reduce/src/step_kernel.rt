@@ -2,9 +2,9 @@
 
 ghost use Rattle.std.specs.Prelude.{◌≡◌, ◌++◌, length, IfOk, IsOk, IsTrue};
 ghost use Rattle.tensor_ops.specs.Legal.{highest_rank};
-ghost use Rattle.tensor_terms.specs.Result.{dims_of};
-ghost use Rattle.tensor_terms.specs.Term.{has_inputs};
-ghost use Rattle.tensor_terms.specs.Tree.{term_of};
+ghost use Rattle.tensor_ops.specs.Result.{dims_of};
+ghost use Rattle.tensor_ops.specs.Term.{has_inputs};
+ghost use Rattle.tensor_ops.specs.Tree.{term_of};
 
 use crate::step::Step;
 use parallel_for::Kernel;
@@ -59,7 +59,7 @@ impl<'a> StepKernel<'a> {
 
 // It has a place for each of the step's, and there the value of the step's expression.
 impl<'a> Kernel for StepKernel<'a> {
-    ghost use Rattle.tensor_terms.specs.Value.{value_of_place};
+    ghost use Rattle.tensor_ops.specs.Value.{value_of_place};
     ghost use Rattle.tensor_reduce.specs.Kernels.{kernel_term, kernel_tensors, kernel_size};
 
     type Item = i64;

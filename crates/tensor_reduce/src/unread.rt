@@ -2,7 +2,7 @@
 //! their numbers.
 
 ghost use Rattle.std.specs.Prelude.{◌≡◌, ◌+◌, ◌≤◌, ◌++◌, List, length, vec_capacity};
-ghost use Rattle.tensor_terms.specs.Contents.{Contents};
+ghost use Rattle.tensor_ops.specs.Contents.{Contents};
 ghost use Rattle.tensor_reduce.specs.Reading.{AreHeld, HasMore};
 
 use crate::cutting::NUMBERS;

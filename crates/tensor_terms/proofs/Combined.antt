@@ -10,10 +10,10 @@ use Rattle.std.proofs.lemmas.Simd.{map-map}
 use Rattle.tensor_shape.specs.Index.{size_of, index_of}
 use Rattle.tensor_shape.specs.Wrap.{wrap}
 use Rattle.tensor_terms.specs.Contraction.{firsts, seconds, contracted}
-use Rattle.tensor_walks.specs.Combining.{combine, unit}
+use Rattle.tensor_values.specs.Combining.{combine, unit}
 use Rattle.tensor_terms.specs.Reduction.{reduced}
 use Rattle.tensor_terms.specs.Woven.{among, dims_at, other_dims, woven}
-use Rattle.tensor_walks.specs.declared.reducer.Reducer.{Reducer}
+use Rattle.tensor_values.specs.declared.reducer.Reducer.{Reducer}
 
 -- the first of the values that are left
 pub fold-next : {X Y : Type 0} (f : X → Y → X) (g : ℕ → Y) (x : X) (k n : ℕ) → k < n

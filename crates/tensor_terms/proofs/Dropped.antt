@@ -1,19 +1,21 @@
 -- Lists of distinct axes, and the others.
 use Rattle.std.proofs.Common.{◌≡◌, ℕ, zero, suc, ◌+◌, ◌<◌, ◌≤◌, max, List, [], ◌∷◌, ◌++◌}
-use Rattle.std.proofs.Common.{length, get_or}
+use Rattle.std.proofs.Common.{length, get_or, IsOk}
 use Rattle.std.proofs.Common.{Bool, true, false, not, ◌&&◌, nat_lt, refl, ap}
 use Rattle.std.proofs.Common.{◌∙◌, arith, inl, inr}
 use Rattle.std.specs.List.{filter, range_with_len}
 use Rattle.std.proofs.lemmas.Bool.{cases_Bool, cases_eq, and_parts, and_from}
 use Rattle.std.proofs.lemmas.Bool.{eq-eqb, ne_eqb, ltb-true}
 use Rattle.std.proofs.lemmas.Bool.{not-true, false_from_ne_true}
-use Rattle.std.proofs.lemmas.List.{length-append}
+use Rattle.std.proofs.lemmas.List.{length-append, length-map}
 use Rattle.std.proofs.Math.Nat.{mul-le-mul_left}
 use Rattle.tensor_shape.specs.Legal.{highest_rank, bulk_of, IsLegal, are_legal}
 use Rattle.tensor_shape.proofs.Sizes.{one-le-bulk_of, bulk_of-take-le}
+use Rattle.tensor_terms.specs.Contraction.{firsts, contracted_dims}
 use Rattle.tensor_terms.specs.Movement.{is_among, has_all_below, shuffled_dims}
 use Rattle.tensor_terms.specs.Reduction.{are_axes}
 use Rattle.tensor_terms.specs.Woven.{among, others, dims_at, other_dims}
+use Rattle.tensor_terms.proofs.Known.{contraction-known}
 use Rattle.tensor_terms.proofs.Legality.{are_legal-below}
 use Rattle.tensor_terms.proofs.OtherAxes.{filter-ext, others-among, is_among-all}
 use Rattle.tensor_terms.proofs.Permutations.{bulk_of-permutation}
@@ -126,3 +128,13 @@ are_legal-axes ds axes legal h =
 pub other_dims-among : (ds axes : List ℕ)
     → other_dims (among axes (length ds)) ds ≡ other_dims axes ds
 other_dims-among ds axes = ap (shuffled_dims ds) (others-among axes (length ds))
+
+-- a contraction that has result dims pairs no more axes than its first operand has
+pub length-pairs : (pairs : List (ℕ × ℕ)) (ds es : List ℕ)
+    → IsOk (contracted_dims highest_rank pairs ds es) → length pairs ≤ length ds
+length-pairs pairs ds es has =
+    omega (
+      arith,
+      length-axes (length ds) (firsts pairs) (contraction-known pairs ds es has).first,
+      length-map pairs (λ pair. pair.0),
+    )

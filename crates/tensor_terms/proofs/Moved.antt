@@ -1,7 +1,8 @@
 -- A moved index list is an index list of the operand's dims.
 use Rattle.std.proofs.Common.{◌≡◌, ℕ, zero, suc, ◌+◌, ◌-◌, ◌*◌, ◌<◌, ◌≤◌, List, [], ◌∷◌, length, map, get_or, drop, insert, remove}
 use Rattle.std.proofs.Common.{Bool, true, false, nat_le, nat_lt, if◌then◌else◌, Ok, IsOk, ap, subst, ◌∙◌, arith, inl, inr, refl}
-use Rattle.std.proofs.lemmas.Bool.{and_parts, cases_eq, leb-true, ltb-true}
+use Rattle.std.proofs.Common.{nat_eq}
+use Rattle.std.proofs.lemmas.Bool.{and_parts, or_parts, eqb-false, cases_eq, leb-true, ltb-true}
 use Rattle.std.proofs.lemmas.List.{length-set, get_or-set_other, get_or-set_same, length-map}
 use Rattle.std.proofs.lemmas.Grind.{div_ceil_times}
 use Rattle.std.proofs.Math.Nat.{mod-lt, mul-le-mul_right}
@@ -20,6 +21,23 @@ use Rattle.tensor_terms.proofs.Permutations.{is_among-rest, is_among-has_all_bel
 pub factor-above : (d c i : ℕ) → i < d * c → 0 < d
 factor-above zero c i h = absurd (omega arith)
 factor-above (suc d) c i h = omega arith
+
+-- the first index list
+abbrev pub zeros : List ℕ → List ℕ
+zeros ds = map (λ d. 0) ds
+
+pub get_or-zeros : (ds : List ℕ) (k : ℕ) → get_or (zeros ds) k 0 ≡ 0
+get_or-zeros [] k = refl
+get_or-zeros (d ∷ ds) zero = refl
+get_or-zeros (d ∷ ds) (suc k) = get_or-zeros ds k
+
+-- an axis that is not among those set stays
+pub scattered-other : (a : ℕ) (ss is js : List ℕ) → is_among a ss ≡ false → get_or (scattered ss is js) a 0 ≡ get_or js a 0
+scattered-other a [] is js h = refl
+scattered-other a (s ∷ ss) [] js h = refl
+scattered-other a (s ∷ ss) (i ∷ is) js h =
+    let parts = or_parts (nat_eq a s) (is_among a ss) h in
+    get_or-set_other (scattered ss is js) s a i 0 (eqb-false a s parts.0) ∙ scattered-other a ss is js parts.1
 
 pub IsIndexOf-wrapped : (ds cs is : List ℕ) → length cs ≡ length ds → IsIndexOf (repeated_dims ds cs) is → IsIndexOf ds (wrapped ds is)
 IsIndexOf-wrapped [] cs is same index = tt

@@ -6,14 +6,14 @@ use Rattle.tensor_shape.specs.Index.{size_of, IsIndexOf, place, index_of}
 use Rattle.tensor_shape.specs.Wrap.{wrap}
 use Rattle.tensor_shape.proofs.Places.{index_of-place, place-below-size_of}
 use Rattle.tensor_terms.specs.Contraction.{firsts, seconds, outer_dims, contracted}
-use Rattle.tensor_walks.specs.Combining.{combine, unit}
+use Rattle.tensor_values.specs.Combining.{combine, unit}
 use Rattle.tensor_terms.specs.Reduction.{reduced, are_axes}
 use Rattle.tensor_terms.specs.Woven.{among, dims_at, other_dims, woven}
-use Rattle.tensor_walks.specs.declared.reducer.Reducer.{Reducer}
+use Rattle.tensor_values.specs.declared.reducer.Reducer.{Reducer}
 use Rattle.tensor_terms.proofs.Combined.{along_dropped, product_at, reduced-fold, contracted-fold}
 use Rattle.tensor_terms.proofs.Dropped.{other_dims-among}
 use Rattle.tensor_terms.proofs.Known.{IsContraction}
-use Rattle.tensor_kernels.proofs.Runs.{map-shifted}
+use Rattle.tensor_values.proofs.Runs.{map-shifted}
 use Rattle.tensor_terms.proofs.OtherAxes.{are_axes-among}
 use Rattle.tensor_terms.proofs.TwoParts.{IsIndexOf-parts, in_parts}
 

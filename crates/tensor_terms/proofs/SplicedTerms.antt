@@ -10,10 +10,10 @@ use Rattle.tensor_terms.specs.Concatenation.{joined_dims, concatenated_dims, con
 use Rattle.tensor_terms.specs.Contents.{Contents}
 use Rattle.tensor_terms.specs.Padding.{padded_dims, pad_dims, is_inside, moved_back, padded}
 use Rattle.tensor_terms.specs.Result.{dims_of, shape_of}
-use Rattle.tensor_walks.specs.Splicing.{is_of_first, firsts_before, seconds_before, spliced}
+use Rattle.tensor_values.specs.Splicing.{is_of_first, firsts_before, seconds_before, spliced}
 use Rattle.tensor_terms.specs.Term.{Term, unary, binary, pad, concat}
 use Rattle.tensor_terms.specs.Value.{value, value_of_place}
-use Rattle.tensor_walks.proofs.InTurns.{first-below, second-below, before-turns}
+use Rattle.tensor_values.proofs.InTurns.{first-below, second-below, before-turns}
 use Rattle.tensor_terms.proofs.Pads.{pad-known, IsIndexOf-moved_back}
 use Rattle.tensor_terms.proofs.SameValues.{Agree}
 use Rattle.tensor_terms.proofs.Shapes.{with_one-known, with_two-known}

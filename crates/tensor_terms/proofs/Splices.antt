@@ -11,9 +11,9 @@ use Rattle.tensor_shape.specs.Legal.{highest_rank, most_elements, IsLegal, are_l
 use Rattle.tensor_shape.proofs.Places.{place-cons, place-index_of}
 use Rattle.tensor_shape.proofs.Sizes.{size_of-le-bulk_of, bulk_of-take-le}
 use Rattle.tensor_terms.specs.Concatenation.{joined_dims, concatenated_dims, concatenated}
-use Rattle.tensor_walks.specs.Splicing.{is_of_first, firsts_before, seconds_before, spliced, HaveTurns}
+use Rattle.tensor_values.specs.Splicing.{is_of_first, firsts_before, seconds_before, spliced, HaveTurns}
 use Rattle.tensor_terms.specs.declared.fault.ExprFault.TheVariants.{ShapeMismatch, OutOfRange, TooLarge}
-use Rattle.tensor_walks.proofs.InTurns.{spliced-first, spliced-second}
+use Rattle.tensor_values.proofs.InTurns.{spliced-first, spliced-second}
 use Rattle.tensor_terms.proofs.Known.{check-known, IsLegal-are_legal}
 
 -- lists without an element are the same where they are before it and behind it

@@ -13,16 +13,15 @@ use Rattle.tensor_shape.proofs.Places.{index_of-place}
 use Rattle.tensor_terms.specs.Contents.{Contents}
 use Rattle.tensor_terms.specs.Contraction.{firsts, seconds, outer_dims, contracted, contracted_dims}
 use Rattle.tensor_terms.specs.Pairing.{IsPairing}
-use Rattle.tensor_walks.specs.Combining.{combine, unit}
+use Rattle.tensor_values.specs.Combining.{combine, unit}
 use Rattle.tensor_terms.specs.Reduction.{reduced, reduced_dims, are_axes}
 use Rattle.tensor_terms.specs.Result.{dims_of, shape_of}
 use Rattle.tensor_terms.specs.Term.{Term, unary, binary, reduce, contract}
 use Rattle.tensor_terms.specs.Value.{value, value_of_place}
 use Rattle.tensor_terms.specs.Woven.{among, dims_at, other_dims, woven}
 use Rattle.tensor_terms.specs.declared.cursor.Pairing.{Pairing}
-use Rattle.tensor_walks.specs.declared.reducer.Reducer.{Reducer}
-use Rattle.tensor_terms.proofs.Contractions.{length-pairs}
-use Rattle.tensor_terms.proofs.Dropped.{other_dims-among}
+use Rattle.tensor_values.specs.declared.reducer.Reducer.{Reducer}
+use Rattle.tensor_terms.proofs.Dropped.{length-pairs, other_dims-among}
 use Rattle.tensor_terms.proofs.Combined.{along_dropped, product_at, fold-next, fold-last, wrap-next}
 use Rattle.tensor_terms.proofs.Combined.{reduced-fold, contracted-fold}
 use Rattle.tensor_terms.proofs.Known.{IsContraction, reduction-known, contraction-known}

@@ -24,7 +24,7 @@ use Rattle.tensor_terms.proofs.Moved.{factor-above}
 use Rattle.tensor_terms.proofs.OtherAxes.{are_axes-others}
 use Rattle.tensor_terms.proofs.Shapes.{place_read}
 use Rattle.tensor_terms.proofs.Splits.{size_of-append, index_of-append, length-index_of}
-use Rattle.tensor_kernels.proofs.TilePlaces.{some_factor}
+use Rattle.tensor_values.proofs.Factors.{some_factor}
 use Rattle.tensor_terms.proofs.Weaving.{IsIndexOf-woven}
 
 -- the index list of a place, modulo the dims' size

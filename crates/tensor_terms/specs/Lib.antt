@@ -1,24 +1,17 @@
-pub use Rattle.tensor_shape.specs.Index
-pub use Rattle.tensor_shape.specs.Legal
-pub use Rattle.tensor_shape.specs.Wrap
-pub mod Axes
 pub mod Concatenation
 pub mod Contents
 pub mod Contraction
 pub mod Convolution
 pub mod Cursor
 pub mod Movement
-pub mod Offsets
-pub mod OperandRows
 pub mod Padding
-pub mod Pairing
 pub mod Reduction
 pub mod Result
 pub mod Shaped
-pub mod Slid
-pub mod Stepped
 pub mod Tensors
 pub mod Term
 pub mod Tree
 pub mod Value
 pub mod Woven
+-- for private clauses alone
+pub mod Pairing

@@ -1,12 +1,12 @@
 -- Reductions: all values along the dropped axes, combined one after the other from a unit.
 use Rattle.std.specs.Prelude.{ℕ, ℤ, List, [], ◌∷◌, length, map}
 use Rattle.std.specs.Prelude.{nat_lt, Bool, true, not, ◌&&◌, Ok, Err, if◌then◌else◌}
-use Rattle.tensor_walks.specs.Combining.{combination}
+use Rattle.tensor_values.specs.Combining.{combination}
 use Rattle.tensor_terms.specs.Movement.{is_among}
 use Rattle.tensor_terms.specs.Shaped.{Shaped}
 use Rattle.tensor_terms.specs.Woven.{among, dims_at, other_dims, woven, index_lists}
 use Rattle.tensor_terms.specs.declared.fault.ExprFault.TheVariants.{OutOfRange}
-use Rattle.tensor_walks.specs.declared.reducer.Reducer.{Reducer}
+use Rattle.tensor_values.specs.declared.reducer.Reducer.{Reducer}
 
 -- whether all of these axes are below the rank, and none stands twice
 abbrev pub are_axes : ℕ → List ℕ → Bool

@@ -1,7 +1,7 @@
 -- The tensors that an expression names.
 use Rattle.std.specs.Prelude.{List, ◌++◌}
 use Rattle.tensor_terms.specs.Contents.{Contents}
-use Rattle.tensor_terms.specs.declared.tensors.Tensors.{Tensors}
+use Rattle.tensor_terms.specs.declared.tensor.tensors.Tensors.{Tensors}
 
 -- inputs, and behind them others
 abbrev pub tensors_in : Tensors → List Contents

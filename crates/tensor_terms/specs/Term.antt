@@ -1,8 +1,8 @@
 -- Expressions as terms: a constructor an arity, and the arguments inside the operation.
 use Rattle.std.specs.Prelude.{ℕ, ◌+◌, ℤ, List, Bool, nat_lt, ◌&&◌}
-use Rattle.tensor_walks.specs.declared.operations.UnaryScalar.{UnaryScalar}
-use Rattle.tensor_walks.specs.declared.operations.BinaryScalar.{BinaryScalar}
-use Rattle.tensor_walks.specs.declared.reducer.Reducer.{Reducer}
+use Rattle.tensor_values.specs.declared.operations.UnaryScalar.{UnaryScalar}
+use Rattle.tensor_values.specs.declared.operations.BinaryScalar.{BinaryScalar}
+use Rattle.tensor_values.specs.declared.reducer.Reducer.{Reducer}
 
 -- the operations whose value at an index list is the operand's at another one, with their arguments
 pub data Movement : Type 0 where

@@ -5,19 +5,19 @@ use Rattle.tensor_terms.specs.Term.{Unary, each, constant, movement, pad, reduce
 use Rattle.tensor_terms.specs.Term.{Binary, pairwise, concat, contract, convolve, Ternary, select}
 use Rattle.tensor_terms.specs.declared.expr.Expr.{Expr}
 use Rattle.tensor_terms.specs.declared.expr.Expr.TheVariants as expr
-use Rattle.tensor_terms.specs.declared.node.Movement.{Movement as MovementView}
-use Rattle.tensor_terms.specs.declared.node.Movement.TheVariants as move
-use Rattle.tensor_terms.specs.declared.node.Unary.{Unary as UnaryView}
-use Rattle.tensor_terms.specs.declared.node.Unary.TheVariants as one
-use Rattle.tensor_terms.specs.declared.node.Binary.{Binary as BinaryView}
-use Rattle.tensor_terms.specs.declared.node.Binary.TheVariants as two
-use Rattle.tensor_terms.specs.declared.node.Ternary.{Ternary as TernaryView}
-use Rattle.tensor_terms.specs.declared.node.Ternary.TheVariants as three
-use Rattle.tensor_terms.specs.declared.node.Node.{Node}
-use Rattle.tensor_terms.specs.declared.node.Node.TheVariants as node
-use Rattle.tensor_walks.specs.declared.operations.UnaryScalar.TheVariants as unary_scalar
-use Rattle.tensor_walks.specs.declared.operations.BinaryScalar.TheVariants as binary_scalar
-use Rattle.tensor_walks.specs.declared.reducer.Reducer.TheVariants as reducer
+use Rattle.tensor_terms.specs.declared.expr.node.Movement.{Movement as MovementView}
+use Rattle.tensor_terms.specs.declared.expr.node.Movement.TheVariants as move
+use Rattle.tensor_terms.specs.declared.expr.node.Unary.{Unary as UnaryView}
+use Rattle.tensor_terms.specs.declared.expr.node.Unary.TheVariants as one
+use Rattle.tensor_terms.specs.declared.expr.node.Binary.{Binary as BinaryView}
+use Rattle.tensor_terms.specs.declared.expr.node.Binary.TheVariants as two
+use Rattle.tensor_terms.specs.declared.expr.node.Ternary.{Ternary as TernaryView}
+use Rattle.tensor_terms.specs.declared.expr.node.Ternary.TheVariants as three
+use Rattle.tensor_terms.specs.declared.expr.node.Node.{Node}
+use Rattle.tensor_terms.specs.declared.expr.node.Node.TheVariants as node
+use Rattle.tensor_values.specs.declared.operations.UnaryScalar.TheVariants as unary_scalar
+use Rattle.tensor_values.specs.declared.operations.BinaryScalar.TheVariants as binary_scalar
+use Rattle.tensor_values.specs.declared.reducer.Reducer.TheVariants as reducer
 
 abbrev pub term_of : Expr → Term
 term_of (expr.Input n) = input n

@@ -10,7 +10,7 @@ use Rattle.tensor_terms.specs.Movement.{moved}
 use Rattle.tensor_terms.specs.Padding.{padded}
 use Rattle.tensor_terms.specs.Reduction.{reduced}
 use Rattle.tensor_terms.specs.Result.{shape_of}
-use Rattle.tensor_walks.specs.Scalars.{applied, combined, is_true}
+use Rattle.tensor_values.specs.Scalars.{applied, combined, is_true}
 use Rattle.tensor_terms.specs.Term.{Term, input, unary, binary, ternary}
 use Rattle.tensor_terms.specs.Term.{Unary, each, constant, movement, pad, reduce}
 use Rattle.tensor_terms.specs.Term.{Binary, pairwise, concat, contract, convolve, Ternary, select}

@@ -9,18 +9,18 @@ ghost use Rattle.tensor_terms.specs.Tree.{term_of};
 ghost use Rattle.tensor_terms.specs.Result.{dims_of, shape_of};
 ghost use Rattle.tensor_terms.specs.Value.{value, value_of_place};
 
-use crate::contraction_dims::paired_axes;
-use crate::convolution_dims::convolved_dims;
+use crate::dims::contraction_dims::paired_axes;
+use crate::dims::convolution_dims::convolved_dims;
+use crate::dims::result_dims::dims_within;
 use crate::expr::Expr;
-use crate::index_parts::{all_among, dims_at, other_dims, woven_place};
-use crate::inputs::Inputs;
-use crate::moved_index::moved_place;
-use crate::node::{Binary, Node, Ternary, Unary};
-use crate::result_dims::dims_within;
-use crate::sliding::slid_place;
-use crate::spliced_index::{padded_place, turns_along};
+use crate::expr::node::{Binary, Node, Ternary, Unary};
+use crate::index::index_parts::{all_among, dims_at, other_dims, woven_place};
+use crate::index::moved_index::moved_place;
+use crate::index::sliding::slid_place;
+use crate::index::spliced_index::{padded_place, turns_along};
+use crate::tensor::inputs::Inputs;
 use tensor_shape::{Dims, MAX_RANK, PerAxis};
-use tensor_walks::{BinaryScalar, Reducer, applied, combined, is_true};
+use tensor_values::{BinaryScalar, Reducer, applied, combined, is_true};
 
 /// An expression that has result dims, over its inputs. It gives one value at a time and takes no
 /// memory.

@@ -1,12 +1,15 @@
 //! Expressions: a variant for each operation.
 
+pub(crate) mod node;
+pub(crate) mod rebuilt;
+
 ghost use Rattle.std.specs.Prelude.{◌≡◌};
 ghost use Rattle.tensor_terms.specs.Term.{unary, binary, each, movement, reduce, pairwise};
 ghost use Rattle.tensor_terms.specs.Tree.{term_of, movement_at, term_at};
 
-use crate::node::{Binary, Movement, Node, Ternary, Unary};
+use crate::expr::node::{Binary, Movement, Node, Ternary, Unary};
 use std::alloc::Global;
-use tensor_walks::{BinaryScalar, Reducer, UnaryScalar};
+use tensor_values::{BinaryScalar, Reducer, UnaryScalar};
 
 /// A tree of operations over inputs, a variant an operation. Values are of the `i64` range, and
 /// operations on them are modulo 2^64. A value is true where it isn't 0; true is written as 1.

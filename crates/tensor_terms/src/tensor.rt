@@ -1,5 +1,8 @@
 //! A tensor: dims and values.
 
+pub(crate) mod inputs;
+pub(crate) mod tensors;
+
 ghost use Rattle.std.specs.Prelude.{◌≡◌, List, ℕ, ℤ, length};
 ghost use Rattle.tensor_shape.specs.Index.{size_of, IsIndexOf};
 ghost use Rattle.tensor_terms.specs.Contents.{value_at};

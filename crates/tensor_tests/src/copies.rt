@@ -1,7 +1,7 @@
 //! Tensors of requests, and of expressions that are made again, node by node, with ample memory.
 
 ghost use Rattle.std.specs.Prelude.{◌≡◌, IfOk};
-ghost use Rattle.tensor_terms.specs.Tree.{term_of};
+ghost use Rattle.tensor_ops.specs.Tree.{term_of};
 
 use crate::texts::request;
 use crate::told::expect;

@@ -4,9 +4,9 @@ ghost use Rattle.std.specs.Prelude.{◌≡◌, IsTrue};
 ghost use Rattle.tensor_ops.specs.Index.{size_of};
 ghost use Rattle.tensor_ops.specs.PartEvaluator.{term_in_parts, inputs_in_parts};
 ghost use Rattle.tensor_ops.specs.Parts.{has_parts};
-ghost use Rattle.tensor_terms.specs.Result.{shape_of};
-ghost use Rattle.tensor_terms.specs.Term.{has_inputs};
-ghost use Rattle.tensor_terms.specs.Tree.{term_of};
+ghost use Rattle.tensor_ops.specs.Result.{shape_of};
+ghost use Rattle.tensor_ops.specs.Term.{has_inputs};
+ghost use Rattle.tensor_ops.specs.Tree.{term_of};
 
 use crate::plans::four_inputs;
 use crate::told::expect;

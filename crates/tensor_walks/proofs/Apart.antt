@@ -6,7 +6,7 @@ use Rattle.std.proofs.Math.Nat.{mod-add-div, mod-le, div-div-eq-div-mul, mul_com
 use Rattle.std.proofs.Math.Nat.{mul-le-mul_left, lt_of_not-le}
 use Rattle.tensor_walks.specs.Walk.{walk_size, reached, AreApart, AreAllApart}
 use Rattle.tensor_walks.specs.declared.walk.Axis.{Axis}
-use Rattle.tensor_kernels.proofs.TilePlaces.{some_factor}
+use Rattle.tensor_values.proofs.Factors.{some_factor}
 use Rattle.tensor_walks.proofs.Walks.{index-of_row, row-of_row}
 
 mul-sum : (d q r : ℕ) → d * (q + r) ≡ d * q + d * r

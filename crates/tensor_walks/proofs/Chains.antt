@@ -4,8 +4,8 @@ use Rattle.std.proofs.Common.{add-one}
 use Rattle.std.proofs.Math.Seq.{take-suc}
 use Rattle.tensor_walks.specs.Chain.{chained}
 use Rattle.tensor_walks.specs.Loops.{either_way}
-use Rattle.tensor_walks.specs.declared.chain.Link.{Link}
-use Rattle.tensor_walks.specs.declared.operations.BinaryScalar.TheVariants.{Add}
+use Rattle.tensor_walks.specs.declared.loops.chain.Link.{Link}
+use Rattle.tensor_values.specs.declared.operations.BinaryScalar.TheVariants.{Add}
 
 -- stands where there is no operation
 abbrev pub no_link : Link

@@ -6,9 +6,9 @@ use Rattle.std.proofs.lemmas.List.FromFn.{map-range_with_len_more}
 use Rattle.std.proofs.lemmas.List.Sums.{fold-append}
 use Rattle.std.proofs.lemmas.Nat.{div-mul-add, mod-mul-add}
 use Rattle.tensor_walks.specs.Folds.{folded, offset_at, start_at}
-use Rattle.tensor_walks.specs.Combining.{combine}
-use Rattle.tensor_walks.specs.declared.reducer.Reducer.{Reducer}
-use Rattle.tensor_kernels.proofs.Runs.{map-shifted, map-joined}
+use Rattle.tensor_values.specs.Combining.{combine}
+use Rattle.tensor_values.specs.declared.reducer.Reducer.{Reducer}
+use Rattle.tensor_values.proofs.Runs.{map-shifted, map-joined}
 
 module _ (r : Reducer) (x : ℤ) where
   pub folded-more : (f : ℕ → ℤ) (n : ℕ) → folded r x f (n + 1) ≡ combine r (folded r x f n) (f n)

@@ -5,8 +5,8 @@ use Rattle.std.proofs.lemmas.Bool.{cases_Bool, and_parts, ltb-true, ltb-false, e
 use Rattle.std.proofs.Math.Nat.{mod-add-div, mod-lt, div-le_self, mul-le-mul_left, mul-le-mul_right}
 use Rattle.tensor_walks.specs.Joining.{span, IsSameWalk, opened, left_axis, led_axis, goes_along, led_by, passed, extent_along}
 use Rattle.tensor_walks.specs.Walk.{walk_size, reached, steps_to}
-use Rattle.tensor_walks.specs.declared.joining.Strand.{Strand}
-use Rattle.tensor_walks.specs.declared.joining.Strand.TheVariants.{Open, Led}
+use Rattle.tensor_walks.specs.declared.walk.joining.Strand.{Strand}
+use Rattle.tensor_walks.specs.declared.walk.joining.Strand.TheVariants.{Open, Led}
 use Rattle.tensor_walks.specs.declared.walk.Axis.{Axis}
 use Rattle.tensor_walks.proofs.Walks.{reached-start, reached-row, row-within, steps-alone}
 

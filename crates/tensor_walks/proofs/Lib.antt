@@ -2,7 +2,6 @@ pub mod Apart
 pub mod Chains
 pub mod CombinedRows
 pub mod Folding
-pub mod InTurns
 pub mod Joints
 pub mod Mapped
 pub mod Parting

@@ -8,7 +8,7 @@ use Rattle.tensor_walks.specs.Rising.{rising}
 use Rattle.tensor_walks.specs.Joining.{span, is_parted, parted, IsSameWalk}
 use Rattle.tensor_walks.specs.Walk.{walk_size, reached, steps_to}
 use Rattle.tensor_walks.specs.declared.walk.Axis.{Axis}
-use Rattle.tensor_walks.proofs.Walks.{some_size}
+use Rattle.tensor_values.proofs.Factors.{some_size}
 
 -- one axis of a list of them
 pub parted-at : (stride : ℕ) (axes : List Axis) (i : ℕ) (d : Axis) → i < length axes

@@ -3,9 +3,9 @@ use Rattle.std.proofs.Common.{◌≡◌, ℕ, ℤ, pos, ◌+◌, ◌-◌, ◌*�
 use Rattle.std.specs.List.{between}
 use Rattle.std.proofs.lemmas.List.Edits.{length-between, get_or-between}
 use Rattle.tensor_walks.specs.Folds.{folded, run_folded}
-use Rattle.tensor_kernels.specs.Values.{value_in}
-use Rattle.tensor_walks.specs.Combining.{unit}
-use Rattle.tensor_walks.specs.declared.reducer.Reducer.{Reducer}
+use Rattle.tensor_values.specs.Values.{value_in}
+use Rattle.tensor_values.specs.Combining.{unit}
+use Rattle.tensor_values.specs.declared.reducer.Reducer.{Reducer}
 use Rattle.tensor_walks.proofs.Folding.{folded-ext}
 
 module _ (r : Reducer) where

@@ -3,8 +3,8 @@ use Rattle.std.proofs.Common.{ℕ, ◌-◌, ◌<◌, length, map, get_or, arith}
 use Rattle.std.proofs.lemmas.List.{length-map, get_or-map}
 use Rattle.std.proofs.lemmas.List.FromFn.{get_or-range_with_len, length-range_with_len}
 use Rattle.tensor_walks.specs.Places.{places_of, AreBelow}
-use Rattle.tensor_walks.specs.declared.places.Places.{Places}
-use Rattle.tensor_walks.specs.declared.places.Places.TheVariants.{Run, Listed}
+use Rattle.tensor_walks.specs.declared.walk.places.Places.{Places}
+use Rattle.tensor_walks.specs.declared.walk.places.Places.TheVariants.{Run, Listed}
 
 -- each of the places is below their limit
 pub places-within : (places : Places) (n k : ℕ) → AreBelow places n → k < length (places_of places) → get_or (places_of places) k 0 < n

@@ -6,9 +6,9 @@ use Rattle.std.proofs.lemmas.Bool.{cases_Bool}
 use Rattle.std.proofs.lemmas.List.{length-map, length-take-le, get_or-map, take_more, map-append}
 use Rattle.std.proofs.lemmas.List.Filters.{length-filter_both, length-filter_more}
 use Rattle.std.proofs.lemmas.List.FromFn.{length-map-range_with_len, get_or-map-range_with_len}
-use Rattle.tensor_walks.specs.Splicing.{is_of_first, firsts_before, seconds_before, spliced, HaveTurns}
-use Rattle.tensor_walks.proofs.InTurns.{firsts-seconds, firsts_before-next, firsts_before-same, firsts-le, seconds-le, first-in_turn, second-in_turn, firsts-run, seconds-run}
-use Rattle.tensor_kernels.proofs.Runs.{map-shifted, part-read, row-more}
+use Rattle.tensor_values.specs.Splicing.{is_of_first, firsts_before, seconds_before, spliced, HaveTurns}
+use Rattle.tensor_values.proofs.InTurns.{firsts-seconds, firsts_before-next, firsts_before-same, firsts-le, seconds-le, first-in_turn, second-in_turn, firsts-run, seconds-run}
+use Rattle.tensor_values.proofs.Runs.{map-shifted, part-read, row-more}
 
 -- a part of the values of a run
 take-run : (f : ℕ → ℤ) (xs : List ℤ) (a n s c : ℕ) → xs ≡ map f (range_with_len a n) → s + c ≤ n

@@ -1,5 +1,5 @@
 -- Walks along their first axis.
-use Rattle.std.proofs.Common.{◌≡◌, ℕ, zero, suc, ◌+◌, ◌-◌, ◌*◌, ◌/◌, ◌%◌, ◌<◌, ◌≤◌, List, [], ◌∷◌, length, map, get_or, refl, ap, ◌∙◌, arith}
+use Rattle.std.proofs.Common.{◌≡◌, ℕ, ◌+◌, ◌-◌, ◌*◌, ◌/◌, ◌%◌, ◌<◌, ◌≤◌, List, [], ◌∷◌, length, map, get_or, refl, ap, ◌∙◌, arith}
 use Rattle.std.proofs.Common.{inl, inr}
 use Rattle.std.proofs.lemmas.Bool.{cases_Bool}
 use Rattle.std.proofs.Common.{drop, add-one}
@@ -8,6 +8,7 @@ use Rattle.std.specs.List.{range_with_len}
 use Rattle.std.proofs.Math.Nat.{mod-eq_of_lt, div-eq_of_lt, add-mul-mod_self_left, add-mul-div_left, div-lt_iff_lt-mul, div-mul-le_self, mod-add-div, mod-lt, mul-le-mul_left, lt_of_not-le}
 use Rattle.std.proofs.lemmas.Nat.{le-div}
 use Rattle.std.proofs.lemmas.List.FromFn.{get_or-map-range_with_len}
+use Rattle.tensor_values.proofs.Factors.{some_size}
 use Rattle.tensor_walks.specs.Walk.{along, reached, walk_size, steps_to}
 use Rattle.tensor_walks.specs.declared.walk.Axis.{Axis}
 
@@ -54,10 +55,6 @@ div-mono x y d some le = le-div (x / d) y d some (omega (arith, div-mul-le_self 
 
 next-le : (q n : ℕ) → q < n → 0 + (q + 1) ≤ n
 next-le q n h = omega arith
-
-pub some_size : (d n p : ℕ) → p < d * n → 0 < d
-some_size zero n p h = absurd (omega arith)
-some_size (suc d) n p h = omega arith
 
 mul-lt : (q n d : ℕ) → 0 < d → q < n → d * q < d * n
 mul-lt q n d some below = omega (arith, mul-next d 0 q, mul-le-mul_left d (next-le q n below))

@@ -1,7 +1,7 @@
 -- Chains: operations one after the other, with one and the same operand.
 use Rattle.std.specs.Prelude.{◌≡◌, ℤ, List, [], ◌∷◌}
 use Rattle.tensor_walks.specs.Loops.{either_way}
-use Rattle.tensor_walks.specs.declared.chain.Link.{Link}
+use Rattle.tensor_walks.specs.declared.loops.chain.Link.{Link}
 use Rattle.tensor_walks.specs.declared.walk.Reading.{Reading}
 
 -- the value of a chain: each operation is on the value of those before it and the operand's

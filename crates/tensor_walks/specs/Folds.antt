@@ -3,9 +3,9 @@ use Rattle.std.specs.Prelude.{◌≡◌, ℕ, ℤ, ◌+◌, ◌*◌, ◌/◌, �
 use Rattle.std.specs.Prelude.{List, length, map}
 use Rattle.std.specs.Prelude.{slice_index}
 use Rattle.std.specs.List.{fold, range_with_len}
-use Rattle.tensor_kernels.specs.Values.{value_in}
-use Rattle.tensor_walks.specs.Combining.{combine, unit}
-use Rattle.tensor_walks.specs.declared.reducer.Reducer.{Reducer}
+use Rattle.tensor_values.specs.Values.{value_in}
+use Rattle.tensor_values.specs.Combining.{combine, unit}
+use Rattle.tensor_values.specs.declared.reducer.Reducer.{Reducer}
 
 -- a value, and the first n of others combined with it, one after the other
 abbrev pub folded : Reducer → ℤ → (ℕ → ℤ) → ℕ → ℤ

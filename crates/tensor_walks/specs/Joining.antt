@@ -3,8 +3,8 @@ use Rattle.std.specs.Prelude.{◌≡◌, ℕ, ◌+◌, ◌-◌, ◌*◌, ◌/◌
 use Rattle.std.specs.Prelude.{Bool, not, ◌&&◌, nat_eq, nat_lt, if◌then◌else◌}
 use Rattle.tensor_walks.specs.Rising.{rising}
 use Rattle.tensor_walks.specs.Walk.{walk_size, reached}
-use Rattle.tensor_walks.specs.declared.joining.Strand.{Strand}
-use Rattle.tensor_walks.specs.declared.joining.Strand.TheVariants.{Open, Led}
+use Rattle.tensor_walks.specs.declared.walk.joining.Strand.{Strand}
+use Rattle.tensor_walks.specs.declared.walk.joining.Strand.TheVariants.{Open, Led}
 use Rattle.tensor_walks.specs.declared.walk.Axis.{Axis}
 
 -- how far the last place of axes lies behind their start

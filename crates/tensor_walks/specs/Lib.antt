@@ -1,13 +1,8 @@
-pub use Rattle.tensor_shape.specs.Legal
-pub use Rattle.tensor_shape.specs.Wrap
-pub use Rattle.tensor_kernels.specs.Values
+-- for private clauses alone
 pub mod Chain
-pub mod Combining
 pub mod Folds
 pub mod Joining
 pub mod Loops
 pub mod Places
 pub mod Rising
-pub mod Scalars
-pub mod Splicing
 pub mod Walk

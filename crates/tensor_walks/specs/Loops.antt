@@ -1,8 +1,8 @@
 -- Operations on values that are worked out in another order than they stand in.
 use Rattle.std.specs.Prelude.{◌≡◌, ℕ, ℤ, pos, ◌+◌, ◌<◌, ◌≤◌, Bool, List, length}
 use Rattle.std.specs.Prelude.{slice_index_or, if◌then◌else◌}
-use Rattle.tensor_walks.specs.Scalars.{combined, is_true}
-use Rattle.tensor_walks.specs.declared.operations.BinaryScalar.{BinaryScalar}
+use Rattle.tensor_values.specs.Scalars.{combined, is_true}
+use Rattle.tensor_values.specs.declared.operations.BinaryScalar.{BinaryScalar}
 use Rattle.tensor_walks.specs.declared.loops.SelectOrder.{SelectOrder}
 use Rattle.tensor_walks.specs.declared.loops.SelectOrder.TheVariants as order
 use Rattle.tensor_walks.specs.declared.walk.Row.{Row}

@@ -1,8 +1,8 @@
 -- Places that values are asked for.
 use Rattle.std.specs.Prelude.{ℕ, ◌-◌, ◌<◌, ◌≤◌, List, length, slice_index}
 use Rattle.std.specs.List.{range_with_len}
-use Rattle.tensor_walks.specs.declared.places.Places.{Places}
-use Rattle.tensor_walks.specs.declared.places.Places.TheVariants.{Run, Listed}
+use Rattle.tensor_walks.specs.declared.walk.places.Places.{Places}
+use Rattle.tensor_walks.specs.declared.walk.places.Places.TheVariants.{Run, Listed}
 
 -- the places, in order
 abbrev pub places_of : Places → List ℕ

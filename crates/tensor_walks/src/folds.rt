@@ -4,11 +4,11 @@ ghost use Rattle.std.specs.Prelude.{◌≡◌, ◌<◌, ◌≤◌, ◌+◌, ◌*
 ghost use Rattle.std.specs.Prelude.{slice_index, vec_len, vec_capacity};
 ghost use Rattle.std.specs.List.{range_with_len};
 ghost use Rattle.tensor_walks.specs.Folds.{folded, run_folded, IsCombined, offset_at};
-ghost use Rattle.tensor_kernels.specs.Values.{value_in};
-ghost use Rattle.tensor_walks.specs.Combining.{combine};
+ghost use Rattle.tensor_values.specs.Values.{value_in};
+ghost use Rattle.tensor_values.specs.Combining.{combine};
 
-use crate::reducer::Reducer;
 use std::alloc::Allocator;
+use tensor_values::Reducer;
 
 /// The shortest row that is combined as a row. Shorter ones are combined value by value.
 const SHORTEST_COMBINED_ROW: usize = 8;

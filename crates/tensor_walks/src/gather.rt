@@ -1,14 +1,16 @@
 //! Values of a list at places, and along walks.
 
+pub(crate) mod spliced;
+
 ghost use Rattle.std.specs.Prelude.{◌≡◌, ◌<◌, ◌≤◌, ◌-◌, ◌+◌, ◌*◌, ◌/◌, ◌^◌, ◌++◌, ℕ, length, map};
 ghost use Rattle.std.specs.Prelude.{IfOk, OnOk, slice_index, vec_len, vec_capacity};
 ghost use Rattle.std.specs.Cow.{cow_slice_items};
 ghost use Rattle.std.specs.List.{range_with_len};
 ghost use Rattle.tensor_walks.specs.Places.{places_of, AreBelow};
-ghost use Rattle.tensor_kernels.specs.Values.{value_in};
+ghost use Rattle.tensor_values.specs.Values.{value_in};
 ghost use Rattle.tensor_walks.specs.Walk.{walk_size, reached, along, steps_to};
 
-use crate::places::Places;
+use crate::walk::places::Places;
 use crate::walk::{Axis, looked_up, rows_of, steps_to};
 use std::alloc::{AllocError, Global};
 use std::borrow::CowSlice;

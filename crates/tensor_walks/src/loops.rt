@@ -1,14 +1,17 @@
 //! One loop for each arity. The operation is a constant at each call, so that each call becomes a
 //! loop of its own, with no test in it.
 
+pub(crate) mod chain;
+pub(crate) mod combining;
+
 ghost use Rattle.std.specs.Prelude.{◌≡◌, ◌<◌, ◌≤◌, ◌+◌, ℕ, pos, length, slice_index_or, vec_len};
 ghost use Rattle.std.specs.Prelude.{if◌then◌else◌};
 ghost use Rattle.tensor_walks.specs.Loops.{either_way, selected, CombinesRow};
-ghost use Rattle.tensor_walks.specs.Scalars.{applied, is_true};
+ghost use Rattle.tensor_values.specs.Scalars.{applied, is_true};
 ghost use Rattle.tensor_walks.specs.Walk.{IsRowIn};
 
-use crate::operations::{BinaryScalar, UnaryScalar, applied, combined, is_true};
 use crate::walk::{Row, steps_to};
+use tensor_values::{BinaryScalar, UnaryScalar, applied, combined, is_true};
 
 /// The order in which the operands of a select are worked out: this one, and then the others as
 /// they stand, condition, yes, no.

@@ -1,12 +1,17 @@
 //! Walks: which places of the operand a movement reads, in the order of the result's places.
 
+pub(crate) mod joining;
+pub(crate) mod led;
+pub(crate) mod places;
+pub(crate) mod route;
+
 ghost use Rattle.std.specs.Prelude.{◌≡◌, ◌<◌, ◌≤◌, ◌-◌, ◌+◌, ◌*◌, ◌/◌, ◌^◌, ◌∷◌, ◌++◌, ℕ, length, map};
 ghost use Rattle.std.specs.Prelude.{IfOk, slice_index, vec_len, vec_capacity};
 ghost use Rattle.std.specs.List.{range_with_len};
 ghost use Rattle.tensor_walks.specs.Places.{places_of, AreBelow};
 ghost use Rattle.tensor_walks.specs.Walk.{walk_size, reached, along, steps_to, place_in, IsRowIn};
 
-use crate::places::Places;
+use crate::walk::places::Places;
 use std::alloc::{AllocError, Global};
 
 /// One axis of the result: its size, and how far its next place is in the operand.
@@ -52,7 +57,7 @@ struct WalkRow {
 impl Axis {
     /// The same axis, with its step and its way as the compiler knows them where they are constants.
     #[inline(always)]
-    pub fn known(self, step: usize, falls: bool) -> Self
+    pub(crate) fn known(self, step: usize, falls: bool) -> Self
         requires step { self.step ≡ step }
         requires way { self.falls ≡ falls }
         ensures { result ≡ self }
@@ -85,7 +90,7 @@ impl Row {
     }
 
     /// Places that lie side by side, from the first on.
-    pub fn whole(count: usize) -> Self
+    pub(crate) fn whole(count: usize) -> Self
         ensures row { IsRowIn result count }
         ensures count { result.count ≡ count }
         ensures each { (k : ℕ) → place_in result k ≡ k }
@@ -104,7 +109,7 @@ impl Row {
 
     /// The same part of a row, with the step and the way of its axis as the compiler knows them.
     #[inline(always)]
-    pub fn known(self, step: usize, falls: bool) -> Self
+    pub(crate) fn known(self, step: usize, falls: bool) -> Self
         requires step { self.axis.step ≡ step }
         requires way { self.axis.falls ≡ falls }
         ensures { result ≡ self }
@@ -158,7 +163,7 @@ fn walked(
 
 /// The first axis that has steps, and where its rows start that have the places of a run: at the
 /// places that the slower axes reach.
-pub fn rows_of(
+pub(crate) fn rows_of(
     alloc: Global,
     start: usize,
     axes: &[Axis],
@@ -249,7 +254,7 @@ fn add_row(places: &mut Vec<u32>, row: usize, axis: Axis, from: usize, to: usize
 
 /// The operand's places for a list of places. A row of the first axis is looked up once for those
 /// of it that follow one another.
-pub fn looked_up(
+pub(crate) fn looked_up(
     alloc: Global,
     start: usize,
     axes: &[Axis],
@@ -321,7 +326,7 @@ fn row_of(start: usize, axis: Axis, slower: &[Axis], place: usize) -> WalkRow
 
 /// The operand's place for one place.
 #[inline(always)]
-pub fn reached(start: usize, axes: &[Axis], place: usize) -> usize
+pub(crate) fn reached(start: usize, axes: &[Axis], place: usize) -> usize
     requires within { place < walk_size axes.now }
     requires fits { reached start axes.now place < 2 ^ 32 }
     ensures { result ≡ reached start axes.now place }
@@ -337,7 +342,7 @@ pub fn reached(start: usize, axes: &[Axis], place: usize) -> usize
 
 /// How many steps an index along an axis is.
 #[inline(always)]
-pub fn steps_to(axis: Axis, index: usize) -> usize
+pub(crate) fn steps_to(axis: Axis, index: usize) -> usize
     requires { index < axis.size }
     ensures { result ≡ steps_to axis index }
 {

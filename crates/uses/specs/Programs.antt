@@ -1,9 +1,9 @@
 -- What tensor programs work out, as terms.
 use Rattle.std.specs.Prelude.{[], ◌∷◌}
-use Rattle.tensor_terms.specs.Term.{Term, input, unary, binary, each, pairwise, reduce}
-use Rattle.tensor_walks.specs.declared.operations.UnaryScalar.TheVariants.{Square}
-use Rattle.tensor_walks.specs.declared.operations.BinaryScalar.TheVariants.{Sub}
-use Rattle.tensor_walks.specs.declared.reducer.Reducer.TheVariants.{Sum}
+use Rattle.tensor_ops.specs.Term.{Term, input, unary, binary, each, pairwise, reduce}
+use Rattle.tensor_ops.specs.UnaryScalar.TheVariants.{Square}
+use Rattle.tensor_ops.specs.BinaryScalar.TheVariants.{Sub}
+use Rattle.tensor_ops.specs.Reducer.TheVariants.{Sum}
 
 -- the squares of the differences of two inputs, added up along axis 1
 abbrev pub squared_distances : Term

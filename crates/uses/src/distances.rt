@@ -1,8 +1,8 @@
 //! A tensor program without JSON: how far each row of a matrix lies from that of another.
 ghost use Rattle.std.specs.Prelude.{◌≡◌, Err, IfOk, IfErr, length};
-ghost use Rattle.tensor_terms.specs.Result.{dims_of};
-ghost use Rattle.tensor_terms.specs.Tree.{term_of};
-ghost use Rattle.tensor_terms.specs.Value.{tensor_of};
+ghost use Rattle.tensor_ops.specs.Result.{dims_of};
+ghost use Rattle.tensor_ops.specs.Tree.{term_of};
+ghost use Rattle.tensor_ops.specs.Value.{tensor_of};
 ghost use Rattle.uses.specs.Programs.{squared_distances};
 
 use std::alloc::{AllocError, Global};

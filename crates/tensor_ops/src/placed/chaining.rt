@@ -8,7 +8,8 @@ ghost use Rattle.tensor_ops.specs.Placing.{IsJoined};
 use crate::placed::Placed;
 use crate::placed::settling::both;
 use std::alloc::{AllocError, Global};
-use tensor_walks::{BinaryScalar, Link, are_same};
+use tensor_values::BinaryScalar;
+use tensor_walks::{Link, are_same};
 
 impl<'a> Placed<'a> {
     /// An operation on each value and another one's. Where this is an operation that reads what the

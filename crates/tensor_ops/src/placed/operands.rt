@@ -5,17 +5,17 @@ ghost use Rattle.std.specs.Cow.{cow_slice_items};
 ghost use Rattle.tensor_shape.specs.Index.{size_of, place};
 ghost use Rattle.tensor_shape.specs.Legal.{most_elements};
 ghost use Rattle.tensor_ops.specs.Meaning.{count_of, IsSound};
-ghost use Rattle.tensor_ops.specs.Operand.{operand_at, operand_count};
-ghost use Rattle.tensor_kernels.specs.Values.{value_in};
+ghost use Rattle.tensor_operands.specs.Operand.{operand_at, operand_count};
+ghost use Rattle.tensor_values.specs.Values.{value_in};
 ghost use Rattle.tensor_ops.specs.Placing.{HasValues, meaning_at};
 ghost use Rattle.tensor_ops.specs.Settling.{meaning_along};
 ghost use Rattle.tensor_walks.specs.Walk.{walk_size, reached};
 
-use crate::operand::{Operand, Routed};
 use crate::placed::Placed;
 use crate::placed::settling::{settled_over, walk_over};
 use std::alloc::{AllocError, Global};
 use std::borrow::CowSlice;
+use tensor_operands::{Operand, Routed};
 use tensor_shape::Dims;
 use tensor_walks::Route;
 

@@ -7,15 +7,16 @@ ghost use Rattle.tensor_shape.specs.Legal.{most_elements};
 ghost use Rattle.tensor_walks.specs.Loops.{either_way, selected};
 ghost use Rattle.tensor_ops.specs.Meaning.{meaning, count_of, IsSound};
 ghost use Rattle.tensor_ops.specs.Placing.{Gives, IsJoined, meaning_at};
-ghost use Rattle.tensor_walks.specs.Scalars.{applied};
+ghost use Rattle.tensor_values.specs.Scalars.{applied};
 ghost use Rattle.tensor_ops.specs.Settling.{Follows, meaning_along};
-ghost use Rattle.tensor_walks.specs.Splicing.{spliced, HaveTurns};
+ghost use Rattle.tensor_values.specs.Splicing.{spliced, HaveTurns};
 ghost use Rattle.tensor_walks.specs.Walk.{walk_size, reached};
 
 use crate::placed::Placed;
 use std::alloc::{AllocError, Global};
 use tensor_shape::Dims;
-use tensor_walks::{BinaryScalar, Route, SelectOrder, Turns, UnaryScalar, joined, places_along};
+use tensor_values::{BinaryScalar, Turns, UnaryScalar};
+use tensor_walks::{Route, SelectOrder, joined, places_along};
 
 /// A placed expression of these dims, settled.
 pub(crate) fn settled_over<'a>(

@@ -5,7 +5,7 @@ use Rattle.std.specs.List.{position_from}
 use Rattle.std.specs.Option.{option_or}
 use Rattle.std.specs.Str.{bytes_eq}
 use Rattle.serde_json.specs.View.{members_view}
-use Rattle.tensor_terms.specs.Contents.{HaveRank}
+use Rattle.tensor_ops.specs.Contents.{HaveRank}
 use Rattle.expr_reader.specs.Numbers.{number_in}
 use Rattle.expr_reader.specs.Tensors.{names_in, tensors_in, number_of}
 use Rattle.expr_reader.proofs.Lists.{after}

@@ -2,8 +2,8 @@ use Rattle.std.proofs.Common.{subst, ◌≡◌, ◌+◌, ◌-◌, length, drop, 
 use Rattle.std.proofs.lemmas.List.{take_all, length-drop}
 use Rattle.std.proofs.lemmas.Result.{err_from_is_err_and}
 use Rattle.serde_json.specs.View.{items_view}
-use Rattle.tensor_terms.specs.Term as term
-use Rattle.tensor_terms.specs.Tree.{term_of}
+use Rattle.tensor_ops.specs.Term as term
+use Rattle.tensor_ops.specs.Tree.{term_of}
 use Rattle.expr_reader.specs.Node.{made, checked}
 use Rattle.expr_reader.specs.Version.{profile_under, operation_under, forms_of, unary_of}
 use Rattle.expr_reader.specs.Version.{forms_of_two, binary_of}

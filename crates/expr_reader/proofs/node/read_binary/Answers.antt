@@ -1,7 +1,7 @@
 use Rattle.std.proofs.Common.{refl, length}
 use Rattle.serde_json.specs.View.{items_view}
-use Rattle.tensor_terms.specs.Term.{binary}
-use Rattle.tensor_terms.specs.Tree.{term_of}
+use Rattle.tensor_ops.specs.Term.{binary}
+use Rattle.tensor_ops.specs.Tree.{term_of}
 use Rattle.expr_reader.specs.Arguments.{arguments_in}
 use Rattle.expr_reader.specs.Version.{forms_of_two, binary_of}
 use Rattle.expr_reader.proofs.Walk.{made-found, made-binary}

@@ -4,7 +4,7 @@ use Rattle.tensor_shape.specs.Wrap.{wrap}
 use Rattle.tensor_kernels.specs.Cells.{first_cells, second_cells}
 use Rattle.tensor_kernels.specs.Chunks.{before}
 use Rattle.tensor_kernels.specs.Panels.{rows_product}
-use Rattle.tensor_kernels.specs.Values.{value_in}
+use Rattle.tensor_values.specs.Values.{value_in}
 use Rattle.tensor_kernels.proofs.tiling.put_chunk.Given as goal
 
 abbrev pub invariant-loop-s : goal.invariant-loop-s

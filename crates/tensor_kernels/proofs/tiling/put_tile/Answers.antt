@@ -3,7 +3,7 @@ use Rattle.std.proofs.Common.{length-set}
 use Rattle.std.proofs.lemmas.Int.{to_z-of_z}
 use Rattle.tensor_shape.specs.Wrap.{wrap}
 use Rattle.tensor_kernels.specs.Chunks.{before}
-use Rattle.tensor_kernels.specs.Values.{value_in}
+use Rattle.tensor_values.specs.Values.{value_in}
 use Rattle.tensor_kernels.proofs.ListWrites.{stored}
 use Rattle.tensor_kernels.proofs.TilePlaces.{tile_place, tile_place-at}
 use Rattle.tensor_kernels.proofs.TilePlaces.{are_written-set, are_written-skip}

@@ -2,7 +2,7 @@
 use Rattle.std.proofs.Common.{◌≡◌, ◌+◌, ◌-◌, ◌*◌, ◌≤◌, ◌++◌, map}
 use Rattle.std.specs.List.{range_with_len}
 use Rattle.tensor_ops.specs.Meaning.{meaning, depth_of}
-use Rattle.tensor_walks.specs.Splicing.{spliced}
+use Rattle.tensor_values.specs.Splicing.{spliced}
 use Rattle.tensor_ops.proofs.placed.+add_values.Given as goal
 
 abbrev pub decreases-add_values : goal.decreases-add_values

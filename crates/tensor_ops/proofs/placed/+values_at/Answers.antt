@@ -12,11 +12,11 @@ use Rattle.tensor_walks.specs.Chain.{chained}
 use Rattle.tensor_walks.specs.Loops.{either_way, selected}
 use Rattle.tensor_ops.specs.Meaning.{meaning, count_of, depth_of}
 use Rattle.tensor_walks.specs.Places.{places_of}
-use Rattle.tensor_walks.specs.Scalars.{applied}
-use Rattle.tensor_walks.specs.Splicing.{firsts_before, seconds_before, spliced}
+use Rattle.tensor_values.specs.Scalars.{applied}
+use Rattle.tensor_values.specs.Splicing.{firsts_before, seconds_before, spliced}
 use Rattle.tensor_walks.specs.Walk.{reached, walk_size, place_in}
-use Rattle.tensor_walks.proofs.InTurns.{firsts-run, seconds-run, first_places-below, second_places-below, map-first_alone, map-second_alone}
-use Rattle.tensor_kernels.proofs.Runs.{places-applied, places-paired, places-selected, places-moved, map-constant}
+use Rattle.tensor_values.proofs.InTurns.{firsts-run, seconds-run, first_places-below, second_places-below, map-first_alone, map-second_alone}
+use Rattle.tensor_values.proofs.Runs.{places-applied, places-paired, places-selected, places-moved, map-constant}
 use Rattle.tensor_walks.proofs.Soundness.{reached-within}
 use Rattle.tensor_ops.proofs.placed.+values_at.Goals as goal
 

@@ -3,7 +3,7 @@ use Rattle.std.specs.Int.{w64}
 use Rattle.std.proofs.lemmas.Int.{to_z-of_z}
 use Rattle.std.proofs.lemmas.List.Sums.{fold_more}
 use mir.Val.{SFits, to_z, of_z}
-use Rattle.tensor_walks.specs.Combining.{combine, unit}
+use Rattle.tensor_ops.specs.Combining.{combine, unit}
 use Rattle.tensor_reduce.proofs.combined.combination.Goals as goal
 
 pub loop-part-preserved : goal.loop-part-preserved

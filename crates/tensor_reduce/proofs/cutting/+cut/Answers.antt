@@ -1,5 +1,5 @@
 use Rattle.std.proofs.Common.{Ok, ap, sym, ◌∙◌, arith}
-use Rattle.tensor_terms.specs.Tree.{term_of, unary_at, binary_at, ternary_at}
+use Rattle.tensor_ops.specs.Tree.{term_of, unary_at, binary_at, ternary_at}
 use Rattle.tensor_reduce.proofs.Cuts.{cut-unary, cut-binary, cut-ternary, IfOk-then}
 use Rattle.tensor_reduce.proofs.Operands.{operand-unary, operands-binary, operands-ternary}
 use Rattle.tensor_reduce.proofs.Operands.{dims-unary, dims-binary, dims-ternary}

@@ -1,5 +1,5 @@
 use Rattle.std.proofs.Common.{refl, ap, sym, ◌∙◌, Ok}
-use Rattle.tensor_terms.specs.Tree.{term_of}
+use Rattle.tensor_ops.specs.Tree.{term_of}
 use Rattle.tensor_reduce.proofs.LeftSteps.{way-both, names-both, dims-both}
 use Rattle.tensor_reduce.proofs.LeftSteps.{IsReadThrough-both}
 use Rattle.tensor_reduce.proofs.read_through.read_both.Goals as goal

@@ -1,5 +1,5 @@
 use Rattle.std.proofs.Common.{ap, sym, ◌∙◌, Ok}
-use Rattle.tensor_terms.specs.Tree.{term_of}
+use Rattle.tensor_ops.specs.Tree.{term_of}
 use Rattle.tensor_reduce.proofs.LeftSteps.{way-one, names-one, dims-one}
 use Rattle.tensor_reduce.proofs.LeftSteps.{IsReadThrough-one}
 use Rattle.tensor_reduce.proofs.read_through.read_one.Goals as goal

@@ -1,5 +1,5 @@
-use Rattle.tensor_terms.specs.Term.{nodes_of}
-use Rattle.tensor_terms.specs.Tree.{term_of}
+use Rattle.tensor_ops.specs.Term.{nodes_of}
+use Rattle.tensor_ops.specs.Tree.{term_of}
 use Rattle.tensor_reduce.proofs.reading.+reads.Given as goal
 
 abbrev pub decreases-reads : goal.decreases-reads

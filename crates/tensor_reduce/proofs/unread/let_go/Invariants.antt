@@ -1,6 +1,6 @@
 -- What the steps left read is held as before.
 use Rattle.std.proofs.Common.{◌≡◌, ◌++◌, List, length, vec_capacity}
-use Rattle.tensor_terms.specs.Contents.{Contents}
+use Rattle.tensor_ops.specs.Contents.{Contents}
 use Rattle.tensor_reduce.specs.Reading.{AreHeld}
 use Rattle.tensor_reduce.proofs.unread.let_go.Given as goal
 

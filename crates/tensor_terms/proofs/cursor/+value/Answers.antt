@@ -10,7 +10,7 @@ use Rattle.tensor_shape.specs.Legal.{highest_rank}
 use Rattle.tensor_shape.specs.Index.{size_of, place, index_of}
 use Rattle.tensor_terms.specs.Concatenation.{concatenated_dims}
 use Rattle.tensor_terms.specs.Padding.{padded_dims, is_inside, moved_back}
-use Rattle.tensor_walks.specs.Splicing.{is_of_first}
+use Rattle.tensor_values.specs.Splicing.{is_of_first}
 use Rattle.tensor_shape.specs.Wrap.{wrap}
 use Rattle.tensor_terms.specs.Result.{dims_of, shape_of}
 use Rattle.tensor_terms.specs.Term.{Term, unary, binary, Movement, movement, pad, concat}
@@ -22,7 +22,7 @@ use Rattle.tensor_terms.proofs.ConvolvedTerms.{convolved-known, SlidOver, slid-o
 use Rattle.tensor_terms.proofs.ConvolvedTerms.{slid-next, slid-last}
 use Rattle.tensor_terms.proofs.Dropped.{other_dims-among}
 use Rattle.tensor_terms.proofs.OtherAxes.{are_axes-among}
-use Rattle.tensor_walks.proofs.InTurns.{spliced-first, spliced-second}
+use Rattle.tensor_values.proofs.InTurns.{spliced-first, spliced-second}
 use Rattle.tensor_terms.proofs.SplicedTerms.{concat-dims, places-concat, value_of_place-concat, value_of_place-pad}
 use Rattle.tensor_terms.proofs.Shapes.{with_two-known, place_read, value_of_place-input, value_of_place-movement}
 use Rattle.tensor_terms.proofs.Terms.{reduced-known, ReducedOver, reduced-init, reduced-next}

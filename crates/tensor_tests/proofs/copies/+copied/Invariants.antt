@@ -1,5 +1,5 @@
-use Rattle.tensor_terms.specs.Term.{nodes_of}
-use Rattle.tensor_terms.specs.Tree.{term_of}
+use Rattle.tensor_ops.specs.Term.{nodes_of}
+use Rattle.tensor_ops.specs.Tree.{term_of}
 use Rattle.tensor_tests.proofs.copies.+copied.Given as goal
 
 abbrev pub decreases-copied : goal.decreases-copied

@@ -6,9 +6,9 @@ use Rattle.std.specs.Int.{w64}
 use Rattle.std.specs.List.{between, range_with_len}
 use mir.Val.{SFits}
 use Rattle.tensor_walks.specs.Folds.{folded, run_folded}
-use Rattle.tensor_kernels.specs.Values.{value_in}
+use Rattle.tensor_values.specs.Values.{value_in}
 use Rattle.tensor_walks.proofs.RunValues.{run-between}
-use Rattle.tensor_kernels.proofs.Runs.{run-more}
+use Rattle.tensor_values.proofs.Runs.{run-more}
 use Rattle.tensor_walks.proofs.folds.add_each.Goals as goal
 
 pub loop-index-preserved : goal.loop-index-preserved

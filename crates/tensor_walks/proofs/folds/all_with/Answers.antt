@@ -2,8 +2,8 @@ use Rattle.std.proofs.Common.{◌≡◌, ℕ, ℤ, rules, refl, ap, sym, ◌∙�
 use Rattle.std.proofs.lemmas.Int.{to_z-of_z}
 use Rattle.std.specs.Int.{w64}
 use mir.Val.{SFits, to_z, of_z}
-use Rattle.tensor_kernels.specs.Values.{value_in}
-use Rattle.tensor_walks.specs.Combining.{combine}
+use Rattle.tensor_values.specs.Values.{value_in}
+use Rattle.tensor_values.specs.Combining.{combine}
 use Rattle.tensor_walks.proofs.Folding.{folded-more}
 use Rattle.tensor_walks.proofs.folds.all_with.Goals as goal
 

@@ -2,8 +2,8 @@ use Rattle.std.proofs.Common.{◌≡◌, ℕ, ℤ, pos, ◌+◌, ◌*◌, length
 use Rattle.std.proofs.lemmas.List.Edits.{get_or-between}
 use Rattle.std.specs.List.{between}
 use Rattle.tensor_walks.specs.Folds.{folded}
-use Rattle.tensor_kernels.specs.Values.{value_in}
-use Rattle.tensor_walks.specs.Combining.{combine}
+use Rattle.tensor_values.specs.Values.{value_in}
+use Rattle.tensor_values.specs.Combining.{combine}
 use Rattle.tensor_walks.proofs.Folding.{folded-more}
 use Rattle.tensor_walks.proofs.folds.combine_by_row.Goals as goal
 

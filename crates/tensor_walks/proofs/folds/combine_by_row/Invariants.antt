@@ -1,7 +1,7 @@
 -- The first t rows, combined.
 use Rattle.std.proofs.Common.{◌+◌, ◌*◌}
 use Rattle.tensor_walks.specs.Folds.{IsCombined}
-use Rattle.tensor_kernels.specs.Values.{value_in}
+use Rattle.tensor_values.specs.Values.{value_in}
 use Rattle.tensor_walks.proofs.folds.combine_by_row.Given as goal
 
 abbrev pub invariant-loop-t : goal.invariant-loop-t

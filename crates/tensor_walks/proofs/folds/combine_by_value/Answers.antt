@@ -4,8 +4,8 @@ use Rattle.std.proofs.lemmas.List.{length-set, get_or-set_other}
 use Rattle.std.specs.Int.{w64}
 use mir.Val.{SFits, to_z, of_z}
 use Rattle.tensor_walks.specs.Folds.{folded}
-use Rattle.tensor_kernels.specs.Values.{value_in}
-use Rattle.tensor_kernels.proofs.Runs.{each-more}
+use Rattle.tensor_values.specs.Values.{value_in}
+use Rattle.tensor_values.proofs.Runs.{each-more}
 use Rattle.tensor_walks.proofs.folds.combine_by_value.Goals as goal
 
 pub folded-requires-clause-inside : goal.folded-requires-clause-inside

@@ -1,7 +1,7 @@
 -- The values below the counter are combined, and the others are as they were.
 use Rattle.std.proofs.Common.{◌≡◌, ℕ, ◌<◌, ◌≤◌, length}
-use Rattle.tensor_kernels.specs.Values.{value_in}
-use Rattle.tensor_walks.specs.Combining.{combine}
+use Rattle.tensor_values.specs.Values.{value_in}
+use Rattle.tensor_values.specs.Combining.{combine}
 use Rattle.tensor_walks.proofs.folds.combine_row.Given as goal
 
 abbrev pub invariant-loop-i : goal.invariant-loop-i

@@ -1,7 +1,7 @@
 use Rattle.std.proofs.Common.{◌≡◌, ℕ, ℤ, ◌+◌, ◌*◌, ◌<◌, length, get_or, ap, sym, ◌∙◌, arith}
 use Rattle.std.proofs.lemmas.Nat.{mul-add-lt}
 use Rattle.tensor_walks.specs.Folds.{folded, offset_at}
-use Rattle.tensor_kernels.specs.Values.{value_in}
+use Rattle.tensor_values.specs.Values.{value_in}
 use Rattle.tensor_walks.proofs.Folding.{folded-ext, folded-append, offset_at-run}
 use Rattle.tensor_walks.proofs.folds.combine_runs.Goals as goal
 

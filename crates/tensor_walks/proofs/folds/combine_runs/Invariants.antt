@@ -1,7 +1,7 @@
 -- The runs so far, combined.
 use Rattle.std.proofs.Common.{◌+◌, ◌*◌}
 use Rattle.tensor_walks.specs.Folds.{IsCombined, offset_at}
-use Rattle.tensor_kernels.specs.Values.{value_in}
+use Rattle.tensor_values.specs.Values.{value_in}
 use Rattle.tensor_walks.proofs.folds.combine_runs.Given as goal
 
 abbrev pub invariant-loop-offset : goal.invariant-loop-offset

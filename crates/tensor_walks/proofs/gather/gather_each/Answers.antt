@@ -2,9 +2,9 @@ use Rattle.std.proofs.Common.{◌+◌, ◌*◌, rules, arith}
 use Rattle.std.proofs.lemmas.Int.{to_z-of_z}
 use Rattle.std.specs.Int.{w64}
 use mir.Val.{SFits}
-use Rattle.tensor_kernels.specs.Values.{value_in}
+use Rattle.tensor_values.specs.Values.{value_in}
 use Rattle.tensor_walks.specs.Walk.{steps_to}
-use Rattle.tensor_kernels.proofs.Runs.{run-more}
+use Rattle.tensor_values.proofs.Runs.{run-more}
 use Rattle.tensor_walks.proofs.gather.gather_each.Goals as goal
 
 pub loop-index-preserved : goal.loop-index-preserved

@@ -1,7 +1,7 @@
 -- The values of the row so far, and the room.
 use Rattle.std.proofs.Common.{◌≡◌, ◌+◌, ◌-◌, ◌*◌, ◌++◌, map, vec_len, vec_capacity}
 use Rattle.std.specs.List.{range_with_len}
-use Rattle.tensor_kernels.specs.Values.{value_in}
+use Rattle.tensor_values.specs.Values.{value_in}
 use Rattle.tensor_walks.specs.Walk.{steps_to}
 use Rattle.tensor_walks.proofs.gather.gather_each.Given as goal
 

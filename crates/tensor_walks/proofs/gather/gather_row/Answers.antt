@@ -1,9 +1,9 @@
 use Rattle.std.proofs.Common.{◌≡◌, ◌+◌, ◌-◌, ◌*◌, map, take, drop, false, ap, ◌∙◌, arith}
 use Rattle.std.specs.List.{range_with_len}
 use Rattle.std.proofs.lemmas.Bool.{not-true}
-use Rattle.tensor_kernels.specs.Values.{value_in}
+use Rattle.tensor_values.specs.Values.{value_in}
 use Rattle.tensor_walks.specs.Walk.{steps_to}
-use Rattle.tensor_kernels.proofs.Runs.{map-shifted, part-read, ok-appended}
+use Rattle.tensor_values.proofs.Runs.{map-shifted, part-read, ok-appended}
 use Rattle.tensor_walks.proofs.gather.gather_row.Goals as goal
 
 -- a row without gaps is a part of the values

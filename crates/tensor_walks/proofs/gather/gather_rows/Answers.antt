@@ -1,7 +1,7 @@
 use Rattle.std.proofs.Common.{◌+◌, ◌-◌, ◌*◌, ◌/◌, length, get_or, ap, sym, arith}
-use Rattle.tensor_kernels.specs.Values.{value_in}
+use Rattle.tensor_values.specs.Values.{value_in}
 use Rattle.tensor_walks.specs.Walk.{along, steps_to}
-use Rattle.tensor_kernels.proofs.Runs.{row-more}
+use Rattle.tensor_values.proofs.Runs.{row-more}
 use Rattle.tensor_walks.proofs.Walks.{along-row, mul-next, run-ended}
 use Rattle.tensor_walks.proofs.gather.gather_rows.Goals as goal
 

@@ -2,7 +2,7 @@ use Rattle.std.proofs.Common.{slice_index, refl, rules, ◌∙◌, arith}
 use Rattle.std.proofs.lemmas.Int.{to_z-of_z}
 use Rattle.std.specs.Int.{w64}
 use mir.Val.{SFits}
-use Rattle.tensor_kernels.specs.Values.{value_in}
+use Rattle.tensor_values.specs.Values.{value_in}
 use Rattle.tensor_walks.proofs.Mapped.{mapped-more, mapped-length}
 use Rattle.tensor_walks.proofs.gather.gathered.Goals as goal
 

@@ -1,8 +1,8 @@
 use Rattle.std.proofs.Common.{◌+◌, ◌-◌, ◌++◌, map, ap, ◌∙◌, arith}
 use Rattle.std.specs.List.{range_with_len}
-use Rattle.tensor_kernels.specs.Values.{value_in}
+use Rattle.tensor_values.specs.Values.{value_in}
 use Rattle.tensor_walks.specs.Walk.{along, reached}
-use Rattle.tensor_kernels.proofs.Runs.{map-shifted}
+use Rattle.tensor_values.proofs.Runs.{map-shifted}
 use Rattle.tensor_walks.proofs.gather.gathered_along.Goals as goal
 
 pub returns : goal.returns

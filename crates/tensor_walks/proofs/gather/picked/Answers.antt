@@ -1,5 +1,5 @@
 use Rattle.std.proofs.Common.{◌-◌, arith}
-use Rattle.tensor_kernels.proofs.Runs.{part-read}
+use Rattle.tensor_values.proofs.Runs.{part-read}
 use Rattle.tensor_walks.proofs.gather.picked.Goals as goal
 
 pub returns-in-Run : goal.returns-in-Run

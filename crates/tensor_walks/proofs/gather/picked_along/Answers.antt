@@ -1,8 +1,8 @@
 use Rattle.std.proofs.Common.{◌≡◌, ◌∙◌, map, IfOk, ap, subst, length}
-use Rattle.tensor_kernels.specs.Values.{value_in}
+use Rattle.tensor_values.specs.Values.{value_in}
 use Rattle.tensor_walks.specs.Walk.{reached, walk_size}
-use Rattle.tensor_walks.specs.declared.places.Places.TheVariants.{Listed}
-use Rattle.tensor_kernels.proofs.Runs.{map-map-of}
+use Rattle.tensor_walks.specs.declared.walk.places.Places.TheVariants.{Listed}
+use Rattle.tensor_values.proofs.Runs.{map-map-of}
 use Rattle.tensor_walks.proofs.Soundness.{reached-within}
 use Rattle.tensor_walks.proofs.gather.picked_along.Goals as goal
 

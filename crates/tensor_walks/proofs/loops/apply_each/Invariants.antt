@@ -1,6 +1,6 @@
 -- The places below the counter have their values, and the others are as they were.
 use Rattle.std.proofs.Common.{◌≡◌, ℕ, ◌<◌, ◌≤◌, pos, length, slice_index_or}
-use Rattle.tensor_walks.specs.Scalars.{applied}
+use Rattle.tensor_values.specs.Scalars.{applied}
 use Rattle.tensor_walks.proofs.loops.apply_each.Given as goal
 
 abbrev pub invariant-loop-place : goal.invariant-loop-place

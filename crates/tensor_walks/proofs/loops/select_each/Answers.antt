@@ -4,7 +4,7 @@ use Rattle.std.proofs.lemmas.List.{length-set, get_or-set_other, get_or_default}
 use Rattle.std.specs.Int.{w64}
 use mir.Val.{SFits, to_z, of_z}
 use Rattle.tensor_walks.specs.Loops.{selected}
-use Rattle.tensor_kernels.proofs.Runs.{each-more}
+use Rattle.tensor_values.proofs.Runs.{each-more}
 use Rattle.tensor_walks.proofs.loops.select_each.Goals as goal
 
 pub loop-place-preserved : goal.loop-place-preserved

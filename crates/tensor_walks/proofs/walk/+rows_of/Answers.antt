@@ -4,7 +4,7 @@ use Rattle.std.specs.List.{range_with_len}
 use Rattle.std.proofs.lemmas.Result.{IfOk-weaker}
 use Rattle.std.proofs.lemmas.List.FromFn.{length-map-range_with_len}
 use Rattle.tensor_walks.specs.Walk.{along, reached, walk_size}
-use Rattle.tensor_kernels.proofs.Runs.{map-shifted}
+use Rattle.tensor_values.proofs.Runs.{map-shifted}
 use Rattle.tensor_walks.proofs.Walks.{alone-size, alone-reached, row-within, slower-below, rows-order, rows-within, rows-cover, laid-along}
 use Rattle.tensor_walks.proofs.walk.+rows_of.Goals as goal
 

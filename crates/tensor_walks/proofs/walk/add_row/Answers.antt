@@ -1,6 +1,6 @@
 use Rattle.std.proofs.Common.{◌+◌, ◌*◌, arith}
 use Rattle.tensor_walks.specs.Walk.{steps_to}
-use Rattle.tensor_kernels.proofs.Runs.{run-more}
+use Rattle.tensor_values.proofs.Runs.{run-more}
 use Rattle.tensor_walks.proofs.walk.add_row.Goals as goal
 
 pub loop-index-preserved : goal.loop-index-preserved

@@ -1,6 +1,6 @@
 use Rattle.std.proofs.Common.{◌+◌, ◌-◌, ◌*◌, ◌/◌, length, get_or, sym, arith}
 use Rattle.tensor_walks.specs.Walk.{along, steps_to}
-use Rattle.tensor_kernels.proofs.Runs.{row-more}
+use Rattle.tensor_values.proofs.Runs.{row-more}
 use Rattle.tensor_walks.proofs.Walks.{along-row, mul-next, run-ended}
 use Rattle.tensor_walks.proofs.walk.add_rows.Goals as goal
 

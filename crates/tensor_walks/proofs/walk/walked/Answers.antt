@@ -1,6 +1,6 @@
 use Rattle.std.proofs.Common.{◌≡◌, ◌+◌, ◌-◌, IfOk, ap, subst, ◌∙◌, arith}
 use Rattle.tensor_walks.specs.Walk.{along, reached}
-use Rattle.tensor_kernels.proofs.Runs.{map-shifted}
+use Rattle.tensor_values.proofs.Runs.{map-shifted}
 use Rattle.tensor_walks.proofs.walk.walked.Goals as goal
 
 pub returns : goal.returns

@@ -3,7 +3,7 @@ use Rattle.std.proofs.Common.{length-append}
 use Rattle.std.proofs.lemmas.List.{get_or_append_left}
 use Rattle.std.specs.List.{range_with_len}
 use Rattle.tensor_kernels.specs.Contracting.{contraction_value}
-use Rattle.tensor_kernels.proofs.Runs.{part-read, map-shifted}
+use Rattle.tensor_values.proofs.Runs.{part-read, map-shifted}
 use Rattle.tensor_kernels.proofs.contraction.Contraction.values.Goals as goal
 
 pub returns : goal.returns

@@ -1,7 +1,7 @@
 -- The values before the place.
 use Rattle.std.proofs.Common.{◌≡◌, ℕ, ◌+◌, ◌-◌, ◌<◌, ◌≤◌, length}
 use Rattle.tensor_kernels.specs.Dots.{dots_value}
-use Rattle.tensor_kernels.specs.Values.{value_in}
+use Rattle.tensor_values.specs.Values.{value_in}
 use Rattle.tensor_kernels.proofs.dots.Dots.fill.Given as goal
 
 abbrev pub invariant-loop-place : goal.invariant-loop-place

@@ -1,6 +1,6 @@
 -- The values before the place.
 use Rattle.std.proofs.Common.{◌≡◌, ℕ, ◌+◌, ◌-◌, ◌<◌, ◌≤◌, length}
-use Rattle.tensor_kernels.specs.Values.{value_in}
+use Rattle.tensor_values.specs.Values.{value_in}
 use Rattle.tensor_kernels.specs.Tiling.{tiled_value}
 use Rattle.tensor_kernels.proofs.tiling.Tiled.fill.Given as goal
 

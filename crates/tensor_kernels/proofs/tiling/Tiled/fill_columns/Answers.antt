@@ -8,7 +8,7 @@ use Rattle.std.specs.Cow.{cow_slice_items}
 use Rattle.tensor_kernels.specs.Cells.{first_cells, second_cells}
 use Rattle.tensor_kernels.specs.Chunks.{before, chunk, chunk_start}
 use Rattle.tensor_kernels.specs.Panels.{AreCells, AreInside, rows_product}
-use Rattle.tensor_kernels.specs.Values.{value_in}
+use Rattle.tensor_values.specs.Values.{value_in}
 use Rattle.tensor_kernels.specs.Products.{sum_to}
 use Rattle.tensor_kernels.specs.Rows.{row_count, row_length, row_value}
 use Rattle.tensor_kernels.specs.declared.rows.Rows.{Rows}

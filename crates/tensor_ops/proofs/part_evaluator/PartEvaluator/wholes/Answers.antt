@@ -3,7 +3,7 @@ use Rattle.std.specs.List.{range_with_len}
 use Rattle.tensor_ops.specs.InRuns.{run_part, run_whole}
 use Rattle.tensor_ops.specs.PartEvaluator.{term_in_parts, inputs_in_parts}
 use Rattle.tensor_ops.specs.Parts.{inner_size, whole_value}
-use Rattle.tensor_kernels.proofs.Runs.{map-shifted}
+use Rattle.tensor_values.proofs.Runs.{map-shifted}
 use Rattle.tensor_ops.proofs.part_evaluator.PartEvaluator.wholes.Goals as goal
 
 pub returns : goal.returns

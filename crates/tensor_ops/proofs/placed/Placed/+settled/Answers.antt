@@ -4,9 +4,9 @@ use Rattle.tensor_shape.specs.Legal.{most_elements}
 use Rattle.tensor_walks.specs.Joining.{IsJoint}
 use Rattle.tensor_ops.specs.Meaning.{meaning, count_of, depth_of}
 use Rattle.tensor_ops.specs.Settling.{Follows, meaning_along}
-use Rattle.tensor_walks.specs.Splicing.{spliced, HaveTurns}
+use Rattle.tensor_values.specs.Splicing.{spliced, HaveTurns}
 use Rattle.tensor_walks.specs.Walk.{walk_size, reached}
-use Rattle.tensor_walks.proofs.InTurns.{turns-some}
+use Rattle.tensor_values.proofs.InTurns.{turns-some}
 use Rattle.tensor_ops.proofs.Settled.{joined-takes, some-below, follows-spliced, follows-along}
 use Rattle.tensor_ops.proofs.Settled.{CanSettle, CanLead, settle-beside, lead-beside, settle-walked, lead-joined}
 use Rattle.tensor_ops.proofs.Settled.{follows-same, follows-beside, follows-joined}

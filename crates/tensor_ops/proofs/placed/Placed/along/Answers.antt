@@ -1,6 +1,6 @@
 use Rattle.std.proofs.Common.{length, refl}
 use Rattle.std.specs.Cow.{cow_slice_items}
-use Rattle.tensor_kernels.specs.Values.{value_in}
+use Rattle.tensor_values.specs.Values.{value_in}
 use Rattle.tensor_ops.specs.declared.placed.Placed.TheVariants.{Lent, Kept}
 use Rattle.tensor_ops.proofs.Settled.{values-along, values-followed}
 use Rattle.tensor_ops.proofs.placed.Placed.along.Goals as goal

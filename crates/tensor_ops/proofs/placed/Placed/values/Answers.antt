@@ -1,7 +1,7 @@
 use Rattle.std.proofs.Common.{map, ap, arith}
 use Rattle.std.specs.List.{range_with_len}
 use Rattle.tensor_ops.specs.Meaning.{meaning}
-use Rattle.tensor_kernels.proofs.Runs.{chunk-more}
+use Rattle.tensor_values.proofs.Runs.{chunk-more}
 use Rattle.tensor_ops.proofs.placed.Placed.values.Goals as goal
 
 pub loop-from-preserved : goal.loop-from-preserved

@@ -1,10 +1,10 @@
 use Rattle.std.proofs.Common.{ℕ, ◌≤◌, List, subst, sym, IsOk}
-use Rattle.tensor_terms.specs.Contents.{Contents}
+use Rattle.tensor_ops.specs.Contents.{Contents}
 use Rattle.tensor_ops.specs.Legal.{highest_rank}
-use Rattle.tensor_terms.specs.Result.{dims_of}
-use Rattle.tensor_terms.specs.Term.{Term}
-use Rattle.tensor_terms.specs.Tree.{term_of}
-use Rattle.tensor_terms.proofs.Ranks.{dims_of-wider}
+use Rattle.tensor_ops.specs.Result.{dims_of}
+use Rattle.tensor_ops.specs.Term.{Term}
+use Rattle.tensor_ops.specs.Tree.{term_of}
+use Rattle.tensor_ops.proofs.Ranks.{dims_of-wider}
 use Rattle.tensor_reduce.proofs.Planned.{length-steps_of, AreReady-steps_of}
 use Rattle.tensor_reduce.proofs.Planned.{worked_out-steps_of, last_tensor-steps_of}
 use Rattle.tensor_reduce.proofs.plan.Plan.of.Goals as goal

@@ -1,0 +1,21 @@
+use Rattle.std.proofs.Common.{◌≡◌, ◌+◌, ◌*◌, ◌/◌, ◌%◌, ◌<◌, ◌∙◌, length, length-set, arith}
+use Rattle.tensor_shape.specs.Wrap.{wrap}
+use Rattle.tensor_values.specs.Values.{value_in}
+use Rattle.tensor_kernels.specs.Products.{list_product}
+use Rattle.tensor_kernels.proofs.ListWrites.{stored, set-next}
+use Rattle.tensor_kernels.proofs.dots.wide_eight.wide_eight.Goals as goal
+
+pub loop-t-preserved : goal.loop-t-preserved
+loop-t-preserved c =
+    let t = c.loop-t.t in
+    let s = t % 4 * 2 + t / 4 in
+    let few : s < 8 = omega arith in
+    let row : s % 2 * 4 + s / 2 ≡ t = omega arith in
+    let is = rw row at (c.dealt_eight-dealt.ensures s few) in (
+      simp length-set (c.loop-t.invariant.0),
+      set-next
+          (λ k. wrap (list_product c.args.a.now (c.args.x + k) c.args.offsets.now c.args.b.now
+          c.args.y c.args.others.now (length c.args.offsets.now)))
+          c.loop-t.sums t _ (omega arith) c.loop-t.invariant.1
+          (stored (value_in c.dealt_eight-dealt.result s) _ is ∙ is),
+    )

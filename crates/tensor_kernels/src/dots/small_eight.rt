@@ -1,0 +1,81 @@
+//! Sums of the products of eight rows that begin side by side and one row, all of numbers that fit
+//! 32 bits: two products an instruction.
+
+ghost use Rattle.std.specs.Prelude.{◌≡◌, ℕ, ◌+◌, ◌-◌, ◌<◌, ◌≤◌, length, slice_index};
+ghost use Rattle.tensor_shape.specs.Wrap.{wrap};
+ghost use Rattle.tensor_kernels.specs.Panels.{AreLanes, AreSmall};
+ghost use Rattle.tensor_values.specs.Values.{value_in};
+ghost use Rattle.tensor_kernels.specs.Products.{list_product};
+
+use crate::tiling::small::add_column;
+use std::simd::prelude::*;
+
+/// The four values from place i on. By way of 32 bits, so that their products are of such numbers.
+#[inline(always)]
+pub(crate) fn four_from(a: &[i64], i: usize) -> i64x4
+    requires small { AreSmall a.now }
+    requires inside { i + 4 ≤ length a.now }
+    ensures lanes { AreLanes result }
+    ensures each { (r : ℕ) → r < 4 → value_in result r ≡ value_in a.now (i + r) }
+{
+    let four = i64x4::from_array([a[i], a[i + 1], a[i + 2], a[i + 3]]);
+    four.cast::<i32>().cast::<i64>()
+}
+
+/// The value at place i, in all lanes.
+#[inline(always)]
+pub(crate) fn spread_from(b: &[i64], i: usize) -> i64x4
+    requires small { AreSmall b.now }
+    requires inside { i < length b.now }
+    ensures lanes { AreLanes result }
+    ensures each { (r : ℕ) → r < 4 → value_in result r ≡ value_in b.now i }
+{
+    i64x4::splat(b[i]).cast::<i32>().cast::<i64>()
+}
+
+/// The sums of the products of the eight rows of a from x on and the row of b at y.
+#[inline(never)]
+pub(crate) fn small_eight(
+    a: &[i64],
+    x: usize,
+    offsets: &[usize],
+    b: &[i64],
+    y: usize,
+    others: &[usize],
+) -> [i64; 8]
+    requires small_a { AreSmall a.now }
+    requires small_b { AreSmall b.now }
+    requires lengths { length offsets.now ≡ length others.now }
+    requires a { (q : ℕ) → q < length offsets.now
+        → x + slice_index offsets.now q + 8 ≤ length a.now }
+    requires b { (q : ℕ) → q < length others.now → y + slice_index others.now q < length b.now }
+    ensures { (t : ℕ) → t < 8 → value_in result t
+        ≡ wrap (list_product a.now (x + t) offsets.now b.now y others.now (length offsets.now)) }
+{
+    let mut low = i64x4::splat(0);
+    let mut high = i64x4::splat(0);
+    for q in 0..offsets.len() {
+        let i = x + offsets[q];
+        let factor = spread_from(b, y + others[q]);
+        low = add_column(low, four_from(a, i), factor);
+        high = add_column(high, four_from(a, i + 4), factor);
+    }
+    joined(low, high)
+}
+
+/// The lanes of two vectors, one after the other.
+#[inline(always)]
+fn joined(low: i64x4, high: i64x4) -> [i64; 8]
+    requires low { AreLanes low }
+    requires high { AreLanes high }
+    ensures low { (r : ℕ) → r < 4 → value_in result r ≡ value_in low r }
+    ensures high { (r : ℕ) → r < 4 → value_in result (4 + r) ≡ value_in high r }
+{
+    let (low, high) = (low.to_array(), high.to_array());
+    let mut joined = [0i64; 8];
+    for r in 0..4 {
+        joined[r] = low[r];
+        joined[4 + r] = high[r];
+    }
+    joined
+}

@@ -1,0 +1,19 @@
+//! How operands of given dims lie in lists: the axes of walks over dims and their movements, tables
+//! of places, and what reductions, contractions and convolutions read, as rows, strips and runs.
+#![tactic(auto)]
+
+mod axes;
+mod contraction;
+mod offsets;
+mod operand;
+mod reduction;
+mod rows;
+mod slid_runs;
+mod strips;
+
+pub use axes::{moved_axes, moved_start, whole_axes};
+pub use contraction::paired_contraction;
+pub use operand::{Operand, Routed};
+pub use reduction::Reduction;
+pub use rows::one_row;
+pub use slid_runs::runs_under_kernel;

@@ -1,0 +1,106 @@
+//! An operand of a contraction as rows: a row for each index list of the axes that are kept, and
+//! in it a value for each index list of the paired ones. The kernel of a convolution is one row.
+
+ghost use Rattle.std.specs.Prelude.{◌≡◌, ◌<◌, length};
+ghost use Rattle.std.specs.Prelude.{IsTrue, IfOk};
+ghost use Rattle.std.specs.Cow.{cow_slice_items};
+ghost use Rattle.tensor_shape.specs.Index.{size_of};
+ghost use Rattle.tensor_values.specs.Values.{value_in};
+ghost use Rattle.tensor_terms.specs.Reduction.{are_axes};
+ghost use Rattle.tensor_operands.specs.Operand.{operand_at, operand_count, routed_count};
+ghost use Rattle.tensor_operands.specs.Operand.{routed_value};
+ghost use Rattle.tensor_operands.specs.OperandRows.{IsOperand};
+ghost use Rattle.tensor_kernels.specs.Rows.{row_count, row_length, row_value};
+ghost use Rattle.tensor_operands.specs.Slid.{IsOneRow};
+
+use crate::offsets::tables;
+use crate::operand::{Operand, Routed};
+use std::alloc::{AllocError, Global};
+use std::borrow::CowSlice;
+use tensor_kernels::Rows;
+use tensor_shape::Dims;
+use tensor_walks::{are_apart, lead};
+
+/// An operand of these dims, whose paired axes are these, in their order. Takes a number for
+/// each of its rows, and one for each value of a row. A list along a route is not stored once
+/// more, but where a carry along it comes between a row's start and its values.
+pub(crate) fn rows_of<'a>(
+    alloc: Global,
+    dims: &Dims,
+    operand: Operand<'a>,
+    axes: &[u64],
+) -> Result<Rows<'a>, AllocError>
+    requires axes { IsTrue (are_axes (length dims.now) axes.now) }
+    requires values { operand_count operand ≡ size_of dims.now }
+    ensures { IfOk result (λ rows.
+        IsOperand (row_count rows) (row_length rows) (row_value rows)
+        (operand_at operand.entry) dims.now axes.now) }
+{
+    match operand {
+        Operand::InOrder(values) => rows_in_order(alloc, dims, values, axes),
+        Operand::Along(routed) => rows_along(alloc, dims, routed, axes),
+    }
+}
+
+/// An operand whose values lie in order.
+fn rows_in_order<'a>(
+    alloc: Global,
+    dims: &Dims,
+    values: CowSlice<'a, i64, Global>,
+    axes: &[u64],
+) -> Result<Rows<'a>, AllocError>
+    requires axes { IsTrue (are_axes (length dims.now) axes.now) }
+    requires values { length (cow_slice_items values) ≡ size_of dims.now }
+    ensures { IfOk result (λ rows.
+        IsOperand (row_count rows) (row_length rows) (row_value rows)
+        (value_in (cow_slice_items values.entry)) dims.now axes.now) }
+{
+    let (starts, offsets) = tables(alloc, dims, axes)?;
+    Ok(Rows::new(values, starts, offsets))
+}
+
+/// An operand whose values lie in a list along a route, which both tables are led along: the
+/// offsets from no start, since each is added to a row's.
+fn rows_along<'a>(
+    alloc: Global,
+    dims: &Dims,
+    routed: Routed<'a>,
+    axes: &[u64],
+) -> Result<Rows<'a>, AllocError>
+    requires axes { IsTrue (are_axes (length dims.now) axes.now) }
+    requires values { routed_count routed ≡ size_of dims.now }
+    ensures { IfOk result (λ rows.
+        IsOperand (row_count rows) (row_length rows) (row_value rows)
+        (routed_value routed.entry) dims.now axes.now) }
+{
+    let (mut starts, mut offsets) = tables(alloc, dims, axes)?;
+    let route = &routed.route;
+    let count = dims.size() as usize;
+    if count == 0 || !are_apart(route.axes.as_slice(), 1, &starts, &offsets) {
+        let values = routed.into_list(alloc, count)?;
+        return Ok(Rows::new(values, starts, offsets));
+    }
+    lead(&mut starts, route.start, route.axes.as_slice());
+    lead(&mut offsets, 0, route.axes.as_slice());
+    Ok(Rows::new(routed.list, starts, offsets))
+}
+
+/// One row, which has all values of these dims in their order. Takes a number for each.
+pub fn one_row<'a>(
+    alloc: Global,
+    dims: &Dims,
+    values: CowSlice<'a, i64, Global>,
+) -> Result<Rows<'a>, AllocError>
+    requires { length (cow_slice_items values) ≡ size_of dims.now }
+    ensures { IfOk result (λ rows.
+        IsOneRow (row_count rows) (row_length rows) (row_value rows)
+        (cow_slice_items values.entry) (size_of dims.now)) }
+{
+    let count = dims.size() as usize;
+    let starts = vec![in alloc; 0usize]?;
+    let mut offsets = Vec::with_capacity(alloc, count)?;
+    for place in 0..count {
+        offsets.push_reserved(place);
+    }
+    Ok(Rows::new(values, starts, offsets))
+}

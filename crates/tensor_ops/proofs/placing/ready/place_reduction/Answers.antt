@@ -1,0 +1,24 @@
+use Rattle.std.proofs.Common.{◌-◌, refl, arith}
+use Rattle.tensor_terms.specs.Reduction.{reduced}
+use Rattle.tensor_operands.specs.Reduced.{places_of_result, reduction_at}
+use Rattle.tensor_ops.specs.Placing.{meaning_at}
+use Rattle.tensor_ops.specs.declared.placed.Placed.TheVariants.{Kept}
+use Rattle.tensor_ops.proofs.Worked.{values-worked, gives-worked}
+use Rattle.tensor_ops.proofs.placing.ready.place_reduction.Goals as goal
+
+pub returns-clause-placed : goal.returns-clause-placed
+returns-clause-placed c =
+    let made = c.in_ok-reduction.reduction in
+    let rs = c.in_ok-reduction.dims in
+    let values = c.in_ok-values.field-0 in
+    gives-worked (Kept values) values.items rs
+    (reduced c.args.reducer c.args.axes.now c.args.operand.dims
+    (meaning_at c.args.operand.placed c.args.operand.dims))
+    (record { count = refl; each = λ p. refl }) tt
+    (values-worked (reduction_at made) values.items (places_of_result made)
+    (c.size-count.result - 0) rs (reduced c.args.reducer c.args.axes.now c.args.operand.dims
+    (meaning_at c.args.operand.placed c.args.operand.dims))
+    c.in_ok-reduction.ensures.values c.in_ok-values.ensures (omega (
+      arith,
+      c.size-count.ensures.value,
+    )))

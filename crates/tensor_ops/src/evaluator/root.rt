@@ -1,0 +1,133 @@
+//! Expressions made ready to be evaluated by ranges of places.
+
+ghost use Rattle.std.specs.Prelude.{◌≡◌, ◌≤◌, ◌-◌, length, map, IsTrue, IsOk, IfOk};
+ghost use Rattle.std.specs.List.{range_with_len};
+ghost use Rattle.tensor_shape.specs.Legal.{highest_rank};
+ghost use Rattle.tensor_ops.specs.Placing.{Gives, HasValues};
+ghost use Rattle.tensor_terms.specs.Result.{dims_of, shape_of};
+ghost use Rattle.tensor_terms.specs.Tensors.{tensors_in};
+ghost use Rattle.tensor_terms.specs.Term.{has_inputs};
+ghost use Rattle.tensor_terms.specs.Tree.{term_of};
+ghost use Rattle.tensor_terms.specs.Value.{value};
+
+use crate::placed::Placed;
+use crate::placed::settling::settled_over;
+use crate::placing::convolution::convolution_of;
+use crate::placing::part::Part;
+use crate::placing::ready::{contraction_of, reduction_of};
+use crate::placing::{place, place_two};
+use std::alloc::{AllocError, Allocator, Global};
+use tensor_kernels::Contraction;
+use tensor_operands::Reduction;
+use tensor_shape::Dims;
+use tensor_terms::{Binary, Expr, Node, Tensors, Unary};
+
+/// How many places of operands are worked out, all together, when an expression is placed: 256 KiB
+/// of values.
+pub(crate) const KEPT: usize = 32_768;
+
+/// What the values of an expression are asked of: a reduction or a contraction where that is its
+/// last operation.
+pub(crate) enum Root<'a> {
+    Placed(Placed<'a>),
+    Reduction(Reduction<'a>),
+    Contraction(Contraction<'a>),
+}
+
+// Said once, where a derived drop is unfolded wherever one may be dropped.
+impl Drop for Root<'_> {
+    fn drop(self) {
+        match self {
+            Root::Placed(_) | Root::Reduction(_) | Root::Contraction(_) => {}
+        }
+    }
+}
+
+impl<'a> Root<'a> {
+    ghost use Rattle.tensor_ops.specs.Root.{root_value, root_count, IsSoundRoot};
+
+    /// The root of an expression, and its result dims.
+    pub(crate) fn of(
+        alloc: Global,
+        expr: &Expr,
+        tensors: Tensors<'a>,
+    ) -> Result<(Root<'a>, Dims), AllocError>
+        requires inputs { IsTrue (has_inputs (term_of expr.now) (length (tensors_in tensors))) }
+        requires dims { IsOk (dims_of highest_rank (term_of expr.now) (tensors_in tensors)) }
+        ensures sound { IfOk result (λ r. IsSoundRoot r.0) }
+        ensures values { IfOk result (λ r. HasValues (root_count r.0) (root_value r.0) r.1
+            (value (term_of expr.now) (tensors_in tensors.entry))) }
+        ensures dims { IfOk result (λ r.
+            r.1 ≡ shape_of (term_of expr.now) (tensors_in tensors.entry)) }
+    {
+        let mut room = KEPT;
+        match expr.node() {
+            Node::Unary(Unary::Reduce(reducer, axes), operand) => {
+                let operand = place(alloc, operand, tensors, &mut room)?;
+                let (reduction, dims) = reduction_of(alloc, reducer, axes, operand)?;
+                Ok((Root::Reduction(reduction), dims))
+            }
+            Node::Binary(Binary::Contract(pairs), first, second) => {
+                let (first, second) = place_two(alloc, first, second, tensors, &mut room)?;
+                let (contraction, dims) = contraction_of(alloc, pairs, first, second)?;
+                Ok((Root::Contraction(contraction), dims))
+            }
+            Node::Binary(Binary::Convolve(axes), operand, kernel) => {
+                let (operand, kernel) = place_two(alloc, operand, kernel, tensors, &mut room)?;
+                let (contraction, dims) = convolution_of(alloc, axes, operand, kernel)?;
+                Ok((Root::Contraction(contraction), dims))
+            }
+            _ => {
+                let part = place_settled(alloc, expr, tensors, &mut room)?;
+                Ok((Root::Placed(part.placed), part.dims))
+            }
+        }
+    }
+
+    /// The values at the places from the first to before the last, in order, in memory of their
+    /// own allocator.
+    pub(crate) fn values<A: Allocator>(
+        &self,
+        alloc: Global,
+        target: A,
+        first: usize,
+        last: usize,
+    ) -> Result<Vec<i64, A>, AllocError>
+        requires order { first ≤ last }
+        requires sound { IsSoundRoot self.now }
+        requires within { last ≤ root_count self.now }
+        ensures { IfOk result (λ v. v.items
+            ≡ map (root_value self.now) (range_with_len first (last - first))) }
+    {
+        match self {
+            Root::Placed(placed) => placed.values(alloc, target, first, last),
+            Root::Reduction(reduction) => reduction.values(target, first, last),
+            Root::Contraction(contraction) => contraction.values(target, first, last),
+        }
+    }
+}
+
+/// An expression, placed and settled.
+fn place_settled<'a>(
+    alloc: Global,
+    expr: &Expr,
+    tensors: Tensors<'a>,
+    room: &mut usize,
+) -> Result<Part<'a>, AllocError>
+    requires inputs { IsTrue (has_inputs (term_of expr.now) (length (tensors_in tensors))) }
+    requires dims { IsOk (dims_of highest_rank (term_of expr.now) (tensors_in tensors)) }
+    ensures placed { IfOk result (λ r.
+        Gives r.placed r.dims (value (term_of expr.now) (tensors_in tensors.entry))) }
+    ensures dims { IfOk result (λ r.
+        r.dims ≡ shape_of (term_of expr.now) (tensors_in tensors.entry)) }
+{
+    let part = place(alloc, expr, tensors, room)?;
+    let dims = part.dims;
+    let pieces = part.pieces;
+    let placed = settled_over(alloc, part.placed, &dims)?;
+    Ok(Part {
+        placed,
+        dims,
+        pieces,
+    })
+}

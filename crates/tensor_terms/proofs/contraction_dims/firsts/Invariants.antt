@@ -1,7 +1,0 @@
--- The axes of the pairs so far.
-use Rattle.std.proofs.Common.{◌≡◌, take}
-use Rattle.tensor_terms.specs.Contraction.{firsts}
-use Rattle.tensor_terms.proofs.contraction_dims.firsts.Given as goal
-
-abbrev pub invariant-loop-axis : goal.invariant-loop-axis
-invariant-loop-axis l = l.axes.items ≡ firsts (take l.axis-index l.pairs)

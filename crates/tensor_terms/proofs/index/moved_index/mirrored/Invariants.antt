@@ -1,0 +1,9 @@
+-- The indices so far and those of what is left.
+use Rattle.std.proofs.Common.{◌≡◌, ◌++◌, drop, length}
+use Rattle.tensor_terms.specs.Movement.{mirrored}
+use Rattle.tensor_terms.proofs.index.moved_index.mirrored.Given as goal
+
+abbrev pub invariant-loop-axis : goal.invariant-loop-axis
+invariant-loop-axis l =
+    (l.read.items ++ mirrored (drop l.axis l.flags) (drop l.axis l.sizes) (drop l.axis l.index) ≡ mirrored l.flags l.sizes l.index)
+    × (length l.read.items ≡ l.axis)

@@ -1,0 +1,64 @@
+//! The result dims of convolutions.
+
+ghost use Rattle.std.specs.Prelude.{◌≡◌, length, true};
+ghost use Rattle.tensor_terms.specs.Convolution.{convolved_dims, fit_along, slid_dims};
+ghost use Rattle.tensor_terms.specs.Reduction.{are_axes};
+
+use crate::dims::contraction_dims::MOST_PRODUCTS;
+use crate::dims::movement_dims::{extend, legal_dims};
+use crate::dims::reduction_dims::are_axes;
+use crate::fault::ExprFault;
+use tensor_shape::{Dims, MAX_RANK, PerAxis};
+
+/// The result dims of a convolution along axes, the second operand the kernel, or the first of its
+/// own faults.
+pub fn convolved_dims(axes: &[u64], dims: &Dims, kernel: &Dims) -> Result<Dims, ExprFault>
+    ensures { result ≡ convolved_dims axes.now dims.now kernel.now }
+{
+    if !are_axes(dims.rank() as u64, axes) {
+        return Err(ExprFault::OutOfRange);
+    }
+    if kernel.rank() != axes.len() {
+        return Err(ExprFault::ShapeMismatch);
+    }
+    if !fit_along(axes, kernel.as_slice(), dims.as_slice()) {
+        return Err(ExprFault::OutOfRange);
+    }
+    let slid = slid_dims(axes, kernel.as_slice(), dims);
+    if slid.size() * kernel.size() > MOST_PRODUCTS {
+        return Err(ExprFault::TooLarge);
+    }
+    Ok(slid)
+}
+
+/// Whether each dimension of a kernel is from 1 to that of its axis.
+fn fit_along(axes: &[u64], kernel: &[u64], sizes: &[u64]) -> bool
+    requires { are_axes (length sizes.now) axes.now ≡ true }
+    ensures { result ≡ fit_along axes.now kernel.now sizes.now }
+{
+    let [axis, axes @ ..] = axes else {
+        return true;
+    };
+    let [size, kernel @ ..] = kernel else {
+        return true;
+    };
+    (1 <= *size && *size <= sizes[*axis as usize]) && fit_along(axes, kernel, sizes)
+}
+
+/// How many places a kernel has along each of its axes, where it stays within the dims. They are
+/// legal, since no dimension grows.
+fn slid_dims(axes: &[u64], kernel: &[u64], dims: &Dims) -> Dims
+    requires axes { are_axes (length dims.now) axes.now ≡ true }
+    requires kernel { length kernel.now ≡ length axes.now }
+    requires fits { fit_along axes.now kernel.now dims.now ≡ true }
+    ensures { result ≡ slid_dims axes.now kernel.now dims.now }
+{
+    let sizes = dims.as_slice();
+    let mut slid = PerAxis::new();
+    extend(&mut slid, sizes);
+    for k in (0..axes.len()).rev() {
+        let axis = axes[k] as usize;
+        slid[axis] = sizes[axis] - kernel[k] + 1;
+    }
+    legal_dims(MAX_RANK, slid.as_slice()).unwrap()
+}

@@ -1,0 +1,254 @@
+//! The result dims of movements.
+
+ghost use Rattle.std.specs.Prelude.{◌≡◌, ◌≤◌, ◌<◌, ◌+◌, ◌++◌, ℕ, length, slice_index, remove};
+ghost use Rattle.std.specs.Prelude.{Ok, IsOk};
+ghost use Rattle.tensor_shape.specs.Legal.{highest_rank};
+ghost use Rattle.tensor_terms.specs.Movement.{moved_dims, repeated_dims, shuffled_dims, none_is_zero};
+ghost use Rattle.tensor_terms.specs.Movement.{strided_dims};
+ghost use Rattle.tensor_terms.specs.Movement.{fit_within, is_among, has_all_below};
+ghost use Rattle.tensor_terms.specs.Shaped.{legal_dims};
+ghost use Rattle.tensor_terms.specs.Term.{broadcast, slice, shuffle, reshape, chip, reverse, stride};
+ghost use Rattle.tensor_terms.specs.Tree.{movement_at};
+
+use crate::expr::node::Movement;
+use crate::fault::ExprFault;
+use tensor_shape::{Dims, MAX_RANK, PerAxis};
+
+/// The result dims of a movement of an operand of these dims, where ranks end there, or the first of
+/// its own faults.
+pub fn moved_dims(rank: usize, movement: Movement<'_>, dims: &Dims) -> Result<Dims, ExprFault>
+    requires { rank ≤ highest_rank }
+    ensures { result ≡ moved_dims rank (movement_at movement.entry) dims.now }
+{
+    match movement {
+        Movement::Broadcast(counts) => broadcast_dims(rank, counts, dims),
+        Movement::Slice(offsets, extents) => slice_dims(offsets, extents, dims),
+        Movement::Shuffle(order) => shuffle_dims(order, dims),
+        Movement::Reshape(sizes) => reshape_dims(rank, sizes, dims),
+        Movement::Chip(offset, axis) => chip_dims(offset, axis, dims),
+        Movement::Reverse(flags) => reverse_dims(flags, dims),
+        Movement::Stride(steps) => stride_dims(steps, dims),
+    }
+}
+
+fn broadcast_dims(rank: usize, counts: &[u64], dims: &Dims) -> Result<Dims, ExprFault>
+    requires { rank ≤ highest_rank }
+    ensures { result ≡ moved_dims rank (broadcast counts.now) dims.now }
+{
+    if counts.len() != dims.rank() {
+        return Err(ExprFault::ShapeMismatch);
+    }
+    if !none_is_zero(counts) {
+        return Err(ExprFault::OutOfRange);
+    }
+    repeated_dims(rank, counts, dims.as_slice())
+}
+
+fn slice_dims(offsets: &[u64], extents: &[u64], dims: &Dims) -> Result<Dims, ExprFault>
+    ensures { result ≡ moved_dims highest_rank (slice offsets.now extents.now) dims.now }
+{
+    if offsets.len() != dims.rank() || extents.len() != dims.rank() {
+        return Err(ExprFault::ShapeMismatch);
+    }
+    if !fit_within(dims.as_slice(), offsets, extents) {
+        return Err(ExprFault::OutOfRange);
+    }
+    // They are legal, since no dimension grows.
+    legal_dims(MAX_RANK, extents)
+}
+
+fn shuffle_dims(order: &[u64], dims: &Dims) -> Result<Dims, ExprFault>
+    ensures { result ≡ moved_dims highest_rank (shuffle order.now) dims.now }
+{
+    let sizes = dims.as_slice();
+    if order.len() != sizes.len() {
+        return Err(ExprFault::ShapeMismatch);
+    }
+    if !has_all_below(sizes.len() as u64, order) {
+        return Err(ExprFault::OutOfRange);
+    }
+    // They are legal, since a permutation keeps the product.
+    shuffled_dims(order, sizes)
+}
+
+fn reshape_dims(rank: usize, sizes: &[u64], dims: &Dims) -> Result<Dims, ExprFault>
+    requires { rank ≤ highest_rank }
+    ensures { result ≡ moved_dims rank (reshape sizes.now) dims.now }
+{
+    let shape = legal_dims(rank, sizes)?;
+    if shape.size() == dims.size() {
+        Ok(shape)
+    } else {
+        Err(ExprFault::ShapeMismatch)
+    }
+}
+
+fn chip_dims(offset: u64, axis: u64, dims: &Dims) -> Result<Dims, ExprFault>
+    ensures { result ≡ moved_dims highest_rank (chip offset axis) dims.now }
+{
+    let sizes = dims.as_slice();
+    if axis >= sizes.len() as u64 || offset >= sizes[axis as usize] {
+        return Err(ExprFault::OutOfRange);
+    }
+    // They are legal, since a factor goes.
+    dims_without(axis as usize, sizes)
+}
+
+fn reverse_dims(flags: &[bool], dims: &Dims) -> Result<Dims, ExprFault>
+    ensures { result ≡ moved_dims highest_rank (reverse flags.now) dims.now }
+{
+    if flags.len() == dims.rank() {
+        Ok(dims.copied())
+    } else {
+        Err(ExprFault::ShapeMismatch)
+    }
+}
+
+/// What is left of each dimension where only the multiples of its step are read.
+fn stride_dims(steps: &[u64], dims: &Dims) -> Result<Dims, ExprFault>
+    ensures { result ≡ moved_dims highest_rank (stride steps.now) dims.now }
+{
+    if steps.len() != dims.rank() {
+        return Err(ExprFault::ShapeMismatch);
+    }
+    if !none_is_zero(steps) {
+        return Err(ExprFault::OutOfRange);
+    }
+    // They are legal, since no dimension grows.
+    strided_dims(steps, dims.as_slice())
+}
+
+/// Dims of these sizes, which have to be legal where ranks end there.
+pub(crate) fn legal_dims(rank: usize, sizes: &[u64]) -> Result<Dims, ExprFault>
+    requires { rank ≤ highest_rank }
+    ensures { result ≡ legal_dims rank sizes.now }
+{
+    if sizes.len() > rank {
+        return Err(ExprFault::TooLarge);
+    }
+    match Dims::new(sizes) {
+        Ok(dims) => Ok(dims),
+        Err(_) => Err(ExprFault::TooLarge),
+    }
+}
+
+/// Each size so many times. One past 64 bits is past the limit, too.
+fn repeated_dims(rank: usize, counts: &[u64], sizes: &[u64]) -> Result<Dims, ExprFault>
+    requires rank { rank ≤ highest_rank }
+    requires same { length counts.now ≡ length sizes.now }
+    requires few { length sizes.now ≤ highest_rank }
+    ensures { result ≡ legal_dims rank (repeated_dims sizes.now counts.now) }
+{
+    let mut repeated = PerAxis::new();
+    for axis in 0..sizes.len() {
+        let Some(size) = sizes[axis].checked_mul(counts[axis]) else {
+            return Err(ExprFault::TooLarge);
+        };
+        repeated.push(size);
+    }
+    legal_dims(rank, repeated.as_slice())
+}
+
+/// Each size over its step, rounded up.
+fn strided_dims(steps: &[u64], sizes: &[u64]) -> Result<Dims, ExprFault>
+    requires same { length steps.now ≡ length sizes.now }
+    requires few { length sizes.now ≤ highest_rank }
+    requires some { (k : ℕ) → k < length steps.now → 0 < slice_index steps.now k }
+    ensures { result ≡ legal_dims highest_rank (strided_dims sizes.now steps.now) }
+{
+    let mut strided = PerAxis::new();
+    for axis in 0..sizes.len() {
+        strided.push(sizes[axis].div_ceil(steps[axis]));
+    }
+    legal_dims(MAX_RANK, strided.as_slice())
+}
+
+/// The sizes in another order.
+pub(crate) fn shuffled_dims(order: &[u64], sizes: &[u64]) -> Result<Dims, ExprFault>
+    requires few { length order.now ≤ highest_rank }
+    requires axes { (k : ℕ) → k < length order.now
+        → slice_index order.now k < length sizes.now }
+    ensures { result ≡ legal_dims highest_rank (shuffled_dims sizes.now order.now) }
+{
+    legal_dims(MAX_RANK, shuffled(order, sizes).as_slice())
+}
+
+/// Of a number for each axis those of the axes in a list.
+pub fn shuffled(order: &[u64], numbers: &[u64]) -> PerAxis
+    requires few { length order.now ≤ highest_rank }
+    requires axes { (k : ℕ) → k < length order.now
+        → slice_index order.now k < length numbers.now }
+    ensures { result.items ≡ shuffled_dims numbers.now order.now }
+{
+    let mut shuffled = PerAxis::new();
+    for axis in order {
+        shuffled.push(numbers[*axis as usize]);
+    }
+    shuffled
+}
+
+/// The sizes but that of one axis.
+fn dims_without(axis: usize, sizes: &[u64]) -> Result<Dims, ExprFault>
+    requires axis { axis < length sizes.now }
+    requires few { length sizes.now ≤ highest_rank }
+    ensures { result ≡ legal_dims highest_rank (remove sizes.now axis) }
+{
+    let mut others = PerAxis::new();
+    extend(&mut others, &sizes[..axis]);
+    extend(&mut others, &sizes[axis + 1..]);
+    legal_dims(MAX_RANK, others.as_slice())
+}
+
+/// Appends numbers.
+pub fn extend(numbers: &mut PerAxis, more: &[u64])
+    requires { length numbers.old.items + length more.now ≤ highest_rank }
+    ensures { numbers.new.items ≡ numbers.old.items ++ more.now }
+{
+    for number in more {
+        numbers.push(*number);
+    }
+}
+
+/// Whether none is 0.
+fn none_is_zero(counts: &[u64]) -> bool
+    ensures { result ≡ none_is_zero counts.now }
+{
+    match counts {
+        [] => true,
+        [first, rest @ ..] => 0 < *first && none_is_zero(rest),
+    }
+}
+
+/// Whether each offset and its extent stay within the dimension.
+fn fit_within(sizes: &[u64], offsets: &[u64], extents: &[u64]) -> bool
+    ensures { result ≡ fit_within sizes.now offsets.now extents.now }
+{
+    let [size, sizes @ ..] = sizes else {
+        return true;
+    };
+    let [offset, offsets @ ..] = offsets else {
+        return true;
+    };
+    let [extent, extents @ ..] = extents else {
+        return true;
+    };
+    let fits = *offset <= *size && *extent <= *size - *offset;
+    fits && fit_within(sizes, offsets, extents)
+}
+
+/// Whether a number is in a list.
+pub(crate) fn is_among(number: u64, list: &[u64]) -> bool
+    ensures { result ≡ is_among number list.now }
+{
+    match list {
+        [] => false,
+        [first, rest @ ..] => number == *first || is_among(number, rest),
+    }
+}
+
+/// Whether all numbers below one are in a list.
+fn has_all_below(limit: u64, list: &[u64]) -> bool
+    ensures { result ≡ has_all_below limit list.now }
+{
+    limit == 0 || (is_among(limit - 1, list) && has_all_below(limit - 1, list))
+}

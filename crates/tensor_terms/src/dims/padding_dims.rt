@@ -1,0 +1,47 @@
+//! The result dims of pads.
+
+ghost use Rattle.std.specs.Prelude.{◌≡◌, ◌≤◌, ◌<◌, ◌+◌, length, Ok, IsOk, IfSome, IsNone};
+ghost use Rattle.tensor_shape.specs.Legal.{highest_rank, most_elements};
+ghost use Rattle.tensor_terms.specs.Padding.{padded_dims, pad_dims};
+ghost use Rattle.tensor_terms.specs.Shaped.{legal_dims};
+
+use crate::dims::movement_dims::legal_dims;
+use crate::fault::ExprFault;
+use tensor_shape::{Dims, MAX_RANK, PerAxis};
+
+/// The result dims of a pad, where ranks end there, or the first of its own faults.
+pub(crate) fn pad_dims(rank: usize, pairs: &[(u64, u64)], dims: &Dims) -> Result<Dims, ExprFault>
+    requires { rank ≤ highest_rank }
+    ensures { result ≡ pad_dims rank pairs.now dims.now }
+{
+    if pairs.len() != dims.rank() {
+        return Err(ExprFault::ShapeMismatch);
+    }
+    padded_dims(rank, pairs, dims.as_slice())
+}
+
+/// Each size, and what stands before and behind it. One past 64 bits is past the limit, too.
+fn padded_dims(rank: usize, pairs: &[(u64, u64)], sizes: &[u64]) -> Result<Dims, ExprFault>
+    requires rank { rank ≤ highest_rank }
+    requires same { length pairs.now ≡ length sizes.now }
+    requires few { length sizes.now ≤ highest_rank }
+    ensures { result ≡ legal_dims rank (padded_dims pairs.now sizes.now) }
+{
+    let mut padded = PerAxis::new();
+    for axis in 0..sizes.len() {
+        let (before, behind) = pairs[axis];
+        let Some(size) = sum(before, sizes[axis], behind) else {
+            return Err(ExprFault::TooLarge);
+        };
+        padded.push(size);
+    }
+    legal_dims(rank, padded.as_slice())
+}
+
+/// The sum of three numbers, where it is within 64 bits.
+fn sum(before: u64, size: u64, behind: u64) -> Option<u64>
+    ensures some { IfSome result (λ n. n ≡ before + size + behind) }
+    ensures none { IsNone result → most_elements < before + size + behind }
+{
+    before.checked_add(size)?.checked_add(behind)
+}

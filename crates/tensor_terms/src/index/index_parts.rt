@@ -1,0 +1,77 @@
+//! Index lists in two parts: the numbers at some of the axes, and those at the others.
+
+ghost use Rattle.std.specs.Prelude.{◌≡◌, ◌≤◌, ◌<◌, ◌++◌, length, true};
+ghost use Rattle.tensor_shape.specs.Index.{size_of, place, index_of};
+ghost use Rattle.tensor_shape.specs.Legal.{highest_rank};
+ghost use Rattle.tensor_terms.specs.Reduction.{are_axes};
+ghost use Rattle.tensor_terms.specs.Woven.{among, others, dims_at, other_dims, woven};
+
+use crate::dims::movement_dims::{extend, shuffled_dims};
+use crate::expr::node::Movement;
+use crate::index::moved_index::moved_place;
+use crate::index::woven::{among, others};
+use tensor_shape::{Dims, PerAxis};
+
+/// Which axes of so many are among these, in order.
+pub fn all_among(axes: &[u64], rank: usize) -> PerAxis
+    requires { rank ≤ highest_rank }
+    ensures { result.items ≡ among axes.now rank }
+{
+    among(axes, 0, rank as u64)
+}
+
+/// Which aren't.
+fn all_others(axes: &[u64], rank: usize) -> PerAxis
+    requires { rank ≤ highest_rank }
+    ensures { result.items ≡ others axes.now rank }
+{
+    others(axes, 0, rank as u64)
+}
+
+/// The dims of these axes. They are legal, since there are no other factors.
+pub fn dims_at(axes: &[u64], dims: &Dims) -> Dims
+    requires { are_axes (length dims.now) axes.now ≡ true }
+    ensures { result ≡ dims_at axes.now dims.now }
+{
+    shuffled_dims(axes, dims.as_slice()).unwrap()
+}
+
+/// The dims of the other axes.
+pub fn other_dims(axes: &[u64], dims: &Dims) -> Dims
+    ensures { result ≡ other_dims axes.now dims.now }
+{
+    dims_at(all_others(axes, dims.rank()).as_slice(), dims)
+}
+
+/// The place in dims of an index list in two parts, from the place of its numbers at some axes and
+/// that of those at the others: what a shuffle reads that has these axes first.
+pub(crate) fn woven_place(axes: &[u64], dims: &Dims, inner: u64, outer: u64) -> u64
+    requires axes { are_axes (length dims.now) axes.now ≡ true }
+    requires inner { inner < size_of (dims_at axes.now dims.now) }
+    requires outer { outer < size_of (other_dims axes.now dims.now) }
+    ensures value { result ≡ place dims.now (woven axes.now dims.now
+        (index_of (dims_at axes.now dims.now) inner)
+        (index_of (other_dims axes.now dims.now) outer)) }
+    ensures below { result < size_of dims.now }
+{
+    let sizes = dims.as_slice();
+    let order = axes_first(axes, sizes.len());
+    let count = dims_at(axes, dims).size();
+    moved_place(
+        Movement::Shuffle(order.as_slice()),
+        dims,
+        inner + count * outer,
+    )
+}
+
+/// All axes of so many, these first.
+pub fn axes_first(axes: &[u64], rank: usize) -> PerAxis
+    requires few { rank ≤ highest_rank }
+    requires axes { are_axes rank axes.now ≡ true }
+    ensures { result.items ≡ axes.now ++ others axes.now rank }
+{
+    let mut order = PerAxis::new();
+    extend(&mut order, axes);
+    extend(&mut order, all_others(axes, rank).as_slice());
+    order
+}

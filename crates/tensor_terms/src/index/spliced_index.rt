@@ -1,0 +1,73 @@
+//! Where concatenations and pads read their operands.
+
+ghost use Rattle.std.specs.Prelude.{◌≡◌, ◌<◌, ◌≤◌, ◌+◌, length, take, true, false};
+ghost use Rattle.std.specs.Prelude.{IsOk, IfSome, IsNone};
+ghost use Rattle.tensor_shape.specs.Index.{size_of, place, index_of};
+ghost use Rattle.tensor_shape.specs.Legal.{highest_rank};
+ghost use Rattle.tensor_terms.specs.Concatenation.{joined_dims, concatenated_dims};
+ghost use Rattle.tensor_terms.specs.Padding.{padded_dims, pad_dims, is_inside, moved_back};
+
+use crate::dims::padding_dims::pad_dims;
+use tensor_shape::{Dims, MAX_RANK, PerAxis};
+use tensor_values::Turns;
+
+/// The turns of a concatenation along an axis: the places of each operand along the axes up to it.
+pub fn turns_along(axis: u64, first: &Dims, second: &Dims) -> Turns
+    requires dims { IsOk (concatenated_dims highest_rank axis first.now second.now) }
+    requires some { 0 < size_of (joined_dims axis first.now second.now) }
+    ensures first { result.first ≡ size_of (take (axis + 1) first.now) }
+    ensures second { result.second ≡ size_of (take (axis + 1) second.now) }
+{
+    Turns {
+        first: width_along(axis as usize, first),
+        second: width_along(axis as usize, second),
+    }
+}
+
+/// How many places there are along the axes up to one.
+fn width_along(axis: usize, dims: &Dims) -> usize
+    requires { axis < length dims.now }
+    ensures { result ≡ size_of (take (axis + 1) dims.now) }
+{
+    let sizes = dims.as_slice();
+    (dims.stride(axis) * sizes[axis]) as usize
+}
+
+/// The place of the operand, of these dims, that a pad reads for a place of the result, where it
+/// reads one.
+pub(crate) fn padded_place(pairs: &[(u64, u64)], dims: &Dims, linear: u64) -> Option<u64>
+    requires dims { IsOk (pad_dims highest_rank pairs.now dims.now) }
+    requires below { linear < size_of (padded_dims pairs.now dims.now) }
+    ensures inside { IfSome result (λ read. is_inside pairs.now dims.now
+        (index_of (padded_dims pairs.now dims.now) linear) ≡ true) }
+    ensures value { IfSome result (λ read. read ≡ place dims.now
+        (moved_back pairs.now (index_of (padded_dims pairs.now dims.now) linear))) }
+    ensures below { IfSome result (λ read. read < size_of dims.now) }
+    ensures outside { IsNone result → is_inside pairs.now dims.now
+        (index_of (padded_dims pairs.now dims.now) linear) ≡ false }
+{
+    let shape = pad_dims(MAX_RANK, pairs, dims).unwrap();
+    let index = shape.index_of(linear);
+    let read = moved_back(pairs, dims.as_slice(), index.as_slice())?;
+    Some(dims.linear(read.as_slice()))
+}
+
+/// Each index less what stands before, where all of them are inside.
+fn moved_back(pairs: &[(u64, u64)], sizes: &[u64], index: &[u64]) -> Option<PerAxis>
+    requires sizes { length sizes.now ≡ length pairs.now }
+    requires index { length index.now ≡ length pairs.now }
+    requires few { length pairs.now ≤ highest_rank }
+    ensures inside { IfSome result (λ read. is_inside pairs.now sizes.now index.now ≡ true) }
+    ensures value { IfSome result (λ read. read.items ≡ moved_back pairs.now index.now) }
+    ensures outside { IsNone result → is_inside pairs.now sizes.now index.now ≡ false }
+{
+    let mut read = PerAxis::new();
+    for axis in 0..pairs.len() {
+        let (before, _) = pairs[axis];
+        if index[axis] < before || index[axis] - before >= sizes[axis] {
+            return None;
+        }
+        read.push(index[axis] - before);
+    }
+    Some(read)
+}

@@ -1,0 +1,5 @@
+pub mod Combining
+pub mod Scalars
+-- for private clauses alone
+pub mod Splicing
+pub mod Values

@@ -1,0 +1,82 @@
+//! The operations on single values.
+
+ghost use Rattle.std.specs.Prelude.{◌≡◌};
+ghost use Rattle.tensor_values.specs.Scalars.{is_true, truth, applied, combined};
+
+/// The operations on one value.
+#[derive(Clone, Copy, Debug, Drop, Eq, PartialEq)]
+pub enum UnaryScalar {
+    Neg,
+    Abs,
+    Square,
+    Not,
+}
+
+/// The operations on two values.
+#[derive(Clone, Copy, Debug, Drop, Eq, PartialEq)]
+pub enum BinaryScalar {
+    Add,
+    Sub,
+    Mul,
+    CwiseMax,
+    CwiseMin,
+    Lt,
+    Le,
+    Eq,
+    Ne,
+    Gt,
+    Ge,
+    And,
+    Or,
+}
+
+/// The operation on one value, modulo 2^64.
+#[inline(always)]
+pub fn applied(operation: UnaryScalar, x: i64) -> i64
+    ensures { result ≡ applied operation x }
+{
+    match operation {
+        UnaryScalar::Neg => x.wrapping_neg(),
+        UnaryScalar::Abs => x.wrapping_abs(),
+        UnaryScalar::Square => x.wrapping_mul(x),
+        UnaryScalar::Not => truth(!is_true(x)),
+    }
+}
+
+/// The operation on two values, modulo 2^64.
+#[inline(always)]
+pub fn combined(operation: BinaryScalar, x: i64, y: i64) -> i64
+    ensures { result ≡ combined operation x y }
+{
+    match operation {
+        BinaryScalar::Add => x.wrapping_add(y),
+        BinaryScalar::Sub => x.wrapping_sub(y),
+        BinaryScalar::Mul => x.wrapping_mul(y),
+        BinaryScalar::CwiseMax => x.max(y),
+        BinaryScalar::CwiseMin => x.min(y),
+        BinaryScalar::Lt => truth(x < y),
+        BinaryScalar::Le => truth(x <= y),
+        BinaryScalar::Eq => truth(x == y),
+        BinaryScalar::Ne => truth(x != y),
+        BinaryScalar::Gt => truth(x > y),
+        BinaryScalar::Ge => truth(x >= y),
+        BinaryScalar::And => truth(is_true(x) && is_true(y)),
+        BinaryScalar::Or => truth(is_true(x) || is_true(y)),
+    }
+}
+
+/// Whether a value is true, which each is but 0.
+#[inline(always)]
+pub fn is_true(x: i64) -> bool
+    ensures { result ≡ is_true x }
+{
+    x != 0
+}
+
+/// 1 for true and 0 for false.
+#[inline(always)]
+fn truth(holds: bool) -> i64
+    ensures { result ≡ truth holds }
+{
+    if holds { 1 } else { 0 }
+}

@@ -1,0 +1,61 @@
+//! Two operands in turns: so many places of the first, then so many of the second, and so on to the
+//! end of both.
+
+ghost use Rattle.std.specs.Prelude.{◌≡◌, ◌<◌, ◌≤◌, ◌+◌, ◌-◌, ◌%◌, if◌then◌else◌};
+ghost use Rattle.tensor_shape.specs.Legal.{most_elements};
+
+/// How many places of each operand there are in a turn.
+#[derive(Clone, Copy, Drop)]
+pub struct Turns {
+    pub first: usize,
+    pub second: usize,
+    ghost some: { 0 < first + second },
+    ghost few: { first + second ≤ most_elements },
+}
+
+impl Turns {
+    ghost use Rattle.tensor_values.specs.Splicing.{is_of_first, firsts_before, seconds_before};
+
+    /// Whether a place is one of the first operand.
+    pub fn is_of_first(self, place: usize) -> bool
+        ensures { result ≡ is_of_first self.first self.second place }
+    {
+        place % (self.first + self.second) < self.first
+    }
+
+    /// How many places of the first operand there are before a place. Where it is one of them, that
+    /// is its place in the operand.
+    pub fn firsts_before(self, place: usize) -> usize
+        ensures { result ≡ firsts_before self.first self.second place }
+    {
+        let width = self.first + self.second;
+        place / width * self.first + (place % width).min(self.first)
+    }
+
+    /// How many places of the second operand there are before a place.
+    pub fn seconds_before(self, place: usize) -> usize
+        ensures { result ≡ seconds_before self.first self.second place }
+    {
+        let width = self.first + self.second;
+        place / width * self.second + (place % width).saturating_sub(self.first)
+    }
+
+    /// Where the places that follow a place in the same operand end, at the latest at a limit.
+    pub fn end_after(self, place: usize, limit: usize) -> usize
+        requires { place < limit }
+        ensures above { place < result }
+        ensures below { result ≤ limit }
+        ensures turn { place % (self.first + self.second) + (result - place)
+            ≤ (if is_of_first self.first self.second place
+            then self.first else self.first + self.second) }
+    {
+        let width = self.first + self.second;
+        let index = place % width;
+        let end = if index < self.first {
+            self.first
+        } else {
+            width
+        };
+        place + (end - index).min(limit - place)
+    }
+}

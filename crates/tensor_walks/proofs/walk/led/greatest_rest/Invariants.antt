@@ -1,0 +1,9 @@
+-- Nothing that was left so far is greater.
+use Rattle.std.proofs.Common.{ℕ, ◌<◌, ◌≤◌, ◌%◌, slice_index}
+use Rattle.tensor_walks.proofs.walk.led.greatest_rest.Given as goal
+
+abbrev pub invariant-loop-place : goal.invariant-loop-place
+invariant-loop-place l = record {
+  below : l.greatest < l.span;
+  each : (k : ℕ) → k < l.place-index → slice_index l.places k % l.span ≤ l.greatest;
+}

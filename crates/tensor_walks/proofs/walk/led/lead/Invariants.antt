@@ -1,0 +1,12 @@
+-- The places below the counter are led, and the others are as they were.
+use Rattle.std.proofs.Common.{◌≡◌, ℕ, ◌<◌, ◌≤◌, length, slice_index}
+use Rattle.tensor_walks.specs.Walk.{reached}
+use Rattle.tensor_walks.proofs.walk.led.lead.Given as goal
+
+abbrev pub invariant-loop-k : goal.invariant-loop-k
+invariant-loop-k l = record {
+  len : length l.places.items ≡ length l.initial.places.items;
+  led : (k : ℕ) → k < l.k → slice_index l.places.items k
+      ≡ reached l.start l.axes (slice_index l.initial.places.items k);
+  left : (k : ℕ) → l.k ≤ k → slice_index l.places.items k ≡ slice_index l.initial.places.items k;
+}

@@ -1,0 +1,106 @@
+//! Values and a list that is read along a walk become an operation's, row by row: what is read is
+//! never put into a list of its own.
+
+ghost use Rattle.std.specs.Prelude.{◌≡◌, ◌<◌, ◌≤◌, ◌-◌, ◌+◌, ◌*◌, ◌/◌, ◌^◌, ℕ, pos, length};
+ghost use Rattle.std.specs.Prelude.{OnOk, slice_index_or, vec_len};
+ghost use Rattle.tensor_walks.specs.Loops.{either_way};
+ghost use Rattle.tensor_values.specs.Values.{value_in};
+ghost use Rattle.tensor_walks.specs.Walk.{walk_size, reached, along};
+
+use crate::loops::combine_row;
+use crate::walk::{Axis, Reading, Row, rows_of};
+use std::alloc::{AllocError, Global};
+use tensor_values::BinaryScalar;
+
+/// How many places rows have at least where they are read one by one.
+const SHORTEST_READ_ROW: usize = 16;
+
+/// Whether the rows along the first axis that has steps are long.
+pub fn has_long_rows(axes: &[Axis]) -> bool {
+    for axis in axes {
+        if axis.size != 1 {
+            return axis.size >= SHORTEST_READ_ROW;
+        }
+    }
+    false
+}
+
+/// The values become the operation's of them and the list's for a run of the walk's places, of
+/// which the second comes first where they are turned.
+pub fn combine_along(
+    alloc: Global,
+    operation: BinaryScalar,
+    turned: bool,
+    values: &mut Vec<i64>,
+    reading: Reading<'_>,
+    first: usize,
+    last: usize,
+) -> Result<(), AllocError>
+    requires order { first ≤ last }
+    requires within { last ≤ walk_size reading.axes.now }
+    requires same { vec_len values.old ≡ last - first }
+    requires inside { (p : ℕ) → p < walk_size reading.axes.now
+        → reached reading.start reading.axes.now p < length reading.list.now }
+    requires few { length reading.list.now < 2 ^ 32 }
+    ensures len { OnOk result (length values.new.items ≡ length values.old.items) }
+    ensures each { OnOk result ((k : ℕ) → k < last - first
+        → slice_index_or values.new.items k (pos 0)
+        ≡ either_way operation turned (slice_index_or values.old.items k (pos 0))
+        (value_in reading.entry.list.now
+        (reached reading.entry.start reading.entry.axes.now (first + k)))) }
+{
+    if first == last {
+        return Ok(());
+    }
+    let (axis, rows) = rows_of(alloc, reading.start, reading.axes, first, last)?;
+    combine_rows(
+        operation,
+        turned,
+        values,
+        reading.list,
+        &rows,
+        axis,
+        first,
+        last,
+    );
+    Ok(())
+}
+
+/// The same, for each row's start those of a row along the axis, the first row and the last cut to
+/// the run.
+fn combine_rows(
+    operation: BinaryScalar,
+    turned: bool,
+    values: &mut Vec<i64>,
+    list: &[i64],
+    rows: &[u32],
+    axis: Axis,
+    first: usize,
+    last: usize,
+)
+    requires size { 0 < axis.size }
+    requires order { first ≤ last }
+    requires rows { last ≤ axis.size * (first / axis.size + length rows.now) }
+    requires same { vec_len values.old ≡ last - first }
+    requires inside { (p : ℕ) → first ≤ p → p < last
+        → along rows.now axis first p < length list.now }
+    ensures len { length values.new.items ≡ length values.old.items }
+    ensures each { (k : ℕ) → k < last - first → slice_index_or values.new.items k (pos 0)
+        ≡ either_way operation turned (slice_index_or values.old.items k (pos 0))
+        (value_in list.now (along rows.now axis first (first + k))) }
+{
+    let mut place = first;
+    let mut from = first % axis.size;
+    for start in rows {
+        let count = (axis.size - from).min(last - place);
+        let row = Row {
+            start: *start as usize,
+            axis,
+            from,
+            count,
+        };
+        combine_row(operation, turned, values, place - first, list, row);
+        place += count;
+        from = 0;
+    }
+}
