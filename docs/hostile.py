@@ -11,6 +11,7 @@ import tempfile
 
 TOP = os.path.dirname(os.path.dirname(os.path.abspath(__file__)))
 PROGRAM = os.path.join(TOP, "crates", "tensor_run", "out", "tensor_run")
+PLAIN = os.path.join(TOP, "crates", "plain_run", "out", "plain_run")
 REFUSALS = os.path.join(TOP, "docs", "refusals.c")
 COMPILERS = ("cc", "gcc", "clang")
 COUNTS = struct.Struct("4Q")
@@ -46,12 +47,12 @@ def status_of(line):
     return 0 if line.startswith("{") else 1
 
 
-def run(text, env=None, seconds=SECONDS):
+def run(text, env=None, seconds=SECONDS, program=PROGRAM):
     """Standard output, standard error and the status of the program; a signal is a number below 0,
     and None stands for no end in time."""
     try:
         ran = subprocess.run(
-            [PROGRAM], input=text, env=env or {}, capture_output=True, timeout=seconds, check=False
+            [program], input=text, env=env or {}, capture_output=True, timeout=seconds, check=False
         )
     except subprocess.TimeoutExpired:
         return "", f"no end in {seconds} s", None
@@ -72,14 +73,14 @@ class Refusals:
         if subprocess.run(words, check=False).returncode:
             sys.exit(f"{sys.argv[0]}: {' '.join(words)} failed")
 
-    def run(self, text, **settings):
+    def run(self, text, program=PROGRAM, **settings):
         """A run with these settings, as `memory=3` for REFUSE_MEMORY."""
         with open(self.counts, "wb") as file:
             file.write(bytes(COUNTS.size))
         env = {"LD_PRELOAD": self.library, "REFUSE_COUNTS": self.counts}
         for name, value in settings.items():
             env[f"REFUSE_{name.upper()}"] = str(value)
-        ran = run(text, env)
+        ran = run(text, env, program=program)
         with open(self.counts, "rb") as file:
             counts = COUNTS.unpack(file.read())
         self.requests, self.refused, self.starts, self.starts_refused = counts

@@ -1,12 +1,11 @@
 //! Kernels for tests.
-ghost use Rattle.std.specs.Prelude.{◌<◌};
-
 use parallel_for::Kernel;
 use std::alloc::{AllocError, Allocator};
 use std::sync::atomic::{AtomicU64, Ordering};
+use std::thread::yield_now;
 
-/// How often a leaf looks for the other's flag.
-const LOOKS: u64 = 200_000_000;
+/// How often a leaf looks at most whether all others have begun.
+const LOOKS: u64 = 10_000_000;
 
 /// Has its number at each place.
 #[derive(Drop)]
@@ -65,46 +64,50 @@ impl Kernel for Refusing {
     }
 }
 
-/// Two places whose leaves wait for each other, each so long.
+/// Places whose leaves wait for one another, each so long, until all have begun.
 #[derive(Drop)]
 pub(crate) struct Meeting {
-    flags: [AtomicU64; 2],
-    met: [AtomicU64; 2],
+    leaves: u64,
+    begun: AtomicU64,
+    met: AtomicU64,
 }
 
 impl Meeting {
-    pub(crate) fn new() -> Meeting {
+    pub(crate) fn of(leaves: u64) -> Meeting {
         Meeting {
-            flags: [AtomicU64::new(0), AtomicU64::new(0)],
-            met: [AtomicU64::new(0), AtomicU64::new(0)],
+            leaves,
+            begun: AtomicU64::new(0),
+            met: AtomicU64::new(0),
         }
     }
 
-    /// Whether the leaf of this place has seen the other's flag.
-    pub(crate) fn met(&self, place: usize) -> bool
-        requires { place < 2 }
-    {
-        self.met[place].load(Ordering::SeqCst) == 1
+    /// How many leaves have begun, and how many of them have seen all begun.
+    pub(crate) fn counts(&self) -> (u64, u64) {
+        (
+            self.begun.load(Ordering::SeqCst),
+            self.met.load(Ordering::SeqCst),
+        )
     }
 
-    // Sets the flag of this place, and looks for the other's.
-    fn meet(&self, place: usize)
-        requires { place < 2 }
-    {
-        self.flags[place].store(1, Ordering::SeqCst);
+    // A leaf begins, and looks for the others.
+    fn meet(&self) {
+        self.begun.fetch_add(1, Ordering::SeqCst);
         for _ in 0..LOOKS {
-            if self.flags[1 - place].load(Ordering::SeqCst) == 1 {
-                self.met[place].store(1, Ordering::SeqCst);
+            if self.begun.load(Ordering::SeqCst) >= self.leaves {
+                self.met.fetch_add(1, Ordering::SeqCst);
                 return;
             }
+            yield_now();
         }
     }
 }
 
 impl Kernel for Meeting {
+    ghost use Rattle.std.specs.Prelude.{◌^◌};
+
     type Item = u64;
 
-    ghost size = { λ _. 2 };
+    ghost size = { λ _. 2 ^ 64 };
 
     ghost item_at = { λ _ place. place };
 
@@ -114,9 +117,7 @@ impl Kernel for Meeting {
         first: u64,
         last: u64,
     ) -> Result<Vec<u64, A>, AllocError> {
-        if first < last {
-            self.meet(first as usize);
-        }
+        self.meet();
         Places.fill(alloc, first, last)
     }
 }

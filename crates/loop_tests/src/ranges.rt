@@ -193,14 +193,23 @@ fn each_leaf_without_memory_in_turn(rt: HostRuntime) -> Result<(), Fail> {
     Ok(())
 }
 
+/// So many leaves and as many workers, and how often they meet.
+const MEETINGS: [(u32, u32); 2] = [(2, 1_000), (16, 100)];
+
+// All leaves run at one time, and each once. So no worker ended before the last leaf was taken, as
+// one does that finds nothing to do in a pool that is closing: where the caller doesn't wait for the
+// leaves some do, at one meeting in twenty or so, and so at some of these.
 #[test]
-fn two_leaves_meet(rt: HostRuntime) -> Result<(), Fail> {
-    let kernel = Meeting::new();
-    let setup = setup_of(rt.alloc(), 2, &[])?;
-    let items = parallel_for(&rt, rt.alloc(), &setup, &kernel, 2, 1)?;
-    assert_eq!(rt;
-        (items.len(), kernel.met(0), kernel.met(1)),
-        (2, true, true)
-    );
+fn all_leaves_meet(rt: HostRuntime) -> Result<(), Fail> {
+    for (workers, times) in MEETINGS {
+        let setup = setup_of(rt.alloc(), workers, &[])?;
+        let leaves = u64::from(workers);
+        for _ in 0..times {
+            let kernel = Meeting::of(leaves);
+            let items = parallel_for(&rt, rt.alloc(), &setup, &kernel, leaves, 1)?;
+            let found = (items.len() as u64, kernel.counts());
+            assert_eq!(rt; found, (leaves, (leaves, leaves)));
+        }
+    }
     Ok(())
 }

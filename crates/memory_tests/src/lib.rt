@@ -13,6 +13,10 @@ mod each_call;
 #[cfg(test)]
 mod halves;
 #[cfg(test)]
+mod kept_rows;
+#[cfg(test)]
+mod limited;
+#[cfg(test)]
 mod loops;
 #[cfg(test)]
 mod opened;
@@ -22,3 +26,5 @@ mod pools;
 mod refusing;
 #[cfg(test)]
 mod splits;
+#[cfg(test)]
+mod tasks;

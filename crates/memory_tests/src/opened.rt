@@ -1,7 +1,7 @@
 //! Pools over any allocator.
 ghost use Rattle.worker_pool.specs.Callers.{IsCaller, StaysCaller};
 
-use crate::splits::Splits;
+use crate::splits::{Ends, Splits};
 use event_count::{LockedCount, WaitPoint};
 use run_queue::{LockedRows, Rows};
 use std::alloc::Allocator;
@@ -21,27 +21,23 @@ pub(crate) enum Entry {
     Root,
 }
 
-/// How often a pool called its body, or what comes after its root, and its jobs' steps.
+/// How often a pool called its body, or what comes after its root, and how its jobs ended.
 #[derive(Drop)]
 pub(crate) struct Counts {
     calls: AtomicU64,
-    steps: AtomicU64,
+    pub(crate) ends: Ends,
 }
 
 impl Counts {
-    pub(crate) fn new() -> Counts {
+    pub(crate) fn new(starved_place: Option<u64>) -> Counts {
         Counts {
             calls: AtomicU64::new(0),
-            steps: AtomicU64::new(0),
+            ends: Ends::new(starved_place),
         }
     }
 
     pub(crate) fn calls(&self) -> u64 {
         self.calls.load(Ordering::SeqCst)
-    }
-
-    pub(crate) fn steps(&self) -> u64 {
-        self.steps.load(Ordering::SeqCst)
     }
 }
 
@@ -62,12 +58,12 @@ where
         workers,
         partitions: Vec::new(alloc.clone()?),
     };
-    let Counts { calls, steps } = counts;
+    let Counts { calls, ends } = counts;
     match entry {
         Entry::Body => scheduled::<LockedCount<A>, LockedRows<Splits, A>, VecLists, RT, Splits, A>(
-            rt, alloc, &setup, steps, calls, root,
+            rt, alloc, &setup, ends, calls, root,
         ),
-        Entry::Root => planted(rt, alloc, &setup, steps, calls, root),
+        Entry::Root => planted(rt, alloc, &setup, ends, calls, root),
     }
 }
 
@@ -114,7 +110,7 @@ fn planted<RT, A>(
     rt: &RT,
     alloc: A,
     setup: &Setup<A>,
-    steps: &AtomicU64,
+    ends: &Ends,
     calls: &AtomicU64,
     root: Splits,
 ) -> Result<Closed<Splits, A>, PoolFault>
@@ -126,7 +122,7 @@ where
         rt,
         alloc,
         setup,
-        steps,
+        ends,
         &NoGate,
         root,
         || {

@@ -22,6 +22,15 @@ const ENTRIES: [Entry; 2] = [Entry::Body, Entry::Root];
 /// lists of what comes home.
 const OPENINGS: [(u32, u64); 2] = [(1, 21), (2, 22)];
 
+/// A pool that runs the root.
+#[derive(Clone, Copy, Debug)]
+struct Opened {
+    entry: Entry,
+    workers: u32,
+    /// The place whose job finds no memory in its last step, if there is one.
+    starved_place: Option<u64>,
+}
+
 /// What a pool leaves that runs the root.
 #[derive(Drop)]
 struct Ran {
@@ -29,6 +38,9 @@ struct Ran {
     calls: u64,
     steps: u64,
     refused: u64,
+    // How many jobs were abandoned, and how many found no memory in a step.
+    abandons: u64,
+    starved: u64,
     // How many jobs are handed back.
     left: usize,
     // How many lists of outs there are.
@@ -39,26 +51,36 @@ struct Ran {
     outs: Vec<u64>,
 }
 
-// A pool that gets so many allocations.
+// A pool in which each step finds memory.
+fn pool_of(entry: Entry, workers: u32) -> Opened {
+    Opened {
+        entry,
+        workers,
+        starved_place: None,
+    }
+}
+
+// What a pool leaves that gets so many allocations.
 fn run_with<RT: Threads + Wait + Sync>(
     rt: &RT,
     alloc: Global,
     allocations: u64,
-    entry: Entry,
-    workers: u32,
+    pool: Opened,
 ) -> Result<Ran, AllocError> {
     let heap = Sparing::new(alloc, allocations);
-    let counts = Counts::new();
+    let counts = Counts::new(pool.starved_place);
     let root = Splits {
         place: 0,
         more: JOBS - 1,
     };
-    let closed = run_root(rt, &heap, entry, workers, &counts, root);
+    let closed = run_root(rt, &heap, pool.entry, pool.workers, &counts, root);
     let mut ran = Ran {
         fault: None,
         calls: counts.calls(),
-        steps: counts.steps(),
+        steps: counts.ends.steps(),
         refused: 0,
+        abandons: counts.ends.abandons(),
+        starved: counts.ends.starved(),
         left: 0,
         lists: 0,
         first: Vec::new(alloc),
@@ -82,15 +104,21 @@ fn run_with<RT: Threads + Wait + Sync>(
     Ok(ran)
 }
 
-// Each job has left its place once or was refused, and none was handed back.
-fn expect_all_ended<R: Abort>(rt: &R, workers: u32, ran: &Ran) {
+// Each job has left its place once or was refused, and none was handed back. One that was refused
+// was abandoned, once, or found no memory in a step.
+fn expect_all_ended<R: Abort>(rt: &R, pool: Opened, ran: &Ran) {
     let ended = (ran.fault, ran.calls, ran.left, ran.lists as u64);
-    assert_eq!(rt; ended, (None, 1, 0, u64::from(workers) + 1));
+    assert_eq!(rt; ended, (None, 1, 0, u64::from(pool.workers) + 1));
     let jobs = (ran.outs.len() as u64).checked_add(ran.refused);
-    assert_eq!(rt; jobs, Some(JOBS), "{workers} workers");
+    let refused = ran.abandons.checked_add(ran.starved);
+    assert_eq!(rt;
+        (jobs, refused),
+        (Some(JOBS), Some(ran.refused)),
+        "{pool:?}"
+    );
     let each_once = ran.outs.windows(2).all(|pair| pair[0] < pair[1]);
     let each_below = ran.outs.iter().all(|&place| place < JOBS);
-    assert!(rt; each_once && each_below, "{workers} workers");
+    assert!(rt; each_once && each_below, "{pool:?}");
 }
 
 // Where a pool isn't opened, nothing is called and no step taken.
@@ -98,8 +126,9 @@ fn expect_all_ended<R: Abort>(rt: &R, workers: u32, ran: &Ran) {
 fn each_allocation_of_an_opening(rt: HostRuntime) -> Result<(), Fail> {
     for entry in ENTRIES {
         for (workers, takes) in OPENINGS {
+            let pool = pool_of(entry, workers);
             for left in 0..takes {
-                let ran = run_with(&rt, rt.alloc(), left, entry, workers)?;
+                let ran = run_with(&rt, rt.alloc(), left, pool)?;
                 let found = (ran.fault, ran.calls, ran.steps);
                 let none = (Some(PoolFault::NoMemory), 0, 0);
                 assert_eq!(rt; found, none, "{entry:?}, after {left}");
@@ -115,11 +144,13 @@ fn each_allocation_of_an_opening(rt: HostRuntime) -> Result<(), Fail> {
 fn no_allocation_after_an_opening_and_ample(rt: HostRuntime) -> Result<(), Fail> {
     for entry in ENTRIES {
         for (workers, takes) in OPENINGS {
+            let pool = pool_of(entry, workers);
             for (allocations, outs, refused) in [(takes, 0, 1), (u64::MAX, JOBS, 0)] {
-                let ran = run_with(&rt, rt.alloc(), allocations, entry, workers)?;
+                let ran = run_with(&rt, rt.alloc(), allocations, pool)?;
                 let found = (ran.fault, ran.calls, ran.outs.len() as u64, ran.refused);
-                assert_eq!(rt; found, (None, 1, outs, refused), "{entry:?}, {workers}");
-                assert_eq!(rt; (ran.left, ran.steps > 0), (0, outs > 0), "{entry:?}");
+                assert_eq!(rt; found, (None, 1, outs, refused), "{pool:?}");
+                let rest = (ran.left, ran.steps > 0, ran.abandons);
+                assert_eq!(rt; rest, (0, outs > 0, refused), "{pool:?}");
             }
         }
     }
@@ -133,14 +164,15 @@ fn no_allocation_after_an_opening_and_ample(rt: HostRuntime) -> Result<(), Fail>
 fn each_allocation_after_an_opening(rt: HostRuntime) -> Result<(), Fail> {
     for entry in ENTRIES {
         for (workers, takes) in OPENINGS {
+            let pool = pool_of(entry, workers);
             let mut before = 0;
             for more in 1..=MOST_MORE {
-                let ran = run_with(&rt, rt.alloc(), takes + more, entry, workers)?;
-                expect_all_ended(&rt, workers, &ran);
+                let ran = run_with(&rt, rt.alloc(), takes + more, pool)?;
+                expect_all_ended(&rt, pool, &ran);
                 let outs = ran.outs.len() as u64;
                 let some = outs > 0 && (outs < JOBS || more > 1);
                 let all = outs == JOBS || more < MOST_MORE;
-                assert!(rt; some && all, "{entry:?}, {workers} workers, {more} more");
+                assert!(rt; some && all, "{pool:?}, {more} more");
                 if workers == 1 {
                     assert!(rt; before < outs || outs == JOBS, "{entry:?}, {more} more");
                     let in_order = (0..outs).eq(ran.first.iter().copied());
@@ -153,11 +185,31 @@ fn each_allocation_after_an_opening(rt: HostRuntime) -> Result<(), Fail> {
     Ok(())
 }
 
+// Each job in turn finds no memory in its last step, where it finds room for its out.
+#[test]
+fn each_allocation_where_a_step_finds_no_memory(rt: HostRuntime) -> Result<(), Fail> {
+    for entry in ENTRIES {
+        for (workers, takes) in OPENINGS {
+            for more in 1..=MOST_MORE {
+                let pool = Opened {
+                    starved_place: Some(more % JOBS),
+                    ..pool_of(entry, workers)
+                };
+                let ran = run_with(&rt, rt.alloc(), takes + more, pool)?;
+                expect_all_ended(&rt, pool, &ran);
+                let all = ran.refused == 1 && ran.starved == 1;
+                assert!(rt; all || more < MOST_MORE, "{pool:?}, {more} more");
+            }
+        }
+    }
+    Ok(())
+}
+
 #[test]
 fn workers_out_of_range_come_before_memory(rt: HostRuntime) -> Result<(), Fail> {
     for entry in ENTRIES {
         for workers in [0, 257] {
-            let ran = run_with(&rt, rt.alloc(), 0, entry, workers)?;
+            let ran = run_with(&rt, rt.alloc(), 0, pool_of(entry, workers))?;
             let found = (ran.fault, ran.calls, ran.steps);
             assert_eq!(rt; found, (Some(PoolFault::BadWorkers), 0, 0), "{entry:?}");
         }

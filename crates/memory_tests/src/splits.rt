@@ -10,9 +10,44 @@ pub(crate) struct Splits {
     pub(crate) more: u64,
 }
 
-impl<A: Allocator> Job<A> for Splits {
+/// How the jobs of a pool end.
+#[derive(Drop)]
+pub(crate) struct Ends {
+    /// The place whose job finds no memory in its last step, if there is one.
+    starved_place: Option<u64>,
+    steps: AtomicU64,
+    starved: AtomicU64,
+    abandons: AtomicU64,
+}
+
+impl Ends {
+    pub(crate) fn new(starved_place: Option<u64>) -> Ends {
+        Ends {
+            starved_place,
+            steps: AtomicU64::new(0),
+            starved: AtomicU64::new(0),
+            abandons: AtomicU64::new(0),
+        }
+    }
+
     /// How many steps were taken.
-    type Ctx = AtomicU64;
+    pub(crate) fn steps(&self) -> u64 {
+        self.steps.load(Ordering::SeqCst)
+    }
+
+    /// How many steps found no memory.
+    pub(crate) fn starved(&self) -> u64 {
+        self.starved.load(Ordering::SeqCst)
+    }
+
+    /// How often a job was abandoned.
+    pub(crate) fn abandons(&self) -> u64 {
+        self.abandons.load(Ordering::SeqCst)
+    }
+}
+
+impl<A: Allocator> Job<A> for Splits {
+    type Ctx = Ends;
 
     type Out = u64;
 
@@ -28,10 +63,14 @@ impl<A: Allocator> Job<A> for Splits {
         self.more
     }
 
-    fn step(self, _alloc: A, steps: &AtomicU64) -> Result<Progress<Splits, u64>, AllocError> {
-        steps.fetch_add(1, Ordering::SeqCst);
+    fn step(self, _alloc: A, ends: &Ends) -> Result<Progress<Splits, u64>, AllocError> {
+        ends.steps.fetch_add(1, Ordering::SeqCst);
         let Splits { place, more } = self;
         let Some(fewer) = more.checked_sub(1) else {
+            if Some(place) == ends.starved_place {
+                ends.starved.fetch_add(1, Ordering::SeqCst);
+                return Err(AllocError);
+            }
             return Ok(Progress::Done(place));
         };
         let kid = Splits {
@@ -42,5 +81,7 @@ impl<A: Allocator> Job<A> for Splits {
         Ok(Progress::Fork { kid, rest })
     }
 
-    fn abandon(self, _steps: &AtomicU64) {}
+    fn abandon(self, ends: &Ends) {
+        ends.abandons.fetch_add(1, Ordering::SeqCst);
+    }
 }

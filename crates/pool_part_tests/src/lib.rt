@@ -37,6 +37,8 @@ mod small_worlds;
 #[cfg(test)]
 mod steps;
 #[cfg(test)]
+mod stops;
+#[cfg(test)]
 mod tables;
 #[cfg(test)]
 mod threads;

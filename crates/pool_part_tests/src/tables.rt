@@ -1,4 +1,4 @@
-//! The tables that a World is a model of: an event count, rows of slots, and a stop word. An event
+//! The tables that a World is a model of: an event count, rows of slots, and a pool's stop word. An event
 //! that the World has taken is taken on them, and then they show the same as the World.
 ghost use Rattle.std.specs.Prelude.{◌≡◌, ◌+◌, All, length};
 ghost use Rattle.event_count.specs.Seats.{sizes_of, IsSeatOf};
@@ -8,6 +8,7 @@ use crate::count_moves::{self, Before, phase_of};
 use crate::row_moves;
 use crate::sizes::Sizes;
 use crate::steps::{self, Step};
+use crate::stops::StopFlag;
 use event_count::{EventCount, Phase, Seat};
 use event_word::{Event, World, unpack};
 use run_queue::{SlotRows, SlotSeat};
@@ -28,8 +29,7 @@ pub(crate) struct Tables {
 pub(crate) struct Seats {
     pub(crate) of_count: Vec<Seat>,
     pub(crate) of_rows: Vec<SlotSeat<u64>>,
-    /// The pool's own stop word is private to it, and this number stands in its place.
-    pub(crate) stop: u64,
+    pub(crate) stop: StopFlag,
 }
 
 /// Tables on which nothing was done.
@@ -48,11 +48,14 @@ pub(crate) fn open<R: Abort>(rt: &R, alloc: Global, sizes: Sizes) -> (Tables, Se
     let Ok((rows, of_rows)) = made else {
         panic!(rt; "no rows")
     };
+    let Ok(stop) = StopFlag::open(alloc) else {
+        panic!(rt; "no stop word")
+    };
     let tables = Tables { sizes, count, rows };
     let seats = Seats {
         of_count,
         of_rows,
-        stop: 0,
+        stop,
     };
     (tables, seats)
 }
@@ -108,13 +111,22 @@ pub(crate) fn take<R: Wait + Abort>(
         sizes.rows,
         event,
     );
-    let was_stopped = seats.stop != 0;
-    if matches!(event, Event::Stop { .. }) {
-        seats.stop = 1;
-    }
-    let by_stop = !was_stopped || !matches!(event, Event::PassFlag { .. });
+    let by_stop = takes_stop(&mut seats.stop, event);
     assert!(rt; by_count && by_rows && by_stop, "{event:?}");
     expect_shown(rt, tables, seats, world);
+}
+
+// Whether the stop word lets an event be. A stop stores that the pool closes.
+fn takes_stop(stop: &mut StopFlag, event: Event) -> bool {
+    match event {
+        Event::Stop { .. } => {
+            stop.close();
+            true
+        }
+        Event::PassFlag { .. } => !stop.is_set(),
+        Event::End { .. } => stop.is_set(),
+        _ => true,
+    }
 }
 
 /// Whether an actor finds something that keeps it from this event.
@@ -130,7 +142,7 @@ pub(crate) fn refuses<R: Abort>(rt: &R, tables: &Tables, seats: &mut Seats, even
         Event::Pass { row, .. } if row < tables.sizes.rows => {
             tables.rows.length(&mut seats.of_rows[place], row) != 0
         }
-        Event::PassFlag { .. } => seats.stop != 0,
+        Event::PassFlag { .. } => seats.stop.is_set(),
         _ => seats.of_count[place].phase() != Phase::Running,
     }
 }
@@ -154,7 +166,7 @@ pub(crate) fn takes<R: Wait + Abort>(
     steps::takes(rt, &tables.count, tables.sizes.workers, seat, step)
 }
 
-// Stops where word, lengths and seats aren't those that the World shows. The last actor looks.
+// Stops where the words, lengths and seats aren't those that the World shows. The last actor looks.
 fn expect_shown<R: Abort>(rt: &R, tables: &Tables, seats: &mut Seats, world: &World)
     requires rows { row_count_of tables.now.rows ≡ tables.now.sizes.rows }
     requires of_count { All (IsSeatOf tables.now.count) seats.old.of_count.items }
@@ -177,6 +189,8 @@ fn expect_shown<R: Abort>(rt: &R, tables: &Tables, seats: &mut Seats, world: &Wo
         u64::from(fields.signals),
     );
     assert_eq!(rt; word, (top, world.pre().len(), world.signals()));
+    let is_set = seats.stop.is_set();
+    assert!(rt; is_set == (world.stop() != 0), "the stop word");
     let seat = &mut seats.of_rows[last];
     expect_lengths(rt, &tables.rows, seat, tables.sizes.rows, world);
 }

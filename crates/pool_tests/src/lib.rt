@@ -6,6 +6,8 @@ mod bodies;
 #[cfg(test)]
 mod collected;
 #[cfg(test)]
+mod counted;
+#[cfg(test)]
 mod lists;
 #[cfg(test)]
 mod own_rows;

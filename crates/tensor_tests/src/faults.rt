@@ -1,7 +1,9 @@
-//! Faults by number and name.
+//! Faults by number, and by name or text.
 
 use crate::told::expect;
 use expr_reader::Fault;
+use std::test::Fail;
+use tensor_runner::{RunFault, StreamFault};
 
 #[test]
 fn faults_by_number_and_name(rt: HostRuntime) {
@@ -30,4 +32,22 @@ fn faults_by_number_and_name(rt: HostRuntime) {
             &(number, name),
         );
     }
+}
+
+const NUMBERS: [u64; 3] = [
+    RunFault::NoMemory as u64,
+    StreamFault::ReadFault as u64,
+    StreamFault::WriteFault as u64,
+];
+
+// Want of memory has one number, and those of the streams follow it.
+#[test]
+fn faults_of_runs_and_streams(rt: HostRuntime) -> Result<(), Fail> {
+    expect(&rt, "numbers", &NUMBERS, &[15, 16, 17]);
+    let no_memory = RunFault::NoMemory;
+    let (no_read, no_write) = (StreamFault::ReadFault, StreamFault::WriteFault);
+    let told = format!(in rt.alloc(); "{no_memory}, {no_read}, {no_write}")?;
+    let texts = "error 15 NoMemory, a read failed, a write failed";
+    expect(&rt, "texts", &told.as_str(), &texts);
+    Ok(())
 }

@@ -22,7 +22,7 @@ mod run;
 mod setup;
 mod start;
 mod steal;
-mod stop;
+pub mod stop;
 mod stop_view;
 mod worker;
 mod worker_seats;

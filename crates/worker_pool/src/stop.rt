@@ -1,4 +1,5 @@
-//! The stop word, and what the seats at its table know.
+//! The stop word of a pool, which says whether the pool is open, closing or cancelled, and what the
+//! seats at its table know.
 ghost use Rattle.std.specs.Prelude.{◌≡◌, ◌≢◌, ◌↔◌, List, [], ◌∷◌, ◌++◌, IfOk, IsTrue};
 ghost use Rattle.worker_pool.specs.Stops.{IsStopSeatOf, jobs_of, stored_of, found_of};
 ghost use Rattle.worker_pool.specs.Stops.{open_word, cancelled_word, closing_word};
@@ -25,7 +26,7 @@ const CLOSING: u64 = 1;
 const CANCELLED: u64 = 2;
 
 /// Nothing is asked of the stop word.
-pub(crate) struct StopRule;
+pub struct StopRule;
 
 impl<J> TableRule<(), StopView<J>, ()> for StopRule {
     ghost use Rattle.worker_pool.specs.StopPlays.{unused};
@@ -83,16 +84,16 @@ impl<J, K: Scheduled<J>> Play<(), StopView<J>> for Schedules<J, K> {
 }
 
 /// The table of a pool's stop word.
-pub(crate) type StopTable<J, A> = Table<(), StopView<J>, (), StopRule, A>;
+pub type StopTable<J, A> = Table<(), StopView<J>, (), StopRule, A>;
 
 /// A word that says whether a pool is closing.
-pub(crate) type StopWord<J> = Shared<(), StopView<J>, (), StopRule>;
+pub type StopWord<J> = Shared<(), StopView<J>, (), StopRule>;
 
 /// A seat at a stop word.
-pub(crate) type StopSeat<J> = Seat<(), StopView<J>>;
+pub type StopSeat<J> = Seat<(), StopView<J>>;
 
 /// The stop word of a pool that is open, and its first seat.
-pub(crate) fn open<J, A: Allocator + Clone>(
+pub fn open<J, A: Allocator + Clone>(
     alloc: &A,
 ) -> Result<(StopTable<J, A>, StopSeat<J>), AllocError>
     ensures of { IfOk result (λ made. IsStopSeatOf made.0.shared made.1) }
@@ -103,7 +104,7 @@ pub(crate) fn open<J, A: Allocator + Clone>(
 }
 
 /// Another seat.
-pub(crate) fn deal<J>(stop: &StopWord<J>, seat: &mut StopSeat<J>) -> StopSeat<J>
+pub fn deal<J>(stop: &StopWord<J>, seat: &mut StopSeat<J>) -> StopSeat<J>
     requires { IsStopSeatOf stop.now seat.old }
     ensures of { IsStopSeatOf stop.now seat.new × IsStopSeatOf stop.now result }
     ensures same { jobs_of seat.new ≡ jobs_of seat.old }
@@ -114,27 +115,29 @@ pub(crate) fn deal<J>(stop: &StopWord<J>, seat: &mut StopSeat<J>) -> StopSeat<J>
 }
 
 /// Whether the pool was closing or cancelled when the word was loaded.
-pub(crate) fn is_set<J>(stop: &StopWord<J>, seat: &mut StopSeat<J>) -> bool
+pub fn is_set<J>(stop: &StopWord<J>, seat: &mut StopSeat<J>) -> bool
     requires { IsStopSeatOf stop.now seat.old }
     ensures of { IsStopSeatOf stop.now seat.new }
     ensures same { jobs_of seat.new ≡ jobs_of seat.old }
+    ensures stored { stored_of seat.new ≡ stored_of seat.old }
     ensures set { IsTrue result ↔ (found_of seat.new ≢ open_word) }
 {
     stop.load::<Looks<J>>(seat, STOP) != OPEN
 }
 
 /// Whether the pool was cancelled when the word was loaded.
-pub(crate) fn is_cancelled<J>(stop: &StopWord<J>, seat: &mut StopSeat<J>) -> bool
+pub fn is_cancelled<J>(stop: &StopWord<J>, seat: &mut StopSeat<J>) -> bool
     requires { IsStopSeatOf stop.now seat.old }
     ensures of { IsStopSeatOf stop.now seat.new }
     ensures same { jobs_of seat.new ≡ jobs_of seat.old }
+    ensures stored { stored_of seat.new ≡ stored_of seat.old }
     ensures cancelled { IsTrue result ↔ (found_of seat.new ≡ cancelled_word) }
 {
     stop.load::<Looks<J>>(seat, STOP) == CANCELLED
 }
 
 /// From now on the pool is closing. Where it was cancelled it stays so.
-pub(crate) fn set<J>(stop: &StopWord<J>, seat: &mut StopSeat<J>, cancelled: bool)
+pub fn set<J>(stop: &StopWord<J>, seat: &mut StopSeat<J>, cancelled: bool)
     requires { IsStopSeatOf stop.now seat.old }
     ensures of { IsStopSeatOf stop.now seat.new }
     ensures same { jobs_of seat.new ≡ jobs_of seat.old }
@@ -145,7 +148,7 @@ pub(crate) fn set<J>(stop: &StopWord<J>, seat: &mut StopSeat<J>, cancelled: bool
 }
 
 /// From now on the pool is cancelled.
-pub(crate) fn cancel<J>(stop: &StopWord<J>, seat: &mut StopSeat<J>)
+pub fn cancel<J>(stop: &StopWord<J>, seat: &mut StopSeat<J>)
     requires { IsStopSeatOf stop.now seat.old }
     ensures of { IsStopSeatOf stop.now seat.new }
     ensures same { jobs_of seat.new ≡ jobs_of seat.old }

@@ -1,0 +1,134 @@
+//! Pools that may be cancelled, and of which few workers may be started.
+ghost use Rattle.worker_pool.specs.Callers.{IsCaller, StaysCaller};
+
+use crate::kept_rows::KeptRows;
+use event_count::{EventCount, WaitPoint};
+use run_queue::{Rows, SlotRows};
+use std::alloc::Allocator;
+use std::sync::Wait;
+use std::thread::Threads;
+use worker_pool::{
+    Caller, Closed, Job, Lists, NoGate, PoolFault, Setup, VecLists, with_pool_limited,
+};
+
+/// When the jobs of a pool can be taken out of its rows.
+#[derive(Clone, Copy, Debug)]
+pub(crate) enum Taken {
+    AnyTime,
+    /// As the pool is closed.
+    AtTheEnd,
+}
+
+/// A pool in which jobs are scheduled.
+#[derive(Clone, Copy, Debug)]
+pub(crate) struct Limited {
+    pub(crate) workers: u32,
+    /// Below which number workers are started.
+    pub(crate) starts: u32,
+    /// How many jobs are scheduled before the pool is cancelled, which it is where there are more.
+    pub(crate) first: u64,
+    pub(crate) taken: Taken,
+}
+
+/// What a pool over slots leaves of the first jobs, and of those that are scheduled once it is
+/// cancelled.
+pub(crate) fn run_jobs<RT, J, A>(
+    rt: &RT,
+    alloc: A,
+    pool: Limited,
+    ctx: &J::Ctx,
+    first: Vec<J>,
+    cancelled: Vec<J>,
+) -> Result<Closed<J, A>, PoolFault>
+where
+    RT: Threads + Wait + Sync,
+    J: Job<A> + Drop + Send,
+    J::Ctx: Sync,
+    J::Out: Drop + Send,
+    J::Abandoned: Send,
+    A: Allocator + Clone + Send + Sync,
+{
+    let setup = Setup {
+        workers: pool.workers,
+        partitions: Vec::new(alloc.clone()?),
+    };
+    match pool.taken {
+        Taken::AnyTime => run_over::<EventCount<A>, SlotRows<J, A>, VecLists, RT, J, A>(
+            rt,
+            alloc,
+            &setup,
+            ctx,
+            pool.starts,
+            first,
+            cancelled,
+        ),
+        Taken::AtTheEnd => run_over::<EventCount<A>, KeptRows<SlotRows<J, A>>, VecLists, RT, J, A>(
+            rt,
+            alloc,
+            &setup,
+            ctx,
+            pool.starts,
+            first,
+            cancelled,
+        ),
+    }
+}
+
+fn run_over<W, R, L, RT, J, A>(
+    rt: &RT,
+    alloc: A,
+    setup: &Setup<A>,
+    ctx: &J::Ctx,
+    starts: u32,
+    first: Vec<J>,
+    cancelled: Vec<J>,
+) -> Result<Closed<J, A>, PoolFault>
+where
+    RT: Threads + Wait + Sync,
+    J: Job<A> + Drop + Send,
+    J::Ctx: Sync,
+    J::Out: Drop + Send,
+    J::Abandoned: Send,
+    A: Allocator + Clone + Send + Sync,
+    W: WaitPoint<A> + Sync,
+    W::Seat: Send,
+    R: Rows<J, A> + Sync,
+    R::Seat: Send,
+    L: Lists<J::Out, A>,
+{
+    with_pool_limited::<W, R, L, RT, J, A, NoGate, _>(
+        rt,
+        alloc,
+        setup,
+        ctx,
+        &NoGate,
+        starts,
+        |caller: &mut Caller<'_, J, A, W, R, L>|
+            requires { IsCaller R.Rows W.WaitPoint J.Job L.Lists caller.old }
+            ensures { StaysCaller R.Rows W.WaitPoint J.Job L.Lists caller.old caller.new }
+        {
+            schedule_all(rt, caller, first);
+            if !cancelled.is_empty() {
+                caller.cancel(rt);
+            }
+            schedule_all(rt, caller, cancelled);
+        },
+    )
+}
+
+fn schedule_all<RT, J, A, W, R, L>(rt: &RT, caller: &mut Caller<'_, J, A, W, R, L>, jobs: Vec<J>)
+where
+    RT: Wait,
+    J: Job<A> + Drop,
+    J::Out: Drop,
+    A: Allocator + Clone,
+    W: WaitPoint<A>,
+    R: Rows<J, A>,
+    L: Lists<J::Out, A>,
+    requires { IsCaller R.Rows W.WaitPoint J.Job L.Lists caller.old }
+    ensures { StaysCaller R.Rows W.WaitPoint J.Job L.Lists caller.old caller.new }
+{
+    for job in jobs {
+        caller.schedule(rt, job);
+    }
+}

@@ -1,0 +1,239 @@
+//! Jobs of one step, in pools that may be cancelled.
+use crate::limited::{Limited, Taken, run_jobs};
+use crate::refusing::Sparing;
+use crate::splits::{Ends, Splits};
+use std::alloc::{AllocError, Allocator, Global};
+use std::process::Abort;
+use std::sync::atomic::{AtomicU64, Ordering};
+use std::sync::{Arc, Wait};
+use std::test::Fail;
+use std::thread::Threads;
+use worker_pool::{BoxedJob, BoxedTask, Closed, Job, PoolFault, TaskOut};
+
+/// How many jobs are scheduled.
+const JOBS: u64 = 16;
+
+/// How many allocations a pool is tried with at most, which suffice for its opening and all jobs.
+const MOST: u64 = 64;
+
+/// Answers its tag, and counts that it ran.
+#[derive(Drop)]
+struct Counted {
+    tag: u64,
+    runs: Arc<AtomicU64>,
+}
+
+impl BoxedTask for Counted {
+    ghost use Rattle.std.specs.Prelude.{◌≡◌};
+
+    ghost tag_of = { λ task. task.tag };
+
+    ghost may_answer = { λ task answer. answer ≡ task.tag };
+
+    fn tag(&self) -> u64 {
+        self.tag
+    }
+
+    fn run(&mut self) -> u64 {
+        self.runs.fetch_add(1, Ordering::SeqCst);
+        self.tag
+    }
+}
+
+/// What tells a job, or what it leaves, from others.
+trait Placed {
+    fn place(&self) -> u64;
+}
+
+impl Placed for BoxedJob {
+    fn place(&self) -> u64 {
+        self.0.tag()
+    }
+}
+
+impl Placed for TaskOut {
+    fn place(&self) -> u64 {
+        self.tag
+    }
+}
+
+impl Placed for Splits {
+    fn place(&self) -> u64 {
+        self.place
+    }
+}
+
+impl Placed for u64 {
+    fn place(&self) -> u64 {
+        *self
+    }
+}
+
+/// What a pool leaves of jobs of one step.
+#[derive(Drop)]
+struct Ended {
+    fault: Option<PoolFault>,
+    // The places of the outs and of the jobs that are left, sorted.
+    places: Vec<u64>,
+    outs: u64,
+    left: u64,
+    refused: u64,
+    // How many jobs ran, and how many were abandoned where that is known.
+    runs: u64,
+    abandons: Option<u64>,
+}
+
+fn ended_of<J, A>(
+    alloc: Global,
+    closed: Result<Closed<J, A>, PoolFault>,
+    runs: u64,
+    abandons: Option<u64>,
+) -> Result<Ended, AllocError>
+where
+    J: Job<A> + Drop + Placed,
+    J::Out: Drop + Placed,
+    A: Allocator,
+{
+    let mut ended = Ended {
+        fault: None,
+        places: Vec::new(alloc),
+        outs: 0,
+        left: 0,
+        refused: 0,
+        runs,
+        abandons,
+    };
+    match closed {
+        Ok(closed) => {
+            for list in &closed.outs {
+                for out in list {
+                    ended.places.push(out.place())?;
+                }
+            }
+            ended.outs = ended.places.len() as u64;
+            for job in &closed.left {
+                ended.places.push(job.place())?;
+            }
+            ended.places.sort_unstable();
+            ended.left = closed.left.len() as u64;
+            ended.refused = closed.refused;
+        }
+        Err(fault) => ended.fault = Some(fault),
+    }
+    Ok(ended)
+}
+
+// The tasks of some tags.
+fn tasks(
+    alloc: Global,
+    runs: &Arc<AtomicU64>,
+    tags: (u64, u64),
+) -> Result<Vec<BoxedJob>, AllocError> {
+    let mut jobs = Vec::new(alloc);
+    for tag in tags.0..tags.1 {
+        let runs = Arc::try_clone(runs)?;
+        jobs.push(BoxedJob(Box::new(alloc, Counted { tag, runs })?))?;
+    }
+    Ok(jobs)
+}
+
+// What a pool that gets so many allocations leaves of boxed tasks.
+fn run_tasks<RT: Threads + Wait + Sync>(
+    rt: &RT,
+    alloc: Global,
+    allocations: u64,
+    pool: Limited,
+) -> Result<Ended, AllocError> {
+    let heap = Sparing::new(alloc, allocations);
+    let runs = Arc::new(alloc, AtomicU64::new(0))?;
+    let first = tasks(alloc, &runs, (0, pool.first))?;
+    let cancelled = tasks(alloc, &runs, (pool.first, JOBS))?;
+    let closed = run_jobs(rt, &heap, pool, &(), first, cancelled);
+    ended_of(alloc, closed, runs.load(Ordering::SeqCst), None)
+}
+
+// The jobs of some places, which split off none.
+fn singles(alloc: Global, places: (u64, u64)) -> Result<Vec<Splits>, AllocError> {
+    let mut jobs = Vec::new(alloc);
+    for place in places.0..places.1 {
+        jobs.push(Splits { place, more: 0 })?;
+    }
+    Ok(jobs)
+}
+
+// The same of jobs that count how they end.
+fn run_singles<RT: Threads + Wait + Sync>(
+    rt: &RT,
+    alloc: Global,
+    allocations: u64,
+    pool: Limited,
+) -> Result<Ended, AllocError> {
+    let heap = Sparing::new(alloc, allocations);
+    let ends = Ends::new(None);
+    let first = singles(alloc, (0, pool.first))?;
+    let cancelled = singles(alloc, (pool.first, JOBS))?;
+    let closed = run_jobs(rt, &heap, pool, &ends, first, cancelled);
+    ended_of(alloc, closed, ends.steps(), Some(ends.abandons()))
+}
+
+// Each job ran once and has an out, or is left where the pool was cancelled, or was refused: then it
+// was abandoned, and no other was.
+fn expect_each_once<R: Abort>(rt: &R, pool: Limited, ended: &Ended) {
+    let jobs = (ended.places.len() as u64).checked_add(ended.refused);
+    let abandons = ended.abandons.unwrap_or(ended.refused);
+    let found = (jobs, ended.runs, abandons);
+    let wanted = (Some(JOBS), ended.outs, ended.refused);
+    assert_eq!(rt; found, wanted, "{pool:?}");
+    let each_once = ended.places.windows(2).all(|pair| pair[0] < pair[1]);
+    let each_below = ended.places.iter().all(|&place| place < JOBS);
+    let may_be_left = pool.first < JOBS || ended.left == 0;
+    assert!(rt; each_once && each_below && may_be_left, "{pool:?}");
+}
+
+/// Workers, how many are started, how many jobs are scheduled before a cancel, and when they can be
+/// taken.
+const POOLS: [(u32, u32, u64, Taken); 9] = [
+    (1, 0, 16, Taken::AnyTime),
+    (1, 1, 8, Taken::AnyTime),
+    (2, 0, 16, Taken::AnyTime),
+    (2, 0, 8, Taken::AnyTime),
+    (2, 1, 16, Taken::AnyTime),
+    (2, 1, 8, Taken::AnyTime),
+    (2, 2, 8, Taken::AnyTime),
+    (1, 1, 16, Taken::AtTheEnd),
+    (1, 1, 8, Taken::AtTheEnd),
+];
+
+// From the first number of allocations on that opens the pool, each job ends in one way. With the
+// most of them none is refused.
+#[test]
+fn each_allocation_of_jobs_and_a_cancel(rt: HostRuntime) -> Result<(), Fail> {
+    for (workers, starts, first, taken) in POOLS {
+        let pool = Limited {
+            workers,
+            starts,
+            first,
+            taken,
+        };
+        for are_boxed in [true, false] {
+            let mut is_opened = false;
+            for left in 0..=MOST {
+                let ended = if are_boxed {
+                    run_tasks(&rt, rt.alloc(), left, pool)?
+                } else {
+                    run_singles(&rt, rt.alloc(), left, pool)?
+                };
+                if ended.fault.is_none() {
+                    is_opened = true;
+                    expect_each_once(&rt, pool, &ended);
+                } else {
+                    let found = (ended.fault, ended.runs, is_opened);
+                    assert_eq!(rt; found, (Some(PoolFault::NoMemory), 0, false), "{pool:?}");
+                }
+                assert!(rt; ended.refused == 0 || left < MOST, "{pool:?}");
+            }
+            assert!(rt; is_opened, "{pool:?}");
+        }
+    }
+    Ok(())
+}
