@@ -1,5 +1,5 @@
-"""What docs/refusals, docs/starts, docs/streams and docs/texts share: the program, some requests,
-and the library that counts and refuses memory and threads."""
+"""What docs/refusals, docs/starts, docs/streams, docs/texts and docs/lines share: the programs, some
+requests, and the library that counts and refuses memory and threads."""
 
 import os
 import signal
@@ -12,6 +12,7 @@ import tempfile
 TOP = os.path.dirname(os.path.dirname(os.path.abspath(__file__)))
 PROGRAM = os.path.join(TOP, "crates", "tensor_run", "out", "tensor_run")
 PLAIN = os.path.join(TOP, "crates", "plain_run", "out", "plain_run")
+LINES_PROGRAM = os.path.join(TOP, "crates", "tensor_lines", "out", "tensor_lines")
 REFUSALS = os.path.join(TOP, "docs", "refusals.c")
 COMPILERS = ("cc", "gcc", "clang")
 COUNTS = struct.Struct("4Q")
@@ -36,10 +37,10 @@ PRODUCT = '["contract","l","r",[[1,0]]]'
 PRODUCT_LINE = '{"data":[22,49,28,64],"dims":[2,2]}\n'
 
 
-def need_program():
-    """Sees that the program is built, and that this script ends."""
+def need_program(program=PROGRAM):
+    """Sees that a program is built, and that this script ends."""
     signal.alarm(MOST_SECONDS)
-    if not os.access(PROGRAM, os.X_OK):
+    if not os.access(program, os.X_OK):
         sys.exit(f"{sys.argv[0]}: the program isn't built: ./run < examples/add.json builds it")
 
 
@@ -48,7 +49,7 @@ def status_of(line):
 
 
 def run(text, env=None, seconds=SECONDS, program=PROGRAM):
-    """Standard output, standard error and the status of the program; a signal is a number below 0,
+    """Standard output, standard error and the status of a program; a signal is a number below 0,
     and None stands for no end in time."""
     try:
         ran = subprocess.run(

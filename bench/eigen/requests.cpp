@@ -1,5 +1,6 @@
 // Answers the requests of bench/eigen/texts.py over Eigen: a text on standard input, the line
-// that answers it on standard output, byte by byte as the program beside it writes it.
+// that answers it on standard output, byte by byte as the program beside it writes it. With the word
+// `lines` there is a text in each line, and each is answered before more is read.
 //
 // A text is read whole, by simdjson, and its expression is looked up among the FORMS below, each
 // of which is one expression as it is written by hand in Eigen, where the compiler joins its
@@ -14,6 +15,7 @@
 #include <cstdint>
 #include <cstdio>
 #include <cstdlib>
+#include <cstring>
 #include <functional>
 #include <map>
 #include <string>
@@ -277,7 +279,9 @@ std::string nest(int count, const std::string& front, const std::string& inner,
   return text;
 }
 
-std::map<std::string, std::function<void(const Request&)>> forms() {
+using Forms = std::map<std::string, std::function<void(const Request&)>>;
+
+Forms forms() {
   const std::string line = R"(["broadcast","a",[#]])", square = R"(["broadcast","a",[#,#]])";
   const std::string other = R"(["broadcast","b",[#,#]])", cube = R"(["broadcast","a",[#,#,#]])";
   const std::string product = R"(["mul",)" + square + "," + other + "]";
@@ -419,11 +423,47 @@ std::vector<char> read_text(std::size_t& length) {
   }
 }
 
-Request read_request() {
-  std::size_t length = 0;
-  const std::vector<char> text = read_text(length);
-  simdjson::dom::parser parser;
-  const simdjson::dom::element read = parser.parse(text.data(), length, false);
+// The lines of standard input, each with the room behind it that simdjson asks for.
+class Lines {
+ public:
+  // The next line, or nullptr where there is no more.
+  char* next(std::size_t& length) {
+    std::size_t looked = 0;
+    while (true) {
+      char* line = text.data() + start;
+      if (void* feed = std::memchr(line + looked, '\n', end - start - looked)) {
+        length = static_cast<char*>(feed) - line;
+        start += length + 1;
+        return line;
+      }
+      looked = end - start;
+      if (!read_more()) {
+        length = looked;
+        start = end;
+        return length ? text.data() + end - length : nullptr;
+      }
+    }
+  }
+
+ private:
+  // What is left goes to the front, and more behind it.
+  bool read_more() {
+    std::memmove(text.data(), text.data() + start, end - start);
+    end -= start;
+    start = 0;
+    if (text.size() < end + simdjson::SIMDJSON_PADDING + 1) text.resize(2 * text.size());
+    const std::size_t room = text.size() - end - simdjson::SIMDJSON_PADDING;
+    const ssize_t count = read(STDIN_FILENO, text.data() + end, room);
+    if (count < 0) stop("a read failed");
+    end += count;
+    return count > 0;
+  }
+
+  std::vector<char> text = std::vector<char>(1 << 16);
+  std::size_t start = 0, end = 0;
+};
+
+Request request_of(simdjson::dom::element read) {
   Request request;
   request.workers = static_cast<int>(read["workers"].get_int64());
   for (auto field : read["inputs"].get_object()) {
@@ -433,15 +473,43 @@ Request read_request() {
   return request;
 }
 
-}  // namespace
-
-int main() {
-  try {
-    const Request request = read_request();
-    const auto known = forms();
+// The parser keeps its room from one text to the next.
+class Server {
+ public:
+  void answer(const char* text, std::size_t length) {
+    const Request request = request_of(parser.parse(text, length, false));
     const auto found = known.find(request.form);
     if (found == known.end()) stop("no form for " + request.form.substr(0, 200));
     found->second(request);
+  }
+
+ private:
+  simdjson::dom::parser parser;
+  const Forms known = forms();
+};
+
+void answer_text() {
+  std::size_t length = 0;
+  const std::vector<char> text = read_text(length);
+  Server().answer(text.data(), length);
+}
+
+void answer_lines() {
+  Lines lines;
+  Server server;
+  std::size_t length = 0;
+  while (const char* line = lines.next(length)) server.answer(line, length);
+}
+
+}  // namespace
+
+int main(int count, char** words) {
+  try {
+    if (count > 1 && words[1] == std::string("lines")) {
+      answer_lines();
+    } else {
+      answer_text();
+    }
   } catch (const simdjson::simdjson_error& error) {
     stop(error.what());
   }

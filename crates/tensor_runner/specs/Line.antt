@@ -1,5 +1,5 @@
 -- Lines on the way, for the private clauses of the engine.
-use Rattle.std.specs.Prelude.{◌≡◌, ℕ, ℤ, List, [], ◌∷◌, ◌++◌, map}
+use Rattle.std.specs.Prelude.{◌≡◌, ℕ, ℤ, List, [], ◌∷◌, ◌++◌, map, Option}
 use Rattle.std.specs.Cow.{cow_slice_items}
 use Rattle.serde_json.specs.Data.{Data, Items, number}
 use Rattle.serde_json.specs.View.{items_of}
@@ -7,6 +7,7 @@ use Rattle.serde_json.specs.Find.{of_integer}
 use Rattle.expr_reader.specs.Contents.{Contents}
 use Rattle.tensor_runner.specs.Answer.{Answer, tensor, fault, answer_of, line_of, status_of}
 use Rattle.tensor_runner.specs.Answer.{IsAnswerTo, numbers_text, tensor_line}
+use Rattle.tensor_runner.specs.Run.{IsLeft}
 use Rattle.expr_reader.specs.declared.fault.Fault.{Fault}
 use Rattle.tensor_runner.specs.declared.answer.Line.{Line}
 
@@ -38,3 +39,8 @@ pub record IsLineFor (text : List ℕ) (line : Line) : Type 0 where
   pub answers : IsAnswerTo text answer
   pub written : cow_slice_items line.bytes ≡ line_of answer
   pub status : line.status ≡ status_of answer
+
+-- the line of an answer to a text that was read so far
+pub record IsLineOfRead (text : List ℕ) (remaining : Option (List ℕ)) (line : Line) : Type 0 where
+  pub answer : IsLineFor text line
+  pub left : IsLeft text answer.answer remaining

@@ -1,5 +1,5 @@
 -- Pieces that are read and written, for the private clauses of the engine.
-use Rattle.std.specs.Prelude.{◌≡◌, ◌<◌, ◌≤◌, ℕ, List, ◌++◌, length, take, Option}
+use Rattle.std.specs.Prelude.{◌≡◌, ◌<◌, ◌≤◌, ℕ, List, ◌++◌, length, take, drop, Option, Some}
 use Rattle.std.specs.Prelude.{Result, Ok, Err}
 use Rattle.std.specs.Io.KnownBytes.{Appends, Consumes, IsAtEnd}
 use Rattle.tensor_runner.specs.Run.{most_reads}
@@ -18,6 +18,11 @@ abbrev pub IsUnread : {A : Type 0} → Result A Unread → ℕ → ℕ → Type 
 IsUnread (Ok x) before after = after ≡ before
 IsUnread (Err Failed) before after = HasFailed before after
 IsUnread (Err NoMemory) before after = after ≡ before
+
+-- the first bytes of all, as many as are read of a text, and what is left of all
+pub record IsFrontOf (all front : List ℕ) (remaining : Option (List ℕ)) : Type 0 where
+  pub taken : front ≡ take most_reads all
+  pub left : remaining ≡ Some (drop most_reads all)
 
 -- so many bytes were taken behind those that were there, and none only at the end
 pub record Takes (before after : Option (List ℕ)) (old new : List ℕ) (count : ℕ) : Type 0 where

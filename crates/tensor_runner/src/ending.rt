@@ -1,11 +1,15 @@
-//! What the program ends with.
+//! Says what a program ends with: its status, and what it complains of.
 
-ghost use Rattle.std.specs.Prelude.{◌≡◌, ◌⊎◌, ◌+◌, ◌≤◌, Ok, Err, None, Some};
+ghost use Rattle.std.specs.Prelude.{◌≡◌, ◌⊎◌, ◌+◌, ◌≤◌, Err, None, Some, IfSome};
 ghost use Rattle.tensor_runner.specs.Ending.{complaint_in, IsEndingOf, EndsAnswered, EndsCutShort};
-ghost use Rattle.tensor_runner.specs.Run.{most_reads};
+ghost use Rattle.tensor_runner.specs.Ending.{EndsLines, EndsInLine, EndsInAnswer};
+ghost use Rattle.tensor_runner.specs.History.{IsNew};
+ghost use Rattle.tensor_runner.specs.Run.{most_reads, TakesAtMost};
 ghost use Rattle.tensor_runner.specs.Streams.{HasFailed};
 
+use crate::client::Client;
 use crate::engine::run;
+use crate::server::answer_lines;
 use crate::sink::Sink;
 use crate::source::Source;
 use crate::status::{Status, StreamFault};
@@ -16,7 +20,7 @@ use std::thread::Threads;
 /// The exit status, and what stands on standard error.
 #[derive(Clone, Copy, Debug, Drop, Eq, PartialEq)]
 pub struct Ending {
-    /// 0 for a tensor's line, 1 for a fault's and where a stream failed.
+    /// 0 for a tensor's line, 1 for a fault's; of many lines 0; 1 where a stream failed.
     pub status: u8,
     /// The line of a stream fault, with its line feed.
     pub complaint: Option<&'static str>,
@@ -30,22 +34,51 @@ pub fn serve<RT: Threads + Wait + Sync, R: Source, W: Sink>(
     writer: &mut W,
 ) -> Ending
     // A line was written whole, or the reader failed, or the writer.
-    ensures ended { (EndsAnswered (R.remaining reader.old)
+    ensures ended { (EndsAnswered (R.remaining reader.old) (R.remaining reader.new)
         (W.contents writer.old) (W.contents writer.new) result
         × (R.failures reader.new ≡ R.failures reader.old)
         × (W.failures writer.new ≡ W.failures writer.old))
         ⊎ ((IsEndingOf (Err StreamFault.ReadFault) result
         × HasFailed (R.failures reader.old) (R.failures reader.new)
         × (writer.new ≡ writer.old))
-        ⊎ (EndsCutShort (R.remaining reader.old)
+        ⊎ (EndsCutShort (R.remaining reader.old) (R.remaining reader.new)
         (W.contents writer.old) (W.contents writer.new) result
         × (R.failures reader.new ≡ R.failures reader.old)
         × HasFailed (W.failures writer.old) (W.failures writer.new))) }
+    ensures taken { TakesAtMost most_reads (R.remaining reader.old) (R.remaining reader.new) }
     ensures reads { R.calls reader.new ≤ R.calls reader.old + most_reads }
 {
     match run(rt, alloc, reader, writer) {
         Ok(Status::Tensor) => quiet(0),
         Ok(Status::Fault) => quiet(1),
+        Err(StreamFault::ReadFault) => complaining("error 16 ReadFault\n"),
+        Err(StreamFault::WriteFault) => complaining("error 17 WriteFault\n"),
+    }
+}
+
+/// Answers the lines of a client, as [`answer_lines`] does, and says what the program ends with.
+pub fn serve_lines<RT: Threads + Wait + Sync, C: Client>(
+    rt: &RT,
+    alloc: Global,
+    client: &mut C,
+) -> Ending
+    requires { IfSome (C.history client.old) IsNew }
+    // All lines were answered, or a read failed, or a write.
+    ensures ended { (EndsLines (C.remaining client.old)
+        (C.contents client.old) (C.contents client.new) result
+        × (C.read_failures client.new ≡ C.read_failures client.old)
+        × (C.write_failures client.new ≡ C.write_failures client.old))
+        ⊎ ((EndsInLine (C.remaining client.old) (C.remaining client.new)
+        (C.contents client.old) (C.contents client.new) result
+        × HasFailed (C.read_failures client.old) (C.read_failures client.new)
+        × (C.write_failures client.new ≡ C.write_failures client.old))
+        ⊎ (EndsInAnswer (C.remaining client.old)
+        (C.contents client.old) (C.contents client.new) result
+        × (C.read_failures client.new ≡ C.read_failures client.old)
+        × HasFailed (C.write_failures client.old) (C.write_failures client.new))) }
+{
+    match answer_lines(rt, alloc, client) {
+        Ok(()) => quiet(0),
         Err(StreamFault::ReadFault) => complaining("error 16 ReadFault\n"),
         Err(StreamFault::WriteFault) => complaining("error 17 WriteFault\n"),
     }

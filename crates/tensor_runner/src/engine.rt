@@ -1,8 +1,8 @@
-//! From a stream to a line on another.
+//! Reads a text from a stream and writes its answer on another.
 
 ghost use Rattle.std.specs.Prelude.{◌≡◌, ◌+◌, ◌≤◌, List, ℕ, Some, Err, OnOk, IfOk, IfErr};
-ghost use Rattle.tensor_runner.specs.Line.{IsLineFor};
-ghost use Rattle.tensor_runner.specs.Run.{most_reads, Answers, CutsShort};
+ghost use Rattle.tensor_runner.specs.Line.{IsLineOfRead};
+ghost use Rattle.tensor_runner.specs.Run.{most_reads, TakesAtMost, Answers, CutsShort};
 ghost use Rattle.tensor_runner.specs.Streams.{HasFailed};
 
 use crate::answer::{Line, answer, no_memory};
@@ -36,10 +36,12 @@ pub fn run<RT: Threads + Wait + Sync, R: Source, W: Sink>(
 ) -> Result<Status, StreamFault>
     ensures answered { (text held : List ℕ) → R.remaining reader.old ≡ Some text
         → W.contents writer.old ≡ Some held
-        → IfOk result (Answers text held (W.contents writer.new)) }
+        → IfOk result (Answers text held (R.remaining reader.new) (W.contents writer.new)) }
     ensures cut_short { (text held : List ℕ) → R.remaining reader.old ≡ Some text
         → W.contents writer.old ≡ Some held → result ≡ Err StreamFault.WriteFault
-        → CutsShort text held (W.contents writer.new) }
+        → CutsShort text held (R.remaining reader.new) (W.contents writer.new) }
+    // Whatever it ends with.
+    ensures taken { TakesAtMost most_reads (R.remaining reader.old) (R.remaining reader.new) }
 
     ensures read_fault { result ≡ Err StreamFault.ReadFault
         → HasFailed (R.failures reader.old) (R.failures reader.new) × (writer.new ≡ writer.old) }
@@ -62,7 +64,8 @@ fn prepare<RT: Threads + Wait + Sync, R: Source>(
     reader: &mut R,
 ) -> Result<Line, StreamFault>
     ensures line { IfOk result (λ line. (text : List ℕ) → R.remaining reader.old ≡ Some text
-        → IsLineFor text line) }
+        → IsLineOfRead text (R.remaining reader.new) line) }
+    ensures taken { TakesAtMost most_reads (R.remaining reader.old) (R.remaining reader.new) }
     ensures ok_failures { OnOk result (R.failures reader.new ≡ R.failures reader.old) }
     ensures err { IfErr result (λ fault. (fault ≡ StreamFault.ReadFault)
         × HasFailed (R.failures reader.old) (R.failures reader.new)) }

@@ -1,22 +1,28 @@
-//! The engine: a request text in, one line out. What is written is the tensor that the text's
-//! expression means, or its first fault.
+//! The engine: a request text in, one line out; or many texts, a line each. What is written is the
+//! tensor that a text's expression means, or its first fault.
 #![tactic(auto)]
 
 mod answer;
+mod buffer;
+mod client;
 mod ending;
 mod engine;
 mod evaluation;
 mod reading;
+mod server;
 mod sink;
 mod source;
 mod status;
+mod taking;
 mod text;
 mod writing;
 
-pub use ending::{Ending, serve};
+pub use client::{Client, Connection};
+pub use ending::{Ending, serve, serve_lines};
 pub use engine::{MOST_READ, run};
 pub use evaluation::eval;
 pub use expr_reader::{Request, Tensor};
+pub use server::answer_lines;
 pub use sink::{CountedWriter, Sink};
 pub use source::{CountedReader, Source};
 pub use status::{RunFault, Status, StreamFault};

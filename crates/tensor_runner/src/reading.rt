@@ -1,15 +1,15 @@
 //! Reading a text.
 
-ghost use Rattle.std.specs.Prelude.{◌≡◌, ◌+◌, ◌≤◌, ◌<◌, length, take, IfOk, IfSome};
-ghost use Rattle.tensor_runner.specs.Pieces.{IsUnread, Takes};
-ghost use Rattle.tensor_runner.specs.Run.{most_reads};
+ghost use Rattle.std.specs.Prelude.{◌≡◌, ◌+◌, ◌-◌, ◌≤◌, ◌<◌, length, IfOk, IfSome};
+ghost use Rattle.tensor_runner.specs.Pieces.{IsUnread, IsFrontOf, Takes};
+ghost use Rattle.tensor_runner.specs.Run.{most_reads, TakesAtMost};
 
 use crate::engine::MOST_READ;
 use crate::source::Source;
 use std::alloc::Global;
 
 /// How many bytes a read asks for.
-const CHUNK: usize = 65_536;
+pub(crate) const CHUNK: usize = 65_536;
 
 /// Why there is no text.
 #[derive(Clone, Copy, Debug, Drop, Eq, PartialEq)]
@@ -23,7 +23,8 @@ pub(crate) enum Unread {
 /// The bytes of a stream to its end, or its first [`MOST_READ`].
 pub(crate) fn read_text<R: Source>(alloc: Global, reader: &mut R) -> Result<Vec<u8>, Unread>
     ensures text { IfOk result (λ text. IfSome (R.remaining reader.old)
-        (λ all. text.items ≡ take most_reads all)) }
+        (λ all. IsFrontOf all text.items (R.remaining reader.new))) }
+    ensures taken { TakesAtMost most_reads (R.remaining reader.old) (R.remaining reader.new) }
     ensures calls { R.calls reader.new ≤ R.calls reader.old + most_reads }
     ensures failures { IsUnread result (R.failures reader.old) (R.failures reader.new) }
 {
@@ -51,6 +52,8 @@ fn read_some<R: Source>(
     ensures taken { IfOk result (λ count.
         Takes (R.remaining reader.old) (R.remaining reader.new)
         text.old.items text.new.items count) }
+    ensures at_most { TakesAtMost (most_reads - length text.old.items)
+        (R.remaining reader.old) (R.remaining reader.new) }
     ensures calls { R.calls reader.new ≤ R.calls reader.old + 1 }
     ensures failures { IsUnread result (R.failures reader.old) (R.failures reader.new) }
 {

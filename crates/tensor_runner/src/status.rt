@@ -21,13 +21,13 @@ pub enum RunFault {
     NoMemory = 15,
 }
 
-/// Why no whole line was written.
+/// Why an answer isn't written, or not whole.
 #[derive(Clone, Copy, Debug, Drop, Eq, PartialEq, Error)]
 pub enum StreamFault {
-    /// A read failed. Nothing was written.
+    /// A read failed. Nothing was written for what was read of its text.
     #[error("a read failed")]
     ReadFault = 16,
-    /// A write failed, or took nothing. What was written is the front of the line.
+    /// A write failed, or took nothing. What was written is a front of what was to be.
     #[error("a write failed")]
     WriteFault = 17,
 }

@@ -2,7 +2,8 @@
 //! request text to the line that answers it.
 //!
 //! What a file of cases can hold stands in `request_cases`. Here are texts with bytes of their own
-//! or of the greatest length, and runs over readers and writers that give or take little, or fail.
+//! or of the greatest length, and runs, and many lines, over readers and writers that give or take
+//! little, or fail.
 #![tactic(auto)]
 
 #[cfg(test)]
@@ -11,6 +12,8 @@ mod copies;
 mod dims;
 #[cfg(test)]
 mod faults;
+#[cfg(test)]
+mod lines;
 #[cfg(test)]
 mod parts;
 #[cfg(test)]

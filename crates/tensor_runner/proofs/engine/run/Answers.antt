@@ -7,7 +7,8 @@ use Rattle.tensor_runner.proofs.engine.run.Goals as goal
 
 pub returns-in_err-write_line-clause-cut_short : goal.returns-in_err-write_line-clause-cut_short
 returns-in_err-write_line-clause-cut_short g c = λ text held known holds failed.
-    let line = c.in_ok-line.ensures.line text known in
+    let read = c.in_ok-line.ensures.line text known in
+    let line = read.answer in
     let bytes : c.as_slice.result.now ≡ line_of line.answer =
     c.as_slice.ensures.value ∙ line.written in
     let front = c.in_err-write_line.ensures.err.1 in
@@ -19,6 +20,7 @@ returns-in_err-write_line-clause-cut_short g c = λ text held known holds failed
     record {
       answer = line.answer;
       answers = line.answers;
+      left = read.left;
       taken = cut.0;
       short = cut.1;
       written = Appends-Some held (g.W.Sink.contents c.write_line.new.writer) (take cut.0 (line_of line.answer)) cut.2;
@@ -26,7 +28,8 @@ returns-in_err-write_line-clause-cut_short g c = λ text held known holds failed
 
 pub returns-clause-answered : goal.returns-clause-answered
 returns-clause-answered g c = λ text held known holds.
-    let line = c.in_ok-line.ensures.line text known in
+    let read = c.in_ok-line.ensures.line text known in
+    let line = read.answer in
     let bytes : c.as_slice.result.now ≡ line_of line.answer =
     c.as_slice.ensures.value ∙ line.written in
     let whole : Appends (Some held) (g.W.Sink.contents c.write_line.new.writer) (line_of line.answer) =
@@ -35,6 +38,7 @@ returns-clause-answered g c = λ text held known holds.
     record {
       answer = line.answer;
       answers = line.answers;
+      left = read.left;
       written = Appends-Some held (g.W.Sink.contents c.write_line.new.writer) (line_of line.answer) whole;
       told = line.status;
     }

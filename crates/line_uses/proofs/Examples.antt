@@ -1,0 +1,45 @@
+-- The lines of small texts, what answers an empty one, and a history that owes an answer.
+use Rattle.std.proofs.Common.{◌≡◌, ℕ, List, [], ◌∷◌, ◌++◌, refl, codes}
+use Rattle.std.specs.Str.{is_utf8, chars}
+use Rattle.json.specs.Json.{value}
+use Rattle.json.specs.Lex.{punctuate, lex}
+use Rattle.expr_reader.specs.declared.fault.Fault.TheVariants.{NotJson}
+use Rattle.tensor_runner.specs.Answer.{Answer, tensor, fault, answer_of, line_of}
+use Rattle.tensor_runner.specs.Lines.{lines_of, whole_lines, AreAnswersTo, lines_answering}
+use Rattle.tensor_runner.specs.History.{History, OwesNothing}
+
+pub empty_text : lines_of [] ≡ []
+empty_text = refl
+
+pub lone_feed : lines_of (10 ∷ []) ≡ [] ∷ []
+lone_feed = refl
+
+pub three_lines : lines_of (codes "a" ++ 10 ∷ 10 ∷ codes "bc") ≡ codes "a" ∷ [] ∷ codes "bc" ∷ []
+three_lines = refl
+
+pub two_whole : whole_lines (codes "a" ++ 10 ∷ 10 ∷ codes "bc") ≡ codes "a" ∷ [] ∷ []
+two_whole = refl
+
+pub feed_at_the_end : lines_of (codes "a" ++ 13 ∷ 10 ∷ []) ≡ (codes "a" ++ 13 ∷ []) ∷ []
+feed_at_the_end = refl
+
+pub answer_of-nothing : answer_of [] ≡ fault NotJson
+unfolding is_utf8 chars value punctuate lex
+answer_of-nothing = refl
+
+-- an answer's line isn't empty
+line_of-some : (a : Answer) (more : List ℕ) → [] ≡ line_of a ++ more → ⊥
+line_of-some (tensor t) more is = cc
+line_of-some (fault f) more is = cc
+
+-- one whole line was read and nothing is written: an answer is owed
+pub owing : History
+owing = record { taken = 97 ∷ 10 ∷ []; written = [] }
+
+owes_answer : (answers : List Answer) → AreAnswersTo (codes "a" ∷ []) answers → [] ≡ lines_answering answers → ⊥
+owes_answer [] are is = are
+owes_answer (a ∷ answers) are is = line_of-some a (lines_answering answers) is
+
+pub owes : ¬ OwesNothing owing
+unfolding owing
+owes nothing = owes_answer nothing.answers nothing.answered nothing.written

@@ -1,0 +1,160 @@
+-- Lines and their line feeds.
+use Rattle.std.proofs.Common.{◌≡◌, ◌==◌, ◌<◌, ◌≤◌, ◌+◌, ◌-◌, ℕ, suc, min, List, [], ◌∷◌, ◌++◌, length, take, drop, get_or}
+use Rattle.std.proofs.Common.{true, false, All, refl, ap, sym, ◌∙◌, subst, append_assoc, arith, inl, inr}
+use Rattle.std.specs.List.{slice_index}
+use Rattle.std.proofs.Math.Seq.{take-append-add, split_at}
+use Rattle.std.proofs.lemmas.List.{append-nil, take_all, take-append-le, drop-take, drop-drop, length-take-le, length-take, get_or-take}
+use Rattle.std.proofs.lemmas.List.Elements.{All-head, All-tail, All-from_get_or}
+use Rattle.std.proofs.lemmas.Bool.{cases_lt, eqb-true, false_from_ne_true}
+use Rattle.memchr.specs.Find.{Passes, is_byte, Nowhere}
+use Rattle.tensor_runner.specs.Answer.{Answer, answer_of, line_of}
+use Rattle.tensor_runner.specs.Taking.{HasNoFeed, with_feeds}
+use Rattle.tensor_runner.specs.Lines.{lines_of, whole_lines, AreAnswersTo, lines_answering}
+
+-- a byte that is no line feed
+abbrev IsPlain : ℕ → Type 0
+IsPlain b = (b == 10) ≡ false
+
+-- a line, its line feed and more
+pub lines_of-feed : (line more : List ℕ) → HasNoFeed line → lines_of (line ++ 10 ∷ more) ≡ line ∷ lines_of more
+lines_of-feed [] more plain = refl
+lines_of-feed (b ∷ line) more plain =
+    rw (All-head IsPlain b line plain, lines_of-feed line more (All-tail IsPlain b line plain)) refl
+
+pub whole_lines-feed : (line more : List ℕ) → HasNoFeed line → whole_lines (line ++ 10 ∷ more) ≡ line ∷ whole_lines more
+whole_lines-feed [] more plain = refl
+whole_lines-feed (b ∷ line) more plain =
+    rw (All-head IsPlain b line plain, whole_lines-feed line more (All-tail IsPlain b line plain)) refl
+
+with_feeds-cons : (line : List ℕ) (done : List (List ℕ)) (more : List ℕ)
+    → with_feeds (line ∷ done) ++ more ≡ line ++ 10 ∷ (with_feeds done ++ more)
+with_feeds-cons line done more = simp append_assoc
+
+-- lines with their line feeds, and more
+pub lines_of-with_feeds : (done : List (List ℕ)) (more : List ℕ) → All HasNoFeed done → lines_of (with_feeds done ++ more) ≡ done ++ lines_of more
+lines_of-with_feeds [] more plain = refl
+lines_of-with_feeds (line ∷ done) more plain =
+    ap lines_of (with_feeds-cons line done more)
+    ∙ lines_of-feed line (with_feeds done ++ more) (All-head HasNoFeed line done plain)
+    ∙ ap (λ (l : List (List ℕ)). line ∷ l) (lines_of-with_feeds done more (All-tail HasNoFeed line done plain))
+
+pub whole_lines-with_feeds : (done : List (List ℕ)) (more : List ℕ) → All HasNoFeed done → whole_lines (with_feeds done ++ more) ≡ done ++ whole_lines more
+whole_lines-with_feeds [] more plain = refl
+whole_lines-with_feeds (line ∷ done) more plain =
+    ap whole_lines (with_feeds-cons line done more)
+    ∙ whole_lines-feed line (with_feeds done ++ more) (All-head HasNoFeed line done plain)
+    ∙ ap (λ (l : List (List ℕ)). line ∷ l) (whole_lines-with_feeds done more (All-tail HasNoFeed line done plain))
+
+-- bytes with no line feed are one line, where there are some
+pub lines_of-last : (line : List ℕ) → HasNoFeed line → 0 < length line → lines_of line ≡ line ∷ []
+lines_of-last [] plain some = absurd (omega arith)
+lines_of-last (b ∷ []) plain some = rw (All-head IsPlain b [] plain) refl
+lines_of-last (b ∷ c ∷ line) plain some =
+    rw (All-head IsPlain b (c ∷ line) plain, lines_of-last (c ∷ line) (All-tail IsPlain b (c ∷ line) plain) (omega arith)) refl
+
+-- and no whole one
+pub whole_lines-open : (line : List ℕ) → HasNoFeed line → whole_lines line ≡ []
+whole_lines-open [] plain = refl
+whole_lines-open (b ∷ line) plain =
+    rw (All-head IsPlain b line plain, whole_lines-open line (All-tail IsPlain b line plain)) refl
+
+-- one line more, with its line feed
+pub with_feeds-push : (done : List (List ℕ)) (line more : List ℕ)
+    → with_feeds (done ++ line ∷ []) ++ more ≡ with_feeds done ++ (line ++ 10 ∷ more)
+with_feeds-push [] line more = with_feeds-cons line [] more
+with_feeds-push (first ∷ done) line more =
+    with_feeds-cons first (done ++ line ∷ []) more
+    ∙ ap (λ (t : List ℕ). first ++ 10 ∷ t) (with_feeds-push done line more)
+    ∙ sym (with_feeds-cons first done (line ++ 10 ∷ more))
+
+-- a piece behind what is kept of a line
+take-min : (k : ℕ) (piece : List ℕ) → take (min k (length piece)) piece ≡ take k piece
+take-min k piece = elim (cases_lt (length piece) k) [
+  | inl less ↦ let same : min k (length piece) ≡ length piece = omega arith in
+      rw same (take_all (length piece) piece (omega arith) ∙ sym (take_all k piece (omega arith)))
+  | inr more ↦ let same : min k (length piece) ≡ k = omega arith in rw same refl
+]
+
+pub take-behind : (n : ℕ) (line text piece : List ℕ) → text ≡ take n line
+    → text ++ take (min (n - length text) (length piece)) piece ≡ take n (line ++ piece)
+take-behind n line text piece is = elim (cases_lt (length line) n) [
+  | inl less ↦
+      let all : text ≡ line = is ∙ take_all n line (omega arith) in
+      let sum : length line + (n - length line) ≡ n = omega arith in
+      rw all (ap (λ (t : List ℕ). line ++ t) (take-min (n - length line) piece)
+      ∙ sym (take-append-add line piece (n - length line))
+      ∙ ap (λ (k : ℕ). take k (line ++ piece)) sum)
+  | inr more ↦
+      let full : length text ≡ n = ap length is ∙ length-take-le n line more in
+      let none : min (n - length text) (length piece) ≡ 0 = omega arith in
+      rw none (append-nil text ∙ is ∙ sym (take-append-le n line piece more))
+]
+
+-- all that a text is answered by
+pub answers_of : (texts : List (List ℕ)) → (answers : List Answer) × AreAnswersTo texts answers
+answers_of [] = ([], tt)
+answers_of (text ∷ texts) = (answer_of text ∷ (answers_of texts).0, (inl refl, (answers_of texts).1))
+
+pub AreAnswersTo-append : (texts more : List (List ℕ)) (answers others : List Answer) → AreAnswersTo texts answers → AreAnswersTo more others
+    → AreAnswersTo (texts ++ more) (answers ++ others)
+AreAnswersTo-append [] more [] others first then = then
+AreAnswersTo-append [] more (a ∷ answers) others first then = absurd first
+AreAnswersTo-append (t ∷ texts) more [] others first then = absurd first
+AreAnswersTo-append (t ∷ texts) more (a ∷ answers) others first then =
+    (first.0, AreAnswersTo-append texts more answers others first.1 then)
+
+pub length-AreAnswersTo : (texts : List (List ℕ)) (answers : List Answer) → AreAnswersTo texts answers → length answers ≡ length texts
+length-AreAnswersTo [] [] are = refl
+length-AreAnswersTo [] (a ∷ answers) are = absurd are
+length-AreAnswersTo (t ∷ texts) [] are = absurd are
+length-AreAnswersTo (t ∷ texts) (a ∷ answers) are = ap suc (length-AreAnswersTo texts answers are.1)
+
+-- no line feed where none was found
+pub HasNoFeed-take : (held : List ℕ) (place : ℕ) → Nowhere (Passes (is_byte 10) held) 0 place → HasNoFeed (take place held)
+HasNoFeed-take held place nowhere =
+    All-from_get_or IsPlain (take place held) 0 (λ k within.
+    let near : k < place = omega (arith, length-take place held) in
+    let same : get_or (take place held) k 0 ≡ get_or held k 0 = get_or-take place held k 0 near in
+    false_from_ne_true (get_or (take place held) k 0 == 10)
+    (λ feed. nowhere k (omega arith) near (subst (λ (b : ℕ). (b == 10) ≡ true) same feed)))
+
+pub HasNoFeed-all : (held : List ℕ) → Nowhere (Passes (is_byte 10) held) 0 (length held) → HasNoFeed held
+HasNoFeed-all held nowhere =
+    subst HasNoFeed (take_all (length held) held (omega arith)) (HasNoFeed-take held (length held) nowhere)
+
+-- what is held, parted at a line feed
+pub parted_at : (bytes : List ℕ) (start stop place : ℕ)
+    → place < length (take (stop - start) (drop start bytes))
+    → (slice_index (take (stop - start) (drop start bytes)) place == 10) ≡ true
+    → take (stop - start) (drop start bytes)
+    ≡ take place (take (stop - start) (drop start bytes)) ++ 10 ∷ take (stop - (start + (place + 1))) (drop (start + (place + 1)) bytes)
+parted_at bytes start stop place within feed =
+    let held : List ℕ = take (stop - start) (drop start bytes) in
+    let room : place + 1 ≤ stop - start = omega (arith, within, length-take (stop - start) (drop start bytes)) in
+    let sum : (place + 1) + (stop - (start + (place + 1))) ≡ stop - start = omega arith in
+    let rest : drop (place + 1) held ≡ take (stop - (start + (place + 1))) (drop (start + (place + 1)) bytes) =
+    ap (λ (n : ℕ). drop (place + 1) (take n (drop start bytes))) (sym sum)
+    ∙ drop-take (place + 1) (stop - (start + (place + 1))) (drop start bytes)
+    ∙ ap (λ (l : List ℕ). take (stop - (start + (place + 1))) l) (drop-drop (place + 1) start bytes) in
+    let next : suc place ≡ place + 1 = omega arith in
+    let after : drop (suc place) held ≡ take (stop - (start + (place + 1))) (drop (start + (place + 1)) bytes) =
+    ap (λ (n : ℕ). drop n held) next ∙ rest in
+    split_at held place 0 within
+    ∙ ap (λ (b : ℕ). take place held ++ b ∷ drop (suc place) held) (eqb-true (get_or held place 0) 10 feed)
+    ∙ ap (λ (l : List ℕ). take place held ++ 10 ∷ l) after
+
+-- the line of one answer more
+pub lines_answering-push : (answers : List Answer) (a : Answer) → lines_answering answers ++ line_of a ≡ lines_answering (answers ++ a ∷ [])
+lines_answering-push [] a = sym (append-nil (line_of a))
+lines_answering-push (first ∷ answers) a =
+    append_assoc (line_of first) (lines_answering answers) (line_of a)
+    ∙ ap (λ (t : List ℕ). line_of first ++ t) (lines_answering-push answers a)
+
+-- nothing is held from the end on
+pub none_left : (bytes : List ℕ) (stop : ℕ) → take (stop - stop) (drop stop bytes) ≡ []
+none_left bytes stop =
+    let nothing : stop - stop ≡ 0 = omega arith in
+    rw nothing refl
+
+pub none_behind : (bytes : List ℕ) (stop : ℕ) (held : List ℕ) → held ≡ held ++ take (stop - stop) (drop stop bytes)
+none_behind bytes stop held = sym (ap (λ (l : List ℕ). held ++ l) (none_left bytes stop) ∙ append-nil held)

@@ -1,0 +1,304 @@
+-- From line to line.
+use Rattle.std.proofs.Common.{◌≡◌, ◌<◌, ◌≤◌, ◌+◌, ℕ, min, List, [], ◌∷◌, ◌++◌, length, take}
+use Rattle.std.proofs.Common.{Bool, true, false, Option, Some, None, IfSome, option_map, refl, ap, sym, ◌∙◌, subst, append_assoc, arith, length-append}
+use Rattle.std.proofs.Math.Seq.{take-append-add}
+use Rattle.std.proofs.lemmas.List.{append-nil, take_all, take-append-le, length-take}
+use Rattle.std.proofs.lemmas.List.Concat.{flat_map-append}
+use Rattle.std.proofs.lemmas.List.Elements.{All-push, All-nil}
+use Rattle.std.specs.Cow.{cow_slice_items}
+use Rattle.std.specs.Io.KnownBytes.{Appends, Consumes, IsAtEnd}
+use Rattle.tensor_runner.specs.Answer.{Answer, IsAnswerTo, line_of}
+use Rattle.tensor_runner.specs.History.{History, writing}
+use Rattle.tensor_runner.specs.Line.{IsLineFor}
+use Rattle.tensor_runner.specs.Lines.{lines_of, whole_lines, AreAnswersTo, lines_answering}
+use Rattle.tensor_runner.specs.Lines.{AnswersLines, BreaksOff, CutsLinesShort}
+use Rattle.tensor_runner.specs.Pieces.{AppendsFront}
+use Rattle.tensor_runner.specs.Run.{most_reads}
+use Rattle.tensor_runner.specs.Server.{Serves, KeepsNone, HasNothing, IsNothing}
+use Rattle.tensor_runner.specs.Taking.{HasNoFeed, with_feeds, IsKept, TakesLine, StopsInLine, behind, IsCaughtUp}
+use Rattle.tensor_runner.specs.declared.answer.Line.{Line}
+use Rattle.tensor_runner.specs.declared.buffer.KeptLine.{KeptLine}
+use Rattle.tensor_runner.specs.declared.buffer.KeptLine.TheVariants.{Text, NoMemory}
+use Rattle.tensor_runner.specs.declared.buffer.NextLine.{NextLine}
+use Rattle.tensor_runner.proofs.Histories.{IsCaughtUp-more}
+use Rattle.tensor_runner.proofs.Parts.{lines_of-with_feeds, lines_of-feed, lines_of-last, whole_lines-with_feeds, whole_lines-open}
+use Rattle.tensor_runner.proofs.Parts.{with_feeds-push, AreAnswersTo-append, lines_answering-push, answers_of}
+use Rattle.tensor_runner.proofs.Streams.{Consumes-trans, Consumes-none, Appends-trans, Appends-Some}
+
+-- what was consumed of what is known
+pub Consumes-Some : (text : List ℕ) (b : Option (List ℕ)) (xs : List ℕ) → Consumes (Some text) b xs
+    → (rest : List ℕ) × (text ≡ xs ++ rest) × (b ≡ Some rest)
+Consumes-Some text None xs taken = absurd taken
+Consumes-Some text (Some rest) xs taken = (rest, taken, refl)
+
+Appends-none : (a : Option (List ℕ)) → Appends a a []
+Appends-none None = tt
+Appends-none (Some all) = sym (append-nil all)
+
+-- what is kept of a line tells whether it is empty
+pub nothing_kept : (line : List ℕ) (kept : KeptLine) → IsKept line kept → KeepsNone kept → line ≡ []
+nothing_kept [] kept is none = refl
+nothing_kept (b ∷ line) (Text text) is none =
+    let no : 0 ≡ min most_reads (length (b ∷ line)) = ap length (sym none ∙ is) ∙ length-take most_reads (b ∷ line) in
+    absurd (omega arith)
+nothing_kept (b ∷ line) NoMemory is none = absurd none
+
+pub some_kept : (line : List ℕ) (kept : KeptLine) → IsKept line kept → ¬ KeepsNone kept → 0 < length line
+some_kept [] (Text text) is some = absurd (some (is ∙ take_all most_reads [] (omega arith)))
+some_kept [] NoMemory is some = is
+some_kept (b ∷ line) kept is some = omega arith
+
+-- before the first line
+pub Serves-start : (r c : Option (List ℕ)) (pending : List ℕ) → pending ≡ [] → Serves r r c c pending
+Serves-start r c pending nothing = record {
+  done = [];
+  answers = [];
+  bytes = [];
+  consumed = Consumes-none r;
+  parted = sym nothing;
+  no_feeds = All-nil HasNoFeed;
+  answered = tt;
+  appended = Appends-none c;
+}
+
+-- the bytes up to the end of a line
+bytes_with : (done : List (List ℕ)) (bytes old more all : List ℕ) → bytes ≡ with_feeds done ++ old → old ++ more ≡ all
+    → bytes ++ more ≡ with_feeds done ++ all
+bytes_with done bytes old more all parted next =
+    ap (λ (l : List ℕ). l ++ more) parted ∙ append_assoc (with_feeds done) old more ∙ ap (λ (l : List ℕ). with_feeds done ++ l) next
+
+-- a line more
+pub Serves-more : (r0 r1 r2 c0 c1 c2 : Option (List ℕ)) (old new line more : List ℕ) (a : Answer)
+    → Serves r0 r1 c0 c1 old → Consumes r1 r2 more → old ++ more ≡ line ++ 10 ∷ new → HasNoFeed line
+    → IsAnswerTo line a → Appends c1 c2 (line_of a) → Serves r0 r2 c0 c2 new
+Serves-more r0 r1 r2 c0 c1 c2 old new line more a s consumed next plain answers written = record {
+  done = s.done ++ line ∷ [];
+  answers = s.answers ++ a ∷ [];
+  bytes = s.bytes ++ more;
+  consumed = Consumes-trans r0 r1 r2 s.bytes more s.consumed consumed;
+  parted = bytes_with s.done s.bytes old more (line ++ 10 ∷ new) s.parted next ∙ sym (with_feeds-push s.done line new);
+  no_feeds = All-push HasNoFeed s.done line s.no_feeds plain;
+  answered = AreAnswersTo-append s.done (line ∷ []) s.answers (a ∷ []) s.answered (answers, tt);
+  appended = subst (λ (l : List ℕ). Appends c0 c2 l) (lines_answering-push s.answers a)
+      (Appends-trans c0 c1 c2 (lines_answering s.answers) (line_of a) s.appended written);
+}
+
+-- the text of which these bytes were read
+text_of : (r0 r1 r2 : Option (List ℕ)) (text : List ℕ) (bytes more : List ℕ) → Consumes r0 r1 bytes → Consumes r1 r2 more → r0 ≡ Some text
+    → (rest : List ℕ) × (text ≡ (bytes ++ more) ++ rest) × (r2 ≡ Some rest)
+text_of r0 r1 r2 text bytes more first then known =
+    Consumes-Some text r2 (bytes ++ more) (subst (λ (o : Option (List ℕ)). Consumes o r2 (bytes ++ more)) known (Consumes-trans r0 r1 r2 bytes more first then))
+
+rest_at_end : (r : Option (List ℕ)) (rest : List ℕ) → r ≡ Some rest → IsAtEnd r → rest ≡ []
+rest_at_end r rest is end = let e : IsAtEnd (Some rest) = subst IsAtEnd is end in e
+
+appended_of : (c0 c1 : Option (List ℕ)) (held xs : List ℕ) → Appends c0 c1 xs → c0 ≡ Some held → c1 ≡ Some (held ++ xs)
+appended_of c0 c1 held xs appended known = Appends-Some held c1 xs (subst (λ (o : Option (List ℕ)). Appends o c1 xs) known appended)
+
+-- the end of the client's bytes, behind a line feed
+pub Serves-end : (r0 r1 r2 c0 c1 : Option (List ℕ)) (old more text held : List ℕ)
+    → Serves r0 r1 c0 c1 old → Consumes r1 r2 more → old ++ more ≡ [] → IsAtEnd r2
+    → r0 ≡ Some text → c0 ≡ Some held → AnswersLines (lines_of text) held c1
+Serves-end r0 r1 r2 c0 c1 old more text held s consumed next end knows holds =
+    let known = text_of r0 r1 r2 text s.bytes more s.consumed consumed knows in
+    let none : known.0 ≡ [] = rest_at_end r2 known.0 known.2 end in
+    let whole : text ≡ with_feeds s.done ++ [] =
+    known.1 ∙ ap (λ (l : List ℕ). (s.bytes ++ more) ++ l) none ∙ append-nil (s.bytes ++ more)
+    ∙ bytes_with s.done s.bytes old more [] s.parted next in
+    let lines : lines_of text ≡ s.done =
+    ap lines_of whole ∙ lines_of-with_feeds s.done [] s.no_feeds ∙ append-nil s.done in
+    record {
+      answers = s.answers;
+      answered = subst (λ (l : List (List ℕ)). AreAnswersTo l s.answers) (sym lines) s.answered;
+      written = appended_of c0 c1 held (lines_answering s.answers) s.appended holds;
+    }
+
+-- the end behind a last line that no line feed ends
+pub Serves-last : (r0 r1 r2 c0 c1 c2 : Option (List ℕ)) (old line more text held : List ℕ) (a : Answer)
+    → Serves r0 r1 c0 c1 old → Consumes r1 r2 more → old ++ more ≡ line → HasNoFeed line → 0 < length line → IsAtEnd r2
+    → IsAnswerTo line a → Appends c1 c2 (line_of a)
+    → r0 ≡ Some text → c0 ≡ Some held → AnswersLines (lines_of text) held c2
+Serves-last r0 r1 r2 c0 c1 c2 old line more text held a s consumed next plain some end answers written knows holds =
+    let known = text_of r0 r1 r2 text s.bytes more s.consumed consumed knows in
+    let none : known.0 ≡ [] = rest_at_end r2 known.0 known.2 end in
+    let whole : text ≡ with_feeds s.done ++ line =
+    known.1 ∙ ap (λ (l : List ℕ). (s.bytes ++ more) ++ l) none ∙ append-nil (s.bytes ++ more)
+    ∙ bytes_with s.done s.bytes old more line s.parted next in
+    let lines : lines_of text ≡ s.done ++ line ∷ [] =
+    ap lines_of whole ∙ lines_of-with_feeds s.done line s.no_feeds ∙ ap (λ (l : List (List ℕ)). s.done ++ l) (lines_of-last line plain some) in
+    let all : Appends c0 c2 (lines_answering (s.answers ++ a ∷ [])) =
+    subst (λ (l : List ℕ). Appends c0 c2 l) (lines_answering-push s.answers a)
+    (Appends-trans c0 c1 c2 (lines_answering s.answers) (line_of a) s.appended written) in
+    record {
+      answers = s.answers ++ a ∷ [];
+      answered = subst (λ (l : List (List ℕ)). AreAnswersTo l (s.answers ++ a ∷ [])) (sym lines)
+          (AreAnswersTo-append s.done (line ∷ []) s.answers (a ∷ []) s.answered (answers, tt));
+      written = appended_of c0 c2 held (lines_answering (s.answers ++ a ∷ [])) all holds;
+    }
+
+-- a read failed in a line
+pub Serves-stops : (r0 r1 r2 c0 c1 : Option (List ℕ)) (old text held : List ℕ)
+    → Serves r0 r1 c0 c1 old → StopsInLine r1 r2 old → r0 ≡ Some text → c0 ≡ Some held → BreaksOff text held r2 c1
+Serves-stops r0 r1 r2 c0 c1 old text held s stops knows holds =
+    let known = text_of r0 r1 r2 text s.bytes stops.bytes s.consumed stops.consumed knows in
+    let taken : s.bytes ++ stops.bytes ≡ with_feeds s.done ++ (old ++ stops.bytes) =
+    bytes_with s.done s.bytes old stops.bytes (old ++ stops.bytes) s.parted refl in
+    let whole : whole_lines (s.bytes ++ stops.bytes) ≡ s.done =
+    ap whole_lines taken ∙ whole_lines-with_feeds s.done (old ++ stops.bytes) s.no_feeds
+    ∙ ap (λ (l : List (List ℕ)). s.done ++ l) (whole_lines-open (old ++ stops.bytes) stops.no_feed) ∙ append-nil s.done in
+    record {
+      taken = s.bytes ++ stops.bytes;
+      rest = known.0;
+      parted = known.1;
+      left = known.2;
+      whole = record {
+        answers = s.answers;
+        answered = subst (λ (l : List (List ℕ)). AreAnswersTo l s.answers) (sym whole) s.answered;
+        written = appended_of c0 c1 held (lines_answering s.answers) s.appended holds;
+      };
+    }
+
+-- the line that comes next, and more
+lines_next : (line behind_it new rest : List ℕ) (ended : Bool) → behind_it ≡ line ++ behind ended new → HasNoFeed line
+    → (ended ≡ false → 0 < length line) → (ended ≡ false → new ≡ []) → (ended ≡ false → rest ≡ [])
+    → (more : List (List ℕ)) × (lines_of (behind_it ++ rest) ≡ line ∷ more)
+lines_next line all new rest true parted plain some emptied end = (
+  lines_of (new ++ rest),
+  ap lines_of (ap (λ (l : List ℕ). l ++ rest) parted ∙ append_assoc line (10 ∷ new) rest)
+      ∙ lines_of-feed line (new ++ rest) plain,
+)
+lines_next line all new rest false parted plain some emptied end =
+    let only : all ++ rest ≡ line =
+    ap (λ (l : List ℕ). all ++ l) (end refl) ∙ append-nil all ∙ parted
+    ∙ ap (λ (l : List ℕ). line ++ l) (emptied refl) ∙ append-nil line in
+    ([], ap lines_of only ∙ lines_of-last line plain (some refl))
+
+-- the front of an answer behind whole ones is a front of all
+take-answers : (done more line : List ℕ) (taken : ℕ) → taken ≤ length line
+    → take (length done + taken) (done ++ (line ++ more)) ≡ done ++ take taken line
+take-answers done more line taken within =
+    take-append-add done (line ++ more) taken ∙ ap (λ (l : List ℕ). done ++ l) (take-append-le taken line more within)
+
+-- a write failed in a line
+pub Serves-cut : (r0 r1 r2 c0 c1 c2 : Option (List ℕ)) (h k : Option History) (old new text held : List ℕ) (part : NextLine) (a : Answer)
+    → Serves r0 r1 c0 c1 old → (t : TakesLine r1 r2 h k old new part) → (part.ended ≡ false → 0 < length t.line)
+    → IsAnswerTo t.line a → AppendsFront c1 c2 (line_of a) → r0 ≡ Some text → c0 ≡ Some held → CutsLinesShort (lines_of text) held c2
+Serves-cut r0 r1 r2 c0 c1 c2 h k old new text held part a s t some answers cut knows holds =
+    let known = text_of r0 r1 r2 text s.bytes t.bytes s.consumed t.read.consumed knows in
+    let next = lines_next t.line (old ++ t.bytes) new known.0 part.ended t.parted t.no_feed some t.emptied
+    (λ no. rest_at_end r2 known.0 known.2 (t.at_end no)) in
+    let whole : text ≡ with_feeds s.done ++ ((old ++ t.bytes) ++ known.0) =
+    known.1 ∙ ap (λ (l : List ℕ). l ++ known.0) (bytes_with s.done s.bytes old t.bytes (old ++ t.bytes) s.parted refl)
+    ∙ append_assoc (with_feeds s.done) (old ++ t.bytes) known.0 in
+    let lines : lines_of text ≡ s.done ++ t.line ∷ next.0 =
+    ap lines_of whole ∙ lines_of-with_feeds s.done ((old ++ t.bytes) ++ known.0) s.no_feeds
+    ∙ ap (λ (l : List (List ℕ)). s.done ++ l) next.1 in
+    let others = answers_of next.0 in
+    let all : lines_answering (s.answers ++ a ∷ others.0) ≡ lines_answering s.answers ++ (line_of a ++ lines_answering others.0) =
+    flat_map-append line_of s.answers (a ∷ others.0) in
+    let front : Appends c0 c2 (lines_answering s.answers ++ take cut.0 (line_of a)) =
+    Appends-trans c0 c1 c2 (lines_answering s.answers) (take cut.0 (line_of a)) s.appended cut.2 in
+    let within : cut.0 < length (line_of a) = cut.1 in
+    let taken : take (length (lines_answering s.answers) + cut.0) (lines_answering (s.answers ++ a ∷ others.0))
+    ≡ lines_answering s.answers ++ take cut.0 (line_of a) =
+    ap (λ (l : List ℕ). take (length (lines_answering s.answers) + cut.0) l) all
+    ∙ take-answers (lines_answering s.answers) (lines_answering others.0) (line_of a) cut.0 (omega arith) in
+    record {
+      answers = s.answers ++ a ∷ others.0;
+      answered = subst (λ (l : List (List ℕ)). AreAnswersTo l (s.answers ++ a ∷ others.0)) (sym lines)
+          (AreAnswersTo-append s.done (t.line ∷ next.0) s.answers (a ∷ others.0) s.answered (answers, others.1));
+      front = length (lines_answering s.answers) + cut.0;
+      short = omega (
+        arith,
+        within,
+        ap length all,
+        length-append (lines_answering s.answers) (line_of a ++ lines_answering others.0),
+        length-append (line_of a) (lines_answering others.0),
+      );
+      written = appended_of c0 c2 held (lines_answering s.answers ++ take cut.0 (line_of a)) front holds
+          ∙ ap (λ (l : List ℕ). Some (held ++ l)) (sym taken);
+    }
+
+-- nothing is written while a line is taken
+pub Serves-quiet : (r0 r1 c0 c1 c2 : Option (List ℕ)) (pending : List ℕ) → Serves r0 r1 c0 c1 pending → c2 ≡ c1 → Serves r0 r1 c0 c2 pending
+Serves-quiet r0 r1 c0 c1 c2 pending s same = subst (λ (o : Option (List ℕ)). Serves r0 r1 c0 o pending) (sym same) s
+
+-- a line that was taken, and the line that answers it
+pub record Turn (r1 r2 c1 c2 : Option (List ℕ)) (h k : Option History) (old new : List ℕ) (part : NextLine) (line : Line) (bytes : List ℕ) : Type 0 where
+  pub taken : TakesLine r1 r2 h k old new part
+  pub quiet : c2 ≡ c1
+  pub answered : IsLineFor taken.line line
+  pub read : bytes ≡ cow_slice_items line.bytes
+  pub something : IsNothing part false
+
+pub Turn-of : (r1 r2 c1 c2 : Option (List ℕ)) (h k : Option History) (old new : List ℕ) (part : NextLine) (line : Line) (bytes : List ℕ) (nothing : Bool)
+    → TakesLine r1 r2 h k old new part → c2 ≡ c1 → ((text : List ℕ) → IsKept text part.kept → IsLineFor text line)
+    → bytes ≡ cow_slice_items line.bytes → IsNothing part nothing → nothing ≡ false → Turn r1 r2 c1 c2 h k old new part line bytes
+Turn-of r1 r2 c1 c2 h k old new part line bytes nothing t quiet answers read is some = record {
+  taken = t;
+  quiet = quiet;
+  answered = answers t.line t.kept;
+  read = read;
+  something = subst (λ (b : Bool). IsNothing part b) some is;
+}
+
+some_in : (line : List ℕ) (part : NextLine) → IsKept line part.kept → IsNothing part false → part.ended ≡ false → 0 < length line
+some_in line part kept something open_end = some_kept line part.kept kept (something open_end)
+
+to_end : (r1 r2 : Option (List ℕ)) (h k : Option History) (old new : List ℕ) (part : NextLine) (t : TakesLine r1 r2 h k old new part) → part.ended ≡ false
+    → old ++ t.bytes ≡ t.line
+to_end r1 r2 h k old new part t open_end =
+    t.parted ∙ ap (λ (e : Bool). t.line ++ behind e new) open_end ∙ ap (λ (l : List ℕ). t.line ++ l) (t.emptied open_end) ∙ append-nil t.line
+
+to_feed : (r1 r2 : Option (List ℕ)) (h k : Option History) (old new : List ℕ) (part : NextLine) (t : TakesLine r1 r2 h k old new part) → part.ended ≡ true
+    → old ++ t.bytes ≡ t.line ++ 10 ∷ new
+to_feed r1 r2 h k old new part t closed = t.parted ∙ ap (λ (e : Bool). t.line ++ behind e new) closed
+
+-- there is nothing more
+pub Turn-end : (r0 r1 r2 c0 c1 c2 : Option (List ℕ)) (h k : Option History) (old new text held : List ℕ) (part : NextLine)
+    → Serves r0 r1 c0 c1 old → TakesLine r1 r2 h k old new part → c2 ≡ c1 → HasNothing part
+    → r0 ≡ Some text → c0 ≡ Some held → AnswersLines (lines_of text) held c2
+Turn-end r0 r1 r2 c0 c1 c2 h k old new text held part s t quiet nothing knows holds =
+    let none : old ++ t.bytes ≡ [] = to_end r1 r2 h k old new part t nothing.open_end ∙ nothing_kept t.line part.kept t.kept nothing.empty in
+    Serves-end r0 r1 r2 c0 c2 old t.bytes text held (Serves-quiet r0 r1 c0 c1 c2 old s quiet) t.read.consumed none (t.at_end nothing.open_end) knows holds
+
+-- the answer was cut short
+pub Turn-cut : (r0 r1 r2 c0 c1 c2 c3 : Option (List ℕ)) (h k : Option History) (old new text held : List ℕ) (part : NextLine) (line : Line) (bytes : List ℕ)
+    → Serves r0 r1 c0 c1 old → Turn r1 r2 c1 c2 h k old new part line bytes → AppendsFront c2 c3 bytes
+    → r0 ≡ Some text → c0 ≡ Some held → CutsLinesShort (lines_of text) held c3
+Turn-cut r0 r1 r2 c0 c1 c2 c3 h k old new text held part line bytes s turn cut knows holds =
+    let t = turn.taken in
+    Serves-cut r0 r1 r2 c0 c2 c3 h k old new text held part turn.answered.answer (Serves-quiet r0 r1 c0 c1 c2 old s turn.quiet) t
+    (some_in t.line part t.kept turn.something) turn.answered.answers
+    (subst (λ (b : List ℕ). AppendsFront c2 c3 b) (turn.read ∙ turn.answered.written) cut) knows holds
+
+-- the last line was answered
+pub Turn-last : (r0 r1 r2 c0 c1 c2 c3 : Option (List ℕ)) (h k : Option History) (old new text held : List ℕ) (part : NextLine) (line : Line) (bytes : List ℕ)
+    → Serves r0 r1 c0 c1 old → Turn r1 r2 c1 c2 h k old new part line bytes → Appends c2 c3 bytes
+    → part.ended ≡ false → r0 ≡ Some text → c0 ≡ Some held → AnswersLines (lines_of text) held c3
+Turn-last r0 r1 r2 c0 c1 c2 c3 h k old new text held part line bytes s turn written open_end knows holds =
+    let t = turn.taken in
+    Serves-last r0 r1 r2 c0 c2 c3 old t.line t.bytes text held turn.answered.answer (Serves-quiet r0 r1 c0 c1 c2 old s turn.quiet)
+    t.read.consumed (to_end r1 r2 h k old new part t open_end) t.no_feed (some_in t.line part t.kept turn.something open_end) (t.at_end open_end) turn.answered.answers
+    (subst (λ (b : List ℕ). Appends c2 c3 b) (turn.read ∙ turn.answered.written) written) knows holds
+
+-- a line was answered, and more may come
+pub Turn-more : (r0 r1 r2 r3 c0 c1 c2 c3 : Option (List ℕ)) (h k : Option History) (old new : List ℕ) (part : NextLine) (line : Line) (bytes : List ℕ)
+    → Serves r0 r1 c0 c1 old → Turn r1 r2 c1 c2 h k old new part line bytes → Appends c2 c3 bytes
+    → part.ended ≡ true → r3 ≡ r2 → Serves r0 r3 c0 c3 new
+Turn-more r0 r1 r2 r3 c0 c1 c2 c3 h k old new part line bytes s turn written closed same =
+    let t = turn.taken in
+    subst (λ (o : Option (List ℕ)). Serves r0 o c0 c3 new) (sym same)
+    (Serves-more r0 r1 r2 c0 c2 c3 old new t.line t.bytes turn.answered.answer (Serves-quiet r0 r1 c0 c1 c2 old s turn.quiet)
+    t.read.consumed (to_feed r1 r2 h k old new part t closed) t.no_feed turn.answered.answers
+    (subst (λ (b : List ℕ). Appends c2 c3 b) (turn.read ∙ turn.answered.written) written))
+
+-- and nothing is owed
+pub Turn-caught_up : (r1 r2 c1 c2 : Option (List ℕ)) (h k m : Option History) (old new : List ℕ) (part : NextLine) (line : Line) (bytes : List ℕ)
+    → IfSome h (IsCaughtUp old) → Turn r1 r2 c1 c2 h k old new part line bytes → m ≡ option_map (writing bytes) k → part.ended ≡ true
+    → IfSome m (IsCaughtUp new)
+Turn-caught_up r1 r2 c1 c2 h k m old new part line bytes up turn noted closed =
+    let t = turn.taken in
+    IsCaughtUp-more old new t.line t.bytes turn.answered.answer h k m up t.read.noted
+    (noted ∙ ap (λ (b : List ℕ). option_map (writing b) k) (turn.read ∙ turn.answered.written))
+    (to_feed r1 r2 h k old new part t closed) t.no_feed turn.answered.answers

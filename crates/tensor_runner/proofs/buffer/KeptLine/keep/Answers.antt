@@ -1,0 +1,20 @@
+use Rattle.std.proofs.Common.{◌≡◌, ◌-◌, min, length, ◌++◌, take, ◌∙◌, ap, sym, ℕ, true, arith}
+use Rattle.std.specs.Result.{is_ok}
+use Rattle.tensor_runner.specs.Run.{most_reads}
+use Rattle.tensor_runner.proofs.Parts.{take-behind}
+use Rattle.tensor_runner.proofs.buffer.KeptLine.keep.Goals as goal
+
+pub returns-then-is_ok : goal.returns-then-is_ok
+returns-then-is_ok c = λ line is.
+    let text = c.in-Text.text.items in
+    let piece = c.args.piece.now in
+    let own : text ≡ take most_reads line = rw c.in-Text.is at is in
+    let well : is_ok c.extend_from_slice.result ≡ true = sym c.is_ok.ensures.value ∙ c.if-is_ok.true in
+    let items = rw well at c.extend_from_slice.ensures.items in
+    let len : c.len.result ≡ length text = omega (arith, c.len.ensures, c.in-Text.text.ok.0) in
+    let room : c.min-room.result ≡ min (most_reads - length text) (length piece) =
+    c.min-room.ensures
+    ∙ ap (λ (r : ℕ). min r (length piece)) (c.saturating_sub.ensures ∙ ap (λ (n : ℕ). most_reads - n) len) in
+    let all : text ++ take c.min-room.result piece ≡ take most_reads (line ++ piece) =
+    ap (λ (r : ℕ). text ++ take r piece) room ∙ take-behind most_reads line text piece own in
+    items ∙ all

@@ -1,0 +1,35 @@
+-- One line more, for the private clauses of the server.
+use Rattle.std.specs.Prelude.{◌≡◌, ℕ, Bool, true, false, List, [], ◌++◌, All, Option}
+use Rattle.std.specs.Io.KnownBytes.{Appends, Consumes}
+use Rattle.tensor_runner.specs.Answer.{Answer}
+use Rattle.tensor_runner.specs.Lines.{AreAnswersTo, lines_answering}
+use Rattle.tensor_runner.specs.Taking.{HasNoFeed, with_feeds}
+use Rattle.tensor_runner.specs.declared.buffer.KeptLine.{KeptLine}
+use Rattle.tensor_runner.specs.declared.buffer.KeptLine.TheVariants.{Text, NoMemory}
+use Rattle.tensor_runner.specs.declared.buffer.NextLine.{NextLine}
+
+-- nothing is kept, of no byte
+abbrev pub KeepsNone : KeptLine → Type 0
+KeepsNone (Text text) = text.items ≡ []
+KeepsNone NoMemory = ⊥
+
+-- no line feed ended it, and nothing is kept of it
+pub record HasNothing (next : NextLine) : Type 0 where
+  pub open_end : next.ended ≡ false
+  pub empty : KeepsNone next.kept
+
+-- the answer to whether there is nothing; where a line feed ended it, there is something
+abbrev pub IsNothing : NextLine → Bool → Type 0
+IsNothing next true = HasNothing next
+IsNothing next false = (next.ended ≡ false → ¬ KeepsNone next.kept)
+
+-- each line before what is pending was answered
+pub record Serves (before after had contents : Option (List ℕ)) (pending : List ℕ) : Type 0 where
+  pub done : List (List ℕ)
+  pub answers : List Answer
+  pub bytes : List ℕ
+  pub consumed : Consumes before after bytes
+  pub parted : bytes ≡ with_feeds done ++ pending
+  pub no_feeds : All HasNoFeed done
+  pub answered : AreAnswersTo done answers
+  pub appended : Appends had contents (lines_answering answers)

@@ -1,0 +1,117 @@
+//! Answers many requests, a line each.
+
+ghost use Rattle.std.specs.Prelude.{◌≡◌, ◌<◌, ℕ, List, Some, Err, IfOk, IfSome, IfErr, OnOk};
+ghost use Rattle.std.specs.Prelude.{MatchResult, option_map};
+ghost use Rattle.std.specs.Io.KnownBytes.{Appends};
+ghost use Rattle.tensor_runner.specs.History.{IsNew, writing};
+ghost use Rattle.tensor_runner.specs.Line.{IsLineFor};
+ghost use Rattle.tensor_runner.specs.Lines.{lines_of, AnswersLines, BreaksOff, CutsLinesShort};
+ghost use Rattle.tensor_runner.specs.Pieces.{AppendsFront};
+ghost use Rattle.tensor_runner.specs.Server.{IsNothing};
+ghost use Rattle.tensor_runner.specs.Streams.{HasFailed};
+ghost use Rattle.tensor_runner.specs.Taking.{IsKept};
+
+use crate::answer::{Line, answer, no_memory};
+use crate::buffer::{InputBuffer, KeptLine, NextLine};
+use crate::client::Client;
+use crate::status::StreamFault;
+use crate::taking::next_line;
+use std::alloc::Global;
+use std::sync::Wait;
+use std::thread::Threads;
+
+/// Answers each line of the client's, in order, by what [`run`](crate::run) writes for the line
+/// alone, until the client's bytes end. Each answer is written before more is read. A line feed ends
+/// a line; the last one may lack it, and counts where it has a byte. Of a line that is too long the
+/// rest is passed over, and want of memory costs the line that wants it. Between two lines the room
+/// of 65,536 bytes is all that is kept.
+///
+/// # Errors
+///
+/// [`StreamFault::ReadFault`] at any error of a read, [`StreamFault::WriteFault`] at an error of a
+/// write, or where it takes nothing.
+pub fn answer_lines<RT: Threads + Wait + Sync, C: Client>(
+    rt: &RT,
+    alloc: Global,
+    client: &mut C,
+) -> Result<(), StreamFault>
+    requires { IfSome (C.history client.old) IsNew }
+
+    ensures answered { (text held : List ℕ) → C.remaining client.old ≡ Some text
+        → C.contents client.old ≡ Some held
+        → OnOk result (AnswersLines (lines_of text) held (C.contents client.new)) }
+    // Nothing of a line is answered in which a read failed.
+    ensures broken_off { (text held : List ℕ) → C.remaining client.old ≡ Some text
+        → C.contents client.old ≡ Some held → result ≡ Err StreamFault.ReadFault
+        → BreaksOff text held (C.remaining client.new) (C.contents client.new) }
+    ensures cut_short { (text held : List ℕ) → C.remaining client.old ≡ Some text
+        → C.contents client.old ≡ Some held → result ≡ Err StreamFault.WriteFault
+        → CutsLinesShort (lines_of text) held (C.contents client.new) }
+
+    ensures read_fault { result ≡ Err StreamFault.ReadFault
+        → HasFailed (C.read_failures client.old) (C.read_failures client.new)
+        × (C.write_failures client.new ≡ C.write_failures client.old) }
+    ensures write_fault { result ≡ Err StreamFault.WriteFault
+        → (C.read_failures client.new ≡ C.read_failures client.old)
+        × HasFailed (C.write_failures client.old) (C.write_failures client.new) }
+    ensures no_failure { OnOk result ((C.read_failures client.new ≡ C.read_failures client.old)
+        × (C.write_failures client.new ≡ C.write_failures client.old)) }
+{
+    let mut buffer = InputBuffer::new();
+    for turn in rt.forever() {
+        let next = next_line(rt, alloc, client, &mut buffer)?;
+        if is_nothing(&next) {
+            return Ok(());
+        }
+        let line = answer_kept(rt, alloc, next.kept);
+        write_answer(client, line.bytes.as_slice())?;
+        if !next.ended {
+            return Ok(());
+        }
+    }
+    unreachable!()
+}
+
+/// Whether no line feed and no byte is there.
+fn is_nothing(next: &NextLine) -> bool
+    ensures { IsNothing next.now result }
+{
+    match &next.kept {
+        KeptLine::Text(text) => !next.ended && text.is_empty(),
+        KeptLine::NoMemory => false,
+    }
+}
+
+/// The line that answers a line of which this is kept.
+fn answer_kept<RT: Threads + Wait + Sync>(rt: &RT, alloc: Global, kept: KeptLine) -> Line
+    ensures { (text : List ℕ) → IsKept text kept → IsLineFor text result }
+{
+    match kept {
+        KeptLine::Text(text) => answer(rt, alloc, text),
+        KeptLine::NoMemory => no_memory(),
+    }
+}
+
+/// Writes the whole line, by as many writes as it takes. Stops at the first that fails or takes
+/// nothing.
+fn write_answer<C: Client>(client: &mut C, line: &[u8]) -> Result<(), StreamFault>
+    ensures ok { OnOk result (Appends (C.contents client.old) (C.contents client.new) line.now) }
+    ensures noted { OnOk result (C.history client.new
+        ≡ option_map (writing line.now) (C.history client.old)) }
+    ensures ok_failures { OnOk result (C.write_failures client.new
+        ≡ C.write_failures client.old) }
+    ensures err { IfErr result (λ fault. (fault ≡ StreamFault.WriteFault)
+        × AppendsFront (C.contents client.old) (C.contents client.new) line.now
+        × HasFailed (C.write_failures client.old) (C.write_failures client.new)) }
+    ensures remaining { C.remaining client.new ≡ C.remaining client.old }
+    ensures read_failures { C.read_failures client.new ≡ C.read_failures client.old }
+{
+    let mut written = 0;
+    while written < line.len() {
+        match client.write(&line[written..]) {
+            Ok(count) if count > 0 => written += count,
+            _ => return Err(StreamFault::WriteFault),
+        }
+    }
+    Ok(())
+}
