@@ -7,8 +7,8 @@ use Rattle.std.proofs.lemmas.List.Elements.{All-head, All-tail}
 use Rattle.std.proofs.lemmas.List.Sums.{sum_by-cons}
 use Rattle.std.specs.declared.vec.Vec.{Vec}
 use Rattle.run_queue.specs.Bag.{total}
-use Rattle.worker_pool.specs.declared.job.Progress.{Progress}
 use Rattle.worker_pool.specs.declared.job.Progress.TheVariants as progress
+use Rattle.worker_pool.specs.Laws.{JobLaw}
 use Rattle.worker_pool.specs.Nodes.{Node, Done, Refused, Left, IsLawful}
 use Rattle.worker_pool.specs.Nodes.{job_of, kids_of, outs_of, left_of, refusals_of}
 use Rattle.worker_pool.specs.Nodes.{Runs, ends, forks}
@@ -21,11 +21,11 @@ use Rattle.parallel_for.specs.Steps.{IsHalved, IsLeaf}
 use Rattle.parallel_for.proofs.Cutting.{leaves_of-cut, leaves_of-short}
 
 -- Jobs and outs are weighed so that a fork weighs what its parts do, and an end what its out does.
-module _ {J O : Type 0} (steps : J → Progress J O → Type 0) (w : J → ℕ) (v : O → ℕ)
-    (forked : (job kid rest : J) → steps job (progress.Fork kid rest) → w job ≡ w rest + w kid)
-    (ended : (job : J) (out : O) → steps job (progress.Done out) → w job ≡ v out) where
+module _ {J O : Type 0} (law : JobLaw J O) (w : J → ℕ) (v : O → ℕ)
+    (forked : (job kid rest : J) → law.steps job (progress.Fork kid rest) → w job ≡ w rest + w kid)
+    (ended : (job : J) (out : O) → law.steps job (progress.Done out) → w job ≡ v out) where
   -- then a job weighs what its out and its kids do
-  weight-run : (job : J) (kids : List J) (out : O) → Runs steps job kids (Some out)
+  weight-run : (job : J) (kids : List J) (out : O) → Runs law job kids (Some out)
       → w job ≡ v out + total w kids
   weight-run job kids out (ends job' out' may) = let same = ended job' out' may in omega arith
   weight-run job kids out (forks job' kid rest kids' out' may run) =
@@ -34,15 +34,15 @@ module _ {J O : Type 0} (steps : J → Progress J O → Type 0) (w : J → ℕ) 
       omega arith
 
   -- all jobs weigh what all outs and kids do
-  weight-nodes : (nodes : List (Node J O)) → All (IsLawful steps) nodes
+  weight-nodes : (nodes : List (Node J O)) → All (IsLawful law) nodes
       → flat_map left_of nodes ≡ [] → sum_by refusals_of nodes ≡ 0
       → total w (map job_of nodes)
       ≡ total v (flat_map outs_of nodes) + total w (flat_map kids_of nodes)
   weight-nodes [] lawful none_left none_refused = refl
   weight-nodes (Done job out kids ∷ nodes) lawful none_left none_refused =
-      let run = All-head (IsLawful steps) (Done job out kids) nodes lawful in
+      let run = All-head (IsLawful law) (Done job out kids) nodes lawful in
       let one = weight-run job kids out run in
-      let rest = weight-nodes nodes (All-tail (IsLawful steps) (Done job out kids) nodes lawful)
+      let rest = weight-nodes nodes (All-tail (IsLawful law) (Done job out kids) nodes lawful)
       none_left none_refused in
       let more = total-append w kids (flat_map kids_of nodes) in
       omega arith
@@ -54,7 +54,7 @@ module _ {J O : Type 0} (steps : J → Progress J O → Type 0) (w : J → ℕ) 
   -- the job that came in weighs what all outs do
   pub weight-account : {keeps : Type 0} (job : J) (outs : List O) (left : List J) (refused : ℕ)
       → keeps → left ≡ [] → refused ≡ 0
-      → Account keeps steps (job ∷ []) [] outs left refused
+      → Account keeps law (job ∷ []) [] outs left refused
       → w job ≡ total v outs
   weight-account job outs left refused on none_left none_refused account =
       let nodes = account.nodes in

@@ -2,8 +2,8 @@
 use Rattle.std.proofs.Common.{ℕ, List, [], ◌∷◌, ◌++◌, All, Some, sym, subst}
 use Rattle.std.proofs.lemmas.List.Elements.{All-nil, All-cons, All-head, All-tail}
 use Rattle.std.specs.List.{flat_map}
-use Rattle.worker_pool.specs.declared.job.Progress.{Progress}
 use Rattle.worker_pool.specs.declared.job.Progress.TheVariants as progress
+use Rattle.worker_pool.specs.Laws.{JobLaw}
 use Rattle.worker_pool.specs.Nodes.{Node, Done, Refused, Left, IsLawful, outs_of}
 use Rattle.worker_pool.specs.Nodes.{Runs, ends, forks}
 use Rattle.worker_pool.specs.Accounts.{Account}
@@ -13,23 +13,23 @@ use Rattle.parallel_for.specs.Items.{AreItems}
 use Rattle.parallel_for.specs.Pieces.{IsRight}
 use Rattle.parallel_for.specs.Steps.{IsLeaf}
 
-module _ {J O : Type 0} (steps : J → Progress J O → Type 0) (P : O → Type 0)
-    (end : (job : J) (out : O) → steps job (progress.Done out) → P out) where
-  run-holds : (job : J) (kids : List J) (out : O) → Runs steps job kids (Some out) → P out
+module _ {J O : Type 0} (law : JobLaw J O) (P : O → Type 0)
+    (end : (job : J) (out : O) → law.steps job (progress.Done out) → P out) where
+  run-holds : (job : J) (kids : List J) (out : O) → Runs law job kids (Some out) → P out
   run-holds job kids out (ends job' out' may) = end job' out' may
   run-holds job kids out (forks job' kid rest kids' out' may run) = run-holds rest kids' out run
 
-  nodes-hold : (nodes : List (Node J O)) → All (IsLawful steps) nodes
+  nodes-hold : (nodes : List (Node J O)) → All (IsLawful law) nodes
       → All P (flat_map outs_of nodes)
   nodes-hold [] lawful = All-nil P
   nodes-hold (Done job out kids ∷ nodes) lawful =
       All-cons P out (flat_map outs_of nodes)
-      (run-holds job kids out (All-head (IsLawful steps) (Done job out kids) nodes lawful))
-      (nodes-hold nodes (All-tail (IsLawful steps) (Done job out kids) nodes lawful))
+      (run-holds job kids out (All-head (IsLawful law) (Done job out kids) nodes lawful))
+      (nodes-hold nodes (All-tail (IsLawful law) (Done job out kids) nodes lawful))
   nodes-hold (Refused job kids ∷ nodes) lawful =
-      nodes-hold nodes (All-tail (IsLawful steps) (Refused job kids) nodes lawful)
+      nodes-hold nodes (All-tail (IsLawful law) (Refused job kids) nodes lawful)
   nodes-hold (Left job ∷ nodes) lawful =
-      nodes-hold nodes (All-tail (IsLawful steps) (Left job) nodes lawful)
+      nodes-hold nodes (All-tail (IsLawful law) (Left job) nodes lawful)
 
 All-front : {X : Type 0} (P : X → Type 0) (xs ys : List X) → All P (xs ++ ys) → All P xs
 All-front P [] ys all = All-nil P
@@ -50,13 +50,13 @@ All-flat_map {X} {V} P items (l ∷ ls) all =
 
 -- the outs of each list of a pool
 pub outs-hold : {J O V : Type 0} (P : O → Type 0) (items : V → List O) (lists : List V)
-    {keeps : Type 0} {steps : J → Progress J O → Type 0} {came passed left : List J} {refused : ℕ}
-    → ((job : J) (out : O) → steps job (progress.Done out) → P out)
-    → Account keeps steps came passed (flat_map items lists) left refused
+    {keeps : Type 0} {law : JobLaw J O} {came passed left : List J} {refused : ℕ}
+    → ((job : J) (out : O) → law.steps job (progress.Done out) → P out)
+    → Account keeps law came passed (flat_map items lists) left refused
     → All (λ l. All P (items l)) lists
-outs-hold {J} {O} {V} P items lists {keeps} {steps} end account =
+outs-hold {J} {O} {V} P items lists {keeps} {law} end account =
     All-flat_map P items lists
-    (subst (All P) (sym account.outs_are) (nodes-hold steps P end account.nodes account.lawful))
+    (subst (All P) (sym account.outs_are) (nodes-hold law P end account.nodes account.lawful))
 
 -- a leaf's piece has the items of its places
 pub IsRight-leaf : {I A : Type 0} (item_at : ℕ → I) (piece : Piece I A) (whole : Range) (block : ℕ)

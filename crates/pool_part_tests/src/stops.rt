@@ -18,7 +18,7 @@ impl StopFlag {
     /// The pool is open.
     pub(crate) fn open(alloc: Global) -> Result<StopFlag, AllocError> {
         let (table, mut opener) = stop::open(&alloc)?;
-        let worker = stop::deal(&table.shared, &mut opener);
+        let worker = stop::new_seat(&table.shared, &mut opener);
         Ok(StopFlag {
             table,
             opener,

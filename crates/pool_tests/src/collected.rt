@@ -4,7 +4,7 @@ ghost use Rattle.std.specs.List.{flat_map};
 ghost use Rattle.pool_tests.specs.Counts.{CollectedOnce};
 ghost use Rattle.worker_pool.specs.Accounts.{Account};
 ghost use Rattle.worker_pool.specs.Callers.{IsCaller, StaysCaller, roots_of};
-ghost use Rattle.worker_pool.specs.Steps.{IsStep};
+ghost use Rattle.worker_pool.specs.Laws.{law_of};
 
 use crate::runs::{RUN, Run, expect_each_once};
 use crate::setups::setup_of;
@@ -41,7 +41,7 @@ where
     R::Seat: Send,
     L: Lists<J::Out, Global>,
     ensures account { IfOk result (λ closed.
-        Account R.keeps_accounts (IsStep J.weight_of J.allows ctx.now) (first ∷ second ∷ []) []
+        Account R.keeps_accounts (law_of J.Job ctx.now) (first ∷ second ∷ []) []
         (flat_map (λ list. list.items) closed.outs.items) closed.left.items closed.refused) }
 {
     with_pool::<W, R, L, RT, J, Global, NoGate, _>(
@@ -82,7 +82,7 @@ where
     R::Seat: Send,
     L: Lists<J::Out, Global>,
     ensures once { IfOk result (λ closed.
-        CollectedOnce R.keeps_accounts (IsStep J.weight_of J.allows ctx.now)
+        CollectedOnce R.keeps_accounts (law_of J.Job ctx.now)
         (first ∷ second ∷ []) (flat_map (λ list. list.items) closed.outs.items)
         closed.left.items closed.refused) }
 {

@@ -7,12 +7,12 @@ use Rattle.std.proofs.lemmas.List.{append-nil, flat_map_more}
 use Rattle.std.proofs.lemmas.List.Elements.{All-nil, All-cons, All-same}
 use Rattle.event_count.specs.declared.wait_point.WaitPoint as wait_point
 use Rattle.run_queue.specs.Account.{AccountsFor}
-use Rattle.run_queue.specs.Bag.{total}
+use Rattle.run_queue.specs.Bag.{total, SameBag}
 use Rattle.run_queue.specs.declared.rows.Rows as rows
 use Rattle.worker_pool.specs.declared.gathered.Gathered.{Gathered}
 use Rattle.worker_pool.specs.declared.job_queue.JobQueue.{JobQueue}
 use Rattle.worker_pool.specs.declared.job.Job as job
-use Rattle.worker_pool.specs.declared.job.Progress.{Progress}
+use Rattle.worker_pool.specs.Laws.{JobLaw}
 use Rattle.worker_pool.specs.declared.pool.Pool.{Pool}
 use Rattle.worker_pool.specs.declared.worker.WorkerState.{WorkerState}
 use Rattle.worker_pool.specs.Accounts.{Account, counted}
@@ -21,11 +21,11 @@ use Rattle.worker_pool.specs.Nodes.{Node, Left, IsLawful, job_of, kids_of, outs_
 use Rattle.worker_pool.specs.Nodes.{left_of, refusals_of}
 use Rattle.worker_pool.specs.Ran.{Ran, RanToo, AreSettled}
 use Rattle.worker_pool.specs.Seats.{IsIdle}
-use Rattle.worker_pool.specs.Steps.{IsStep}
+use Rattle.worker_pool.specs.Laws.{law_of}
 use Rattle.worker_pool.specs.Works.{IsAtWork}
 use Rattle.worker_pool.proofs.Bags.{total-append}
 use Rattle.worker_pool.proofs.Growing.{All-snoc, length-snoc}
-use Rattle.worker_pool.proofs.Tallies.{account-append, account-none}
+use Rattle.worker_pool.proofs.Tallies.{account-append, account-more, account-none, account-same}
 
 -- a list that gets one item more at its end
 pub flat_map-snoc : {X Y : Type 0} (f : X → List Y) (xs : List X) (x : X) (ys : List X)
@@ -37,10 +37,10 @@ abbrev lefts : {J : Type 0} → (O : Type 0) → List J → List (Node J O)
 lefts O jobs = map Left jobs
 
 module _ {J : Type 0} (O : Type 0) where
-  lefts-lawful : (steps : J → Progress J O → Type 0) (jobs : List J)
-      → All (IsLawful steps) (lefts O jobs)
-  lefts-lawful steps [] = All-nil _
-  lefts-lawful steps (job ∷ jobs) = All-cons (IsLawful steps) _ _ tt (lefts-lawful steps jobs)
+  lefts-lawful : (law : JobLaw J O) (jobs : List J)
+      → All (IsLawful law) (lefts O jobs)
+  lefts-lawful law [] = All-nil _
+  lefts-lawful law (job ∷ jobs) = All-cons (IsLawful law) _ _ tt (lefts-lawful law jobs)
 
   jobs_of-lefts : (jobs : List J) → map job_of (lefts O jobs) ≡ jobs
   jobs_of-lefts [] = refl
@@ -62,12 +62,12 @@ module _ {J : Type 0} (O : Type 0) where
   refusals_of-lefts [] = refl
   refusals_of-lefts (job ∷ jobs) = refusals_of-lefts jobs
 
-module _ {J O : Type 0} (keeps : Type 0) (steps : J → Progress J O → Type 0) where
+module _ {J O : Type 0} (keeps : Type 0) (law : JobLaw J O) where
   -- jobs that came in and are left
-  account-lefts : (jobs : List J) → Account keeps steps jobs [] [] jobs 0
+  account-lefts : (jobs : List J) → Account keeps law jobs [] [] jobs 0
   account-lefts jobs = record {
     nodes = lefts O jobs;
-    lawful = lefts-lawful O steps jobs;
+    lawful = lefts-lawful O law jobs;
     outs_are = sym (outs_of-lefts O jobs);
     left_are = sym (left_of-lefts O jobs);
     refused_are = let none = refusals_of-lefts O jobs in omega arith;
@@ -82,27 +82,45 @@ module _ {J O : Type 0} (keeps : Type 0) (steps : J → Progress J O → Type 0)
 
   -- more jobs came in, and are left
   pub settled-left : (jobs : List J) (outs : List O) (n : ℕ)
-      → AreSettled keeps steps jobs outs outs jobs n n
+      → AreSettled keeps law jobs outs outs jobs n n
   settled-left jobs outs n = record {
     account = λ came passed start.
         let is = start.refused_are in
-        account-append keeps steps came jobs (came ++ jobs) passed [] passed outs [] outs [] jobs
+        account-append keeps law came jobs (came ++ jobs) passed [] passed outs [] outs [] jobs
         jobs n 0 n start (account-lefts jobs) (λ on. refl) (λ on. sym (append-nil passed))
         (sym (append-nil outs)) refl (omega arith);
   }
 
-  -- more jobs came in and ran, and none is left
-  pub settled-ran : (jobs : List J) (k l : List O) (left : List J) (a b : ℕ)
-      → RanToo keeps steps jobs k l a b → left ≡ [] → AreSettled keeps steps jobs k l left a b
-  settled-ran jobs k l left a b ran none = record {
+  -- the same account, of jobs in another order
+  account-reordered : (t u passed : List J) (outs : List O) (n : ℕ) → SameBag u t
+      → Account keeps law t passed outs [] n → Account keeps law u passed outs [] n
+  account-reordered t u passed outs n same account = record {
+    nodes = account.nodes;
+    lawful = account.lawful;
+    outs_are = account.outs_are;
+    left_are = account.left_are;
+    refused_are = account.refused_are;
+    balance = λ on weight.
+        let kids = flat_map kids_of account.nodes in
+        let before = total-append weight t kids in
+        let after = total-append weight u kids in
+        let as_much = same weight in
+        let is = account.balance on weight in
+        omega arith;
+  }
+
+  -- no job came in
+  pub ran_too-none : (jobs : List J) (outs : List O) (n : ℕ) → jobs ≡ []
+      → RanToo keeps law jobs outs outs n n
+  ran_too-none jobs outs n none = record {
     account = λ came passed start.
-        subst (λ x. Account keeps steps (came ++ jobs) passed l x b) (sym none)
-        (ran.account came passed start);
+        account-same keeps law passed passed came (came ++ jobs) outs [] n start
+        (λ on. ap (λ x. came ++ x) none) (λ on. refl);
   }
 
   -- one that passes nothing on leaves all that was passed on before as it is
-  pub ran-alone : (job : J) (p : List J) (l m : List O) (n : ℕ) → Ran keeps steps job [] [] l m n
-      → Ran keeps steps job p p l m n
+  ran-alone : (job : J) (p : List J) (l m : List O) (n : ℕ) → Ran keeps law job [] [] l m n
+      → Ran keeps law job p p l m n
   ran-alone job p l m n ran = record {
     others = ran.others;
     kids = ran.kids;
@@ -117,20 +135,48 @@ module _ {J O : Type 0} (keeps : Type 0) (steps : J → Progress J O → Type 0)
     balance = ran.balance;
   }
 
+  -- the last of the jobs ran first, and then the others
+  pub ran_too-last : (job : J) (rest jobs : List J) (k l m : List O) (a b c n : ℕ)
+      → jobs ≡ rest ++ job ∷ [] → Ran keeps law job [] [] k l n → b ≡ counted (a + n)
+      → RanToo keeps law rest l m b c → RanToo keeps law jobs k m a c
+  ran_too-last job rest jobs k l m a b c n are one more ran = record {
+    account = λ came passed start.
+        let with_one = account-more keeps law job passed passed passed came (came ++ job ∷ []) k k
+        l [] a n b start refl (λ on. refl) (λ on. refl) (ran-alone job passed k l n one) more in
+        account-reordered ((came ++ job ∷ []) ++ rest) (came ++ jobs) passed m c
+        (λ weight.
+        let is = ap (total weight) are in
+        let here = total-append weight came jobs in
+        let last = total-append weight rest (job ∷ []) in
+        let there = total-append weight (came ++ job ∷ []) rest in
+        let then = total-append weight came (job ∷ []) in
+        omega arith)
+        (ran.account (came ++ job ∷ []) passed with_one);
+  }
+
+  -- more jobs came in and ran, and none is left
+  pub settled-ran : (jobs : List J) (k l : List O) (left : List J) (a b : ℕ)
+      → RanToo keeps law jobs k l a b → left ≡ [] → AreSettled keeps law jobs k l left a b
+  settled-ran jobs k l left a b ran none = record {
+    account = λ came passed start.
+        subst (λ x. Account keeps law (came ++ jobs) passed l x b) (sym none)
+        (ran.account came passed start);
+  }
+
   -- What was put in through all seats was taken out through them or is left. So where one account is
   -- of what was taken, and the other of the roots and of what was left, nothing is passed on any more.
   pub account-closed : {S : Type 0} (puts takes : S → List J) (roots drained : List J)
       (seats : List S) (seat : S) (all : List S) (k l m : List O) (t left : List J) (a b n : ℕ)
-      → Account keeps steps (flat_map takes seats) (flat_map puts seats) k [] a
-      → Account keeps steps (roots ++ drained) (puts seat) l t b
+      → Account keeps law (flat_map takes seats) (flat_map puts seats) k [] a
+      → Account keeps law (roots ++ drained) (puts seat) l t b
       → (keeps → takes seat ≡ []) → all ≡ seats ++ seat ∷ []
       → (keeps → AccountsFor puts takes all drained)
-      → m ≡ k ++ l → left ≡ t → n ≡ counted (a + b) → Account keeps steps roots [] m left n
+      → m ≡ k ++ l → left ≡ t → n ≡ counted (a + b) → Account keeps law roots [] m left n
   account-closed puts takes roots drained seats seat all k l m t left a b n first second none are
       kept outs same_left is =
       let put = flat_map puts seats in
       let taken = flat_map takes seats in
-      let both = account-append keeps steps taken (roots ++ drained) (taken ++ (roots ++ drained))
+      let both = account-append keeps law taken (roots ++ drained) (taken ++ (roots ++ drained))
       put (puts seat) (put ++ puts seat) k l m [] t t a b n first second (λ on. refl)
       (λ on. refl) outs refl is in
       record {
@@ -197,7 +243,7 @@ gathers-none row point law queue ctx gathered none = record {
   idle = All-same (IsIdle point queue.point) _ _ none.no_wakers (All-nil _);
   wakers_many = ap length none.no_wakers ∙ sym (ap length none.no_rows);
   lists_many = ap length none.no_lists ∙ sym (ap length none.no_rows);
-  account = subst (λ n. Account row.keeps_accounts (IsStep law.weight_of law.allows ctx)
+  account = subst (λ n. Account row.keeps_accounts (law_of law ctx)
       (flat_map row.takes_of gathered.rows.items) (flat_map row.puts_of gathered.rows.items)
       (flat_map (λ list. list.items) gathered.lists.items) [] n)
       (sym none.none_refused)

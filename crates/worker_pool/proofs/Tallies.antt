@@ -7,18 +7,18 @@ use Rattle.std.proofs.lemmas.List.Elements.{All-append, All-nil}
 use Rattle.std.proofs.lemmas.List.Sums.{sum_by-append}
 use Rattle.std.proofs.lemmas.Grind.{flat_map-append}
 use Rattle.run_queue.specs.Bag.{total}
-use Rattle.worker_pool.specs.declared.job.Progress.{Progress}
+use Rattle.worker_pool.specs.Laws.{JobLaw}
 use Rattle.worker_pool.specs.Accounts.{Account, counted}
 use Rattle.worker_pool.specs.Nodes.{IsLawful, job_of, kids_of, outs_of, left_of}
 use Rattle.worker_pool.specs.Nodes.{refusals_of}
-use Rattle.worker_pool.specs.Ran.{Ran, Went}
+use Rattle.worker_pool.specs.Ran.{Ran}
 use Rattle.worker_pool.proofs.Bags.{total-append, total-map-append, total-flat_map-append}
-use Rattle.worker_pool.proofs.Runnings.{went-ran}
+use Rattle.worker_pool.proofs.Runnings.{Went, went-ran}
 
-module _ {J O : Type 0} (keeps : Type 0) (steps : J → Progress J O → Type 0) where
+module _ {J O : Type 0} (keeps : Type 0) (law : JobLaw J O) where
   -- nothing has come in and nothing was passed on
   pub account-none : (came passed : List J) (outs : List O) → (keeps → came ≡ [])
-      → (keeps → passed ≡ []) → outs ≡ [] → Account keeps steps came passed outs [] 0
+      → (keeps → passed ≡ []) → outs ≡ [] → Account keeps law came passed outs [] 0
   account-none came passed outs no_came no_passed none = record {
     nodes = [];
     lawful = All-nil _;
@@ -34,12 +34,12 @@ module _ {J O : Type 0} (keeps : Type 0) (steps : J → Progress J O → Type 0)
 
   -- two accounts, one after the other
   pub account-append : (c d e p q r : List J) (k l m : List O) (s t u : List J) (a b n : ℕ)
-      → Account keeps steps c p k s a → Account keeps steps d q l t b
+      → Account keeps law c p k s a → Account keeps law d q l t b
       → (keeps → e ≡ c ++ d) → (keeps → r ≡ p ++ q) → m ≡ k ++ l → u ≡ s ++ t
-      → n ≡ counted (a + b) → Account keeps steps e r m u n
+      → n ≡ counted (a + b) → Account keeps law e r m u n
   account-append c d e p q r k l m s t u a b n first second came passed outs left is = record {
     nodes = first.nodes ++ second.nodes;
-    lawful = All-append (IsLawful steps) first.nodes second.nodes first.lawful second.lawful;
+    lawful = All-append (IsLawful law) first.nodes second.nodes first.lawful second.lawful;
     outs_are = outs ∙ (ap (λ x. x ++ l) first.outs_are
         ∙ (ap (λ x. flat_map outs_of first.nodes ++ x) second.outs_are
         ∙ sym (flat_map-append outs_of first.nodes second.nodes)));
@@ -68,8 +68,8 @@ module _ {J O : Type 0} (keeps : Type 0) (steps : J → Progress J O → Type 0)
 
   -- the account of a job that came in, and was passed on or ran
   account-went : (job : J) (p q : List J) (k l : List O) (n : ℕ)
-      → (went : Went keeps steps job p q k l n)
-      → Account keeps steps (job ∷ []) went.passed (flat_map outs_of went.nodes) [] n
+      → (went : Went keeps law job p q k l n)
+      → Account keeps law (job ∷ []) went.passed (flat_map outs_of went.nodes) [] n
   account-went job p q k l n went = record {
     nodes = went.nodes;
     lawful = went.lawful;
@@ -84,18 +84,18 @@ module _ {J O : Type 0} (keeps : Type 0) (steps : J → Progress J O → Type 0)
 
   -- one more job came in and ran
   pub account-more : (job : J) (p q r t u : List J) (k l m : List O) (left : List J) (a b n : ℕ)
-      → Account keeps steps t p k left a → l ≡ k → (keeps → q ≡ p) → (keeps → u ≡ t ++ job ∷ [])
-      → Ran keeps steps job q r l m b → n ≡ counted (a + b) → Account keeps steps u r m left n
+      → Account keeps law t p k left a → l ≡ k → (keeps → q ≡ p) → (keeps → u ≡ t ++ job ∷ [])
+      → Ran keeps law job q r l m b → n ≡ counted (a + b) → Account keeps law u r m left n
   account-more job p q r t u k l m left a b n account same back came ran is =
-      let went = went-ran keeps steps job p q r k l m b back same ran in
+      let went = went-ran keeps law job p q r k l m b back same ran in
       account-append t (job ∷ []) u p went.passed r k (flat_map outs_of went.nodes) m left [] left
       a b n account (account-went job p r k m b went) came went.puts_are went.outs_are
       (sym (append-nil left)) is
 
   -- one more job came in and was passed on
   pub account-passed : (job : J) (p r t u : List J) (k : List O) (left : List J) (n : ℕ)
-      → Account keeps steps t p k left n → (keeps → r ≡ p ++ job ∷ []) → (keeps → u ≡ t ++ job ∷ [])
-      → Account keeps steps u r k left n
+      → Account keeps law t p k left n → (keeps → r ≡ p ++ job ∷ []) → (keeps → u ≡ t ++ job ∷ [])
+      → Account keeps law u r k left n
   account-passed job p r t u k left n account put came = record {
     nodes = account.nodes;
     lawful = account.lawful;
@@ -116,8 +116,8 @@ module _ {J O : Type 0} (keeps : Type 0) (steps : J → Progress J O → Type 0)
 
   -- the same account, where nothing more came in or was passed on
   pub account-same : (p r t u : List J) (k : List O) (left : List J) (n : ℕ)
-      → Account keeps steps t p k left n → (keeps → u ≡ t ++ []) → (keeps → r ≡ p)
-      → Account keeps steps u r k left n
+      → Account keeps law t p k left n → (keeps → u ≡ t ++ []) → (keeps → r ≡ p)
+      → Account keeps law u r k left n
   account-same p r t u k left n account came put = record {
     nodes = account.nodes;
     lawful = account.lawful;

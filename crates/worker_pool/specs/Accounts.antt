@@ -2,7 +2,7 @@
 use Rattle.std.specs.Prelude.{◌≡◌, ℕ, ◌-◌, ◌^◌, List, ◌++◌, map, min, sum_by, All}
 use Rattle.std.specs.List.{flat_map}
 use Rattle.run_queue.specs.Bag.{SameBag}
-use Rattle.worker_pool.specs.declared.job.Progress.{Progress}
+use Rattle.worker_pool.specs.Laws.{JobLaw}
 use Rattle.worker_pool.specs.Nodes.{Node, IsLawful, job_of, kids_of, outs_of, left_of, refusals_of}
 
 -- a number as a u64 counts it: it stays at the greatest
@@ -12,10 +12,10 @@ counted n = min n (2 ^ 64 - 1)
 -- Jobs came in, jobs were passed on to others, and these nodes are what became of the jobs between.
 -- They left these outs and these jobs, and so many were refused. Where accounts are kept the jobs of
 -- the nodes and those passed on are, as a bag, those that came in and all kids.
-pub record Account {J O : Type 0} (keeps : Type 0) (steps : J → Progress J O → Type 0)
+pub record Account {J O : Type 0} (keeps : Type 0) (law : JobLaw J O)
     (came passed : List J) (outs : List O) (left : List J) (refused : ℕ) : Type 0 where
   pub nodes : List (Node J O)
-  pub lawful : All (IsLawful steps) nodes
+  pub lawful : All (IsLawful law) nodes
   pub outs_are : outs ≡ flat_map outs_of nodes
   pub left_are : left ≡ flat_map left_of nodes
   pub refused_are : refused ≡ counted (sum_by refusals_of nodes)

@@ -7,14 +7,14 @@ use Rattle.worker_pool.specs.declared.lists.Lists as lists
 use Rattle.worker_pool.specs.declared.caller.Caller.{Caller}
 use Rattle.worker_pool.specs.Accounts.{Account}
 use Rattle.worker_pool.specs.Seats.{IsOpener}
-use Rattle.worker_pool.specs.Steps.{IsStep}
+use Rattle.worker_pool.specs.Laws.{law_of}
 use Rattle.worker_pool.specs.Stops.{IsStopSeatOf, jobs_of, stored_of, last_word}
 use Rattle.worker_pool.specs.Stops.{cancelled_word}
 
 module _ {J A W R L C O N T S K : Type 0} where
   -- the jobs that were scheduled through the caller, in order
   abbrev pub roots_of : Caller J A W R L C O N T S K → List J
-  roots_of caller = jobs_of caller.scheduled
+  roots_of caller = jobs_of caller.stop_seat
 
   -- how many workers its pool has started
   abbrev pub started_of : Caller J A W R L C O N T S K → ℕ
@@ -26,7 +26,7 @@ module _ {J A W R L C O N T S K : Type 0} where
 
   -- what was last stored in the stop word through the caller
   abbrev pub stop_of : Caller J A W R L C O N T S K → ℕ
-  stop_of caller = stored_of caller.scheduled
+  stop_of caller = stored_of caller.stop_seat
 
   -- the pool was cancelled through the caller
   abbrev pub IsCancelled : Caller J A W R L C O N T S K → Type 0
@@ -45,12 +45,12 @@ module _ {J A W R L C O N T S K : Type 0} where
     -- they came in, it passed some jobs on, and the others ran.
     pub record IsCaller (caller : Caller J A W R L C O N T S K) : Type 0 where
       pub seats : IsOpener row point caller.queue.now caller.seats.row caller.seats.waker
-      pub scheduled : IsStopSeatOf caller.stop.now caller.scheduled
+      pub stop_seat : IsStopSeatOf caller.stop.now caller.stop_seat
       pub few : started_of caller ≤ workers_of caller
       pub stop : stop_of caller ≡ last_word caller.cancelled
       pub took_none : row.keeps_accounts → row.takes_of caller.seats.row ≡ []
       pub account : Account row.keeps_accounts
-          (IsStep law.weight_of law.allows caller.ctx.now)
+          (law_of law caller.ctx.now)
           (roots_of caller) (row.puts_of caller.seats.row) (list.items_of caller.outs) []
           caller.refused
 

@@ -10,7 +10,7 @@ use Rattle.worker_pool.specs.declared.job.Job as job
 use Rattle.worker_pool.specs.declared.worker.WorkerState.{WorkerState}
 use Rattle.worker_pool.specs.Accounts.{Account, counted}
 use Rattle.worker_pool.specs.Seats.{IsIdle}
-use Rattle.worker_pool.specs.Steps.{IsStep}
+use Rattle.worker_pool.specs.Laws.{law_of}
 
 module _ {J A W R C O N T S : Type 0} where
   -- how many have come home
@@ -47,6 +47,6 @@ module _ {J A W R C O N T S : Type 0} where
     pub idle : All (IsIdle point queue.point) gathered.wakers.items
     pub wakers_many : length gathered.wakers.items ≡ count_of gathered
     pub lists_many : length gathered.lists.items ≡ count_of gathered
-    pub account : Account row.keeps_accounts (IsStep law.weight_of law.allows ctx)
+    pub account : Account row.keeps_accounts (law_of law ctx)
         (flat_map row.takes_of gathered.rows.items) (flat_map row.puts_of gathered.rows.items)
         (flat_map (λ list. list.items) gathered.lists.items) [] gathered.refused

@@ -2,7 +2,9 @@ pub use Rattle.run_queue.specs.Bag
 pub mod Accounts
 pub mod Callers
 pub mod OpenerStates
+pub mod Closings
 pub mod Gathered
+pub mod Laws
 pub mod Nodes
 pub mod Openings
 pub mod Ran

@@ -1,16 +1,18 @@
 -- What became of single jobs.
 use Rattle.std.specs.Prelude.{ℕ, List, [], ◌∷◌, Option, Some, None}
-use Rattle.worker_pool.specs.declared.job.Progress.{Progress}
 use Rattle.worker_pool.specs.declared.job.Progress.TheVariants as progress
+use Rattle.worker_pool.specs.Laws.{JobLaw}
 
--- The steps from the job on, each on the rest of the one before, fork these kids in this order, and
--- end in the out, or in none where memory was refused or the job was abandoned.
-pub data Runs {J O : Type 0} (steps : J → Progress J O → Type 0)
-    : J → List J → Option O → Type 0 where
-  ends : (job : J) (out : O) → steps job (progress.Done out) → Runs steps job [] (Some out)
-  stops : (job : J) → Runs steps job [] None
-  forks : (job kid rest : J) (kids : List J) (out : Option O) → steps job (progress.Fork kid rest)
-      → Runs steps rest kids out → Runs steps job (kid ∷ kids) out
+-- The steps from the job on, each on the rest of the one before, fork these kids in this order.
+-- They end in the out; or in none, where a step found no memory, or there was none to begin one with
+-- and what was left of the job was abandoned.
+pub data Runs {J O : Type 0} (law : JobLaw J O) : J → List J → Option O → Type 0 where
+  ends : (job : J) (out : O) → law.steps job (progress.Done out) → Runs law job [] (Some out)
+  lacks_memory : (job : J) → law.may_lack_memory job → Runs law job [] None
+  is_abandoned : (job : J) → law.may_be_abandoned job → Runs law job [] None
+  forks : (job kid rest : J) (kids : List J) (out : Option O)
+      → law.steps job (progress.Fork kid rest) → Runs law rest kids out
+      → Runs law job (kid ∷ kids) out
 
 -- a job that left its out, one that was refused memory or abandoned, and one that was never run
 pub data Node (J O : Type 0) : Type 0 where
@@ -49,8 +51,8 @@ module _ {J O : Type 0} where
   refusals_of (Refused job kids) = 1
   refusals_of (Left job) = 0
 
-  -- the job's steps lead to what the node says
-  abbrev pub IsLawful : (J → Progress J O → Type 0) → Node J O → Type 0
-  IsLawful steps (Done job out kids) = Runs steps job kids (Some out)
-  IsLawful steps (Refused job kids) = Runs steps job kids None
-  IsLawful steps (Left job) = Unit {0}
+  -- the job's run leads to what the node says
+  abbrev pub IsLawful : JobLaw J O → Node J O → Type 0
+  IsLawful law (Done job out kids) = Runs law job kids (Some out)
+  IsLawful law (Refused job kids) = Runs law job kids None
+  IsLawful law (Left job) = Unit {0}

@@ -1,5 +1,5 @@
 -- What the thread that opened a pool works with, and what it has done.
-use Rattle.std.specs.Prelude.{◌≡◌, ◌↔◌, List, [], IsTrue}
+use Rattle.std.specs.Prelude.{◌≡◌, ◌↔◌, ℕ, List, [], IsTrue}
 use Rattle.event_count.specs.declared.wait_point.WaitPoint as wait_point
 use Rattle.run_queue.specs.declared.rows.Rows as rows
 use Rattle.worker_pool.specs.declared.job.Job as job
@@ -8,9 +8,9 @@ use Rattle.worker_pool.specs.declared.caller.Caller.{Caller}
 use Rattle.worker_pool.specs.declared.opener_state.OpenerState.{OpenerState}
 use Rattle.worker_pool.specs.declared.pool.Pool.{Pool}
 use Rattle.worker_pool.specs.Accounts.{Account}
-use Rattle.worker_pool.specs.Callers.{IsCancelled, roots_of, workers_of, stop_of}
+use Rattle.worker_pool.specs.Callers.{IsCancelled, roots_of, started_of, workers_of, stop_of}
 use Rattle.worker_pool.specs.Seats.{IsOpener}
-use Rattle.worker_pool.specs.Steps.{IsStep}
+use Rattle.worker_pool.specs.Laws.{law_of}
 use Rattle.worker_pool.specs.Stops.{IsStopSeatOf, jobs_of, stored_of, open_word, closing_word}
 
 module _ {J A W R L C O N T S K : Type 0} (row : rows.Ghosts R J A S)
@@ -19,9 +19,9 @@ module _ {J A W R L C O N T S K : Type 0} (row : rows.Ghosts R J A S)
   pub record IsFresh (list : lists.Ghosts L O A K) (pool : Pool J A W R)
       (opener : OpenerState J A W R L C O N T S K) : Type 0 where
     pub seats : IsOpener row point pool.queue opener.seats.row opener.seats.waker
-    pub stop_seat : IsStopSeatOf pool.stop.shared opener.scheduled
-    pub no_roots : jobs_of opener.scheduled ≡ []
-    pub stored_none : stored_of opener.scheduled ≡ open_word
+    pub stop_seat : IsStopSeatOf pool.stop.shared opener.stop_seat
+    pub no_roots : jobs_of opener.stop_seat ≡ []
+    pub stored_none : stored_of opener.stop_seat ≡ open_word
     pub put_none : row.keeps_accounts → row.puts_of opener.seats.row ≡ []
     pub took_none : row.keeps_accounts → row.takes_of opener.seats.row ≡ []
     pub no_outs : list.items_of opener.outs ≡ []
@@ -32,19 +32,20 @@ module _ {J A W R L C O N T S K : Type 0} (row : rows.Ghosts R J A S)
       (pool : Pool J A W R) (ctx : C) (roots : List J)
       (opener : OpenerState J A W R L C O N T S K) : Type 0 where
     pub seats : IsOpener row point pool.queue opener.seats.row opener.seats.waker
-    pub stop_seat : IsStopSeatOf pool.stop.shared opener.scheduled
-    pub closing : stored_of opener.scheduled ≡ closing_word opener.cancelled
+    pub stop_seat : IsStopSeatOf pool.stop.shared opener.stop_seat
+    pub closing : stored_of opener.stop_seat ≡ closing_word opener.cancelled
     pub took_none : row.keeps_accounts → row.takes_of opener.seats.row ≡ []
-    pub account : Account row.keeps_accounts (IsStep law.weight_of law.allows ctx) roots
+    pub account : Account row.keeps_accounts (law_of law ctx) roots
         (row.puts_of opener.seats.row) (list.items_of opener.outs) [] opener.refused
 
-  -- It was lent as one caller and came back as another: the jobs that were scheduled meanwhile came
-  -- in, and it knows whether the pool was cancelled.
+  -- It was lent as a caller that was told of so many workers, and came back as another: the jobs
+  -- that were scheduled meanwhile came in, and it knows whether the pool was cancelled.
   pub record IsLent (law : job.Ghosts J A C O N) (list : lists.Ghosts L O A K) (pool : Pool J A W R)
-      (ctx : C) (before after : Caller J A W R L C O N T S K)
+      (ctx : C) (count : ℕ) (before after : Caller J A W R L C O N T S K)
       (opener : OpenerState J A W R L C O N T S K) : Type 0 where
     pub no_roots : roots_of before ≡ []
     pub workers : workers_of before ≡ pool.queue.workers
+    pub started : started_of before ≡ count
     pub stop : stop_of before ≡ open_word
     pub cancelled : IsTrue opener.cancelled ↔ IsCancelled after
     pub worked : HasWorked law list pool ctx (roots_of after) opener

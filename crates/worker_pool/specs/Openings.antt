@@ -44,7 +44,7 @@ module _ {J A W R C O N T S : Type 0} (row : rows.Ghosts R J A S) (point : wait_
   pub record IsByNumber (count : ℕ) (state : WorkerState J A W R C O N T S) : Type 0 where
     pub row_number : row.number_of state.seats.row ≡ state.number
     pub waker_number : point.number_of state.seats.waker ≡ state.number
-    pub words : state.words ≡ seeded_by state.number
+    pub random : state.random ≡ seeded_by state.number
     pub no_home : IsNone state.home ↔ (home_of count ranges state.number ≡ whole count)
     pub home : IfSome state.home (λ n. n.rows ≡ home_of count ranges state.number)
 
@@ -54,7 +54,7 @@ module _ {J A W R C O N T S : Type 0} (row : rows.Ghosts R J A S) (point : wait_
       (count : ℕ) (opened : Opened J A W R L C O N T S K) : Type 0 where
     pub workers : opened.pool.queue.workers ≡ count
     pub opener : IsFresh row point list opened.pool opened.opener
-    pub opener_words : opened.opener.seats.words ≡ seeded_by count
+    pub opener_random : opened.opener.seats.random ≡ seeded_by count
     pub at_work : (ctx : C) → All (IsAtWork row point law opened.pool ctx) opened.states.items
     pub numbers : map (λ state. state.number) opened.states.items ≡ range_with_len 0 count
     pub many : vec_len opened.states ≡ opened.pool.queue.workers

@@ -13,10 +13,13 @@ module _ {S X A B : Type 0} (is_at_work : S → X → Type 0) where
     pub room : vec_len ended + vec_len states ≤ vec_capacity ended
     pub begins : (count : ℕ) → count ≤ started + vec_len states → may_begin opening workplace count
 
-  -- all workers have ended, and what was done meanwhile has
-  pub record HasRun {D : Type 0} (has_left : B → S → D → Type 0) (workplace : S)
-      (states ended : Vec X A) (opening : B) (result : Vec X A × D) : Type 0 where
+  -- All workers have ended, and what was done meanwhile has: beside those that had been started,
+  -- and as many more as were joined.
+  pub record HasRun {D : Type 0} (has_left : B → S → ℕ → D → Type 0) (workplace : S)
+      (states ended : Vec X A) (started : ℕ) (opening : B) (result : Vec X A × ℕ × D)
+      : Type 0 where
     pub all : vec_len result.0 ≡ vec_len ended + vec_len states
     pub capacity : vec_capacity result.0 ≡ vec_capacity ended
     pub at_work : All (is_at_work workplace) result.0.items
-    pub left : has_left opening workplace result.1
+    pub few : result.1 ≤ vec_len states
+    pub left : has_left opening workplace (started + result.1) result.2

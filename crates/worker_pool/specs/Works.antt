@@ -8,7 +8,7 @@ use Rattle.worker_pool.specs.declared.pool.Pool.{Pool}
 use Rattle.worker_pool.specs.declared.worker.WorkerState.{WorkerState}
 use Rattle.worker_pool.specs.Accounts.{Account}
 use Rattle.worker_pool.specs.Seats.{IsOwner}
-use Rattle.worker_pool.specs.Steps.{IsStep}
+use Rattle.worker_pool.specs.Laws.{law_of}
 use Rattle.worker_pool.specs.Stops.{IsStopSeatOf}
 
 -- the partition ends inside a pool of so many workers, where there is one
@@ -25,6 +25,6 @@ module _ {J A W R C O N T S : Type 0} (row : rows.Ghosts R J A S) (point : wait_
     pub stop_seat : IsStopSeatOf pool.stop.shared state.stop
     pub home : IsInside pool.queue.workers state.home
     pub walks : pool.coprimes ≡ pool.queue.workers
-    pub account : Account row.keeps_accounts (IsStep law.weight_of law.allows ctx)
+    pub account : Account row.keeps_accounts (law_of law ctx)
         (row.takes_of state.seats.row) (row.puts_of state.seats.row) state.outs.items []
         state.refused

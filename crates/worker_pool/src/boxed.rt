@@ -1,5 +1,5 @@
 //! Tasks of any kind, as jobs.
-ghost use Rattle.std.specs.Prelude.{◌≡◌, ℕ, IsOk, IfOk};
+ghost use Rattle.std.specs.Prelude.{◌≡◌, ℕ, IsOk, IfOk, IfErr};
 ghost use Rattle.worker_pool.specs.Steps.{ForksLighter};
 
 use crate::job::{Job, Progress};
@@ -51,6 +51,9 @@ impl<A: Allocator> Job<A> for BoxedJob {
     ghost allows = { λ _ job progress. let task = BoxedTask-box job.0 in
         IsAnswered (task.tag_of job.0.value) (task.may_answer job.0.value) progress };
 
+    // None: it takes no memory.
+    ghost may_lack_memory = { λ _ _. ⊥ };
+
     ghost abandons = { λ _ job left. left ≡ job };
 
     fn weight(&self) -> u64 {
@@ -62,6 +65,7 @@ impl<A: Allocator> Job<A> for BoxedJob {
         ensures law { let task = BoxedTask-box self.0 in IfOk result
             (IsAnswered (task.tag_of self.0.value) (task.may_answer self.0.value)) }
         ensures lighter { IfOk result (ForksLighter (λ _. 0) 0) }
+        ensures lacks { IfErr result (λ _. ⊥) }
         ensures ok { IsOk result }
     {
         let BoxedJob(mut task) = self;

@@ -30,7 +30,7 @@ pub struct Caller<
     pub(crate) alloc: &'p A,
     pub(crate) ctx: &'p J::Ctx,
     pub(crate) seats: OpenerSeats<J, A, W, R>,
-    pub(crate) scheduled: StopSeat<J>,
+    pub(crate) stop_seat: StopSeat<J>,
     pub(crate) outs: L::List,
     pub(crate) refused: u64,
     /// Whether it cancelled the pool.
@@ -53,7 +53,7 @@ where
         ensures more { roots_of self.new ≡ roots_of self.old ++ job ∷ [] }
         ensures stop { stop_of self.new ≡ stop_of self.old }
     {
-        stop::note(self.stop, &mut self.scheduled, &job);
+        stop::note(self.stop, &mut self.stop_seat, &job);
         let Err(job) = self.seats.pass(rt, self.queue, job) else {
             return;
         };
@@ -77,7 +77,7 @@ where
         ensures same { roots_of self.new ≡ roots_of self.old }
         ensures cancelled { IsCancelled self.new }
     {
-        stop::cancel(self.stop, &mut self.scheduled);
+        stop::cancel(self.stop, &mut self.stop_seat);
         self.cancelled = true;
         self.queue.point.wake_all(rt, &mut self.seats.waker);
     }

@@ -1,11 +1,11 @@
 //! Closing a pool whose workers have all ended.
 ghost use Rattle.std.specs.Prelude.{◌≡◌, ◌+◌, List, [], All, false, length, vec_len};
-ghost use Rattle.std.specs.List.{flat_map};
 ghost use Rattle.worker_pool.specs.Accounts.{Account};
+ghost use Rattle.worker_pool.specs.Closings.{all_outs};
 ghost use Rattle.worker_pool.specs.Gathered.{HasGathered, HasRoom, IsEmpty, count_of};
 ghost use Rattle.worker_pool.specs.Ran.{RanToo, AreSettled};
 ghost use Rattle.worker_pool.specs.Seats.{IsOpener};
-ghost use Rattle.worker_pool.specs.Steps.{IsStep};
+ghost use Rattle.worker_pool.specs.Laws.{law_of};
 ghost use Rattle.worker_pool.specs.Works.{IsAtWork};
 
 use crate::closed::Closed;
@@ -35,7 +35,7 @@ pub(crate) fn close<RT, J, A, W, R, L>(
 ) -> Closed<J, A>
 where
     RT: Wait,
-    J: Job<A> + Drop,
+    J: Job<A>,
     J::Out: Drop,
     A: Allocator + Clone,
     W: WaitPoint<A>,
@@ -52,10 +52,10 @@ where
 
     // The jobs that came to the opener came in, and none is passed on any more.
     ensures account { (roots : List J) → Account R.keeps_accounts
-        (IsStep J.weight_of J.allows ctx.now) roots (R.puts_of opener.seats.row)
+        (law_of J.Job ctx.now) roots (R.puts_of opener.seats.row)
         (L.items_of opener.outs) [] opener.refused
-        → Account R.keeps_accounts (IsStep J.weight_of J.allows ctx.now) roots []
-        (flat_map (λ list. list.items) result.outs.items) result.left.items result.refused }
+        → Account R.keeps_accounts (law_of J.Job ctx.now) roots []
+        (all_outs result.outs) result.left.items result.refused }
 {
     let Gathered {
         mut rows,
@@ -73,15 +73,15 @@ where
     rows.push_reserved(seats.row);
     wakers.push_reserved(seats.waker);
     let Pool { queue, alloc, .. } = pool;
-    let left = queue.rows.drain_all(rows);
+    let mut left = queue.rows.drain_all(rows);
     queue.point.shut(wakers);
-    let (unrun, refused) = settle::<_, _, _, R, L>(
-        rt, alloc, ctx, cancelled, left, &mut outs, refused,
+    let refused = settle::<_, _, _, R, L>(
+        rt, &alloc, ctx, cancelled, &mut left, &mut outs, refused,
     );
     lists.push_reserved(L::into_vec(outs));
     Closed {
         outs: lists,
-        left: unrun,
+        left,
         refused: workers_refused.saturating_add(refused),
     }
 }
@@ -92,7 +92,7 @@ fn gather<J, A, W, R>(
     mut gathered: Gathered<J, A, W, R>,
 ) -> Gathered<J, A, W, R>
 where
-    J: Job<A> + Drop,
+    J: Job<A>,
     J::Out: Drop,
     A: Allocator + Clone,
     W: WaitPoint<A>,
@@ -111,33 +111,32 @@ where
     gathered
 }
 
-// Hands the jobs back where the pool was cancelled, and else runs them. So many were refused before,
-// and the answer counts those too.
+// Leaves the jobs as they are where the pool was cancelled, and else runs them. So many were refused
+// before, and the answer counts those too.
 fn settle<RT, J, A, R, L>(
     rt: &RT,
-    alloc: A,
+    alloc: &A,
     ctx: &J::Ctx,
     cancelled: bool,
-    left: Vec<J, A>,
+    left: &mut Vec<J, A>,
     outs: &mut L::List,
     before: u64,
-) -> (Vec<J, A>, u64)
+) -> u64
 where
     RT: Wait,
-    J: Job<A> + Drop,
+    J: Job<A>,
     J::Out: Drop,
     A: Allocator + Clone,
     R: Rows<J, A>,
     L: Lists<J::Out, A>,
-    ensures none_left { cancelled ≡ false → result.0.items ≡ [] }
-    ensures settled { AreSettled R.keeps_accounts (IsStep J.weight_of J.allows ctx.now) left.items
-        (L.items_of outs.old) (L.items_of outs.new) result.0.items before result.1 }
+    ensures none_left { cancelled ≡ false → left.new.items ≡ [] }
+    ensures settled { AreSettled R.keeps_accounts (law_of J.Job ctx.now) left.old.items
+        (L.items_of outs.old) (L.items_of outs.new) left.new.items before result }
 {
     if cancelled {
-        return (left, before);
+        return before;
     }
-    let refused = run_left::<_, _, _, R, L>(rt, &alloc, ctx, left, outs, before);
-    (Vec::new(alloc), refused)
+    run_left::<_, _, _, R, L>(rt, alloc, ctx, left, outs, before)
 }
 
 // Runs the jobs one after the other, each with all its kids. So many were refused before, and the
@@ -146,23 +145,24 @@ fn run_left<RT, J, A, R, L>(
     rt: &RT,
     alloc: &A,
     ctx: &J::Ctx,
-    left: Vec<J, A>,
+    left: &mut Vec<J, A>,
     outs: &mut L::List,
     before: u64,
 ) -> u64
 where
     RT: Wait,
-    J: Job<A> + Drop,
+    J: Job<A>,
     J::Out: Drop,
     A: Allocator + Clone,
     R: Rows<J, A>,
     L: Lists<J::Out, A>,
-    ensures { RanToo R.keeps_accounts (IsStep J.weight_of J.allows ctx.now) left.items
+    ensures none_left { left.new.items ≡ [] }
+    ensures ran { RanToo R.keeps_accounts (law_of J.Job ctx.now) left.old.items
         (L.items_of outs.old) (L.items_of outs.new) before result }
 {
     let mut closer: Closer<J, A, R> = Closer(PhantomData);
     let mut refused = before;
-    for job in left {
+    while let Some(job) = left.pop() {
         let more = begin::<_, _, _, L, _>(rt, alloc, ctx, &(), &mut closer, outs, job);
         refused = refused.saturating_add(more);
     }

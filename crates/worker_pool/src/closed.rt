@@ -6,7 +6,7 @@ use std::alloc::{Allocator, Global};
 #[derive(Drop)]
 pub struct Closed<J, A: Allocator = Global>
 where
-    J: Job<A> + Drop,
+    J: Job<A>,
     J::Out: Drop,
 {
     /// A list for each worker of the setup, by number, and then the caller's.

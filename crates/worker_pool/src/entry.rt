@@ -1,14 +1,12 @@
 //! Opening a pool, working in it, and closing it.
 ghost use Rattle.std.specs.Prelude.{◌≡◌, ◌+◌, ◌<◌, ◌≤◌, ◌↔◌, [], ◌∷◌, ◌++◌, vec_len, IfOk};
 ghost use Rattle.std.specs.Prelude.{IsErrOf};
-ghost use Rattle.std.specs.List.{flat_map};
 ghost use Rattle.std.specs.Fn.{FnOnceReturnsAtMut};
 ghost use Rattle.worker_pool.specs.Accounts.{Account};
-ghost use Rattle.worker_pool.specs.Callers.{IsCaller, StaysCaller, IsCancelled, roots_of};
-ghost use Rattle.worker_pool.specs.Callers.{started_of, workers_of, stop_of};
+ghost use Rattle.worker_pool.specs.Callers.{IsCaller, StaysCaller, roots_of, started_of, stop_of};
+ghost use Rattle.worker_pool.specs.Closings.{HasClosed, all_outs};
+ghost use Rattle.worker_pool.specs.Laws.{law_of};
 ghost use Rattle.worker_pool.specs.Setup.{IsPoolSize, IsNoPoolSize, AreNoPartitions};
-ghost use Rattle.worker_pool.specs.Steps.{IsStep};
-ghost use Rattle.worker_pool.specs.Stops.{open_word};
 
 use crate::caller::Caller;
 use crate::close::close;
@@ -64,12 +62,8 @@ where
     ensures lists { IfOk result (λ closed. vec_len closed.outs ≡ setup.now.workers + 1) }
     ensures account { IfOk result (λ closed. (before : _) × (after : _)
         × FnOnceReturnsAtMut F.FnOnce body before tt after
-        × (roots_of before ≡ [])
-        × (workers_of before ≡ setup.now.workers)
-        × (stop_of before ≡ open_word)
-        × (¬ IsCancelled after → closed.left.items ≡ [])
-        × Account R.keeps_accounts (IsStep J.weight_of J.allows ctx.now) (roots_of after) []
-        (flat_map (λ list. list.items) closed.outs.items) closed.left.items closed.refused) }
+        × HasClosed R.keeps_accounts (law_of J.Job ctx.now) setup.now.workers setup.now.workers
+        before after (all_outs closed.outs) closed.left.items closed.refused) }
 {
     with_pool_limited::<W, R, L, _, _, _, _, _>(rt, alloc, setup, ctx, gate, setup.workers, body)
 }
@@ -114,16 +108,12 @@ where
     ensures lists { IfOk result (λ closed. vec_len closed.outs ≡ setup.now.workers + 1) }
     ensures account { IfOk result (λ closed. (before : _) × (after : _)
         × FnOnceReturnsAtMut F.FnOnce body before tt after
-        × (roots_of before ≡ [])
-        × (workers_of before ≡ setup.now.workers)
-        × (stop_of before ≡ open_word)
-        × (¬ IsCancelled after → closed.left.items ≡ [])
-        × Account R.keeps_accounts (IsStep J.weight_of J.allows ctx.now) (roots_of after) []
-        (flat_map (λ list. list.items) closed.outs.items) closed.left.items closed.refused) }
+        × HasClosed R.keeps_accounts (law_of J.Job ctx.now) setup.now.workers starts
+        before after (all_outs closed.outs) closed.left.items closed.refused) }
 {
     let opened = open::<J, A, W, R, L>(alloc, setup)?;
     let pool = opened.pool;
-    let workplace = PoolWorkplace {
+    let place = PoolWorkplace {
         pool: &pool,
         ctx,
         gate,
@@ -133,7 +123,7 @@ where
         opener: opened.opener,
         body,
     };
-    let (states, opener) = run_first(rt, &workplace, starts, opened.states, opened.ended, opening);
+    let (states, _, opener) = run_first(rt, &place, starts, opened.states, opened.ended, opening);
     Ok(close(rt, pool, ctx, opener, states, opened.gathered))
 }
 
@@ -169,8 +159,8 @@ where
         × AreNoPartitions setup.now.workers setup.now.partitions.items) }
     ensures lists { IfOk result (λ closed. vec_len closed.outs ≡ setup.now.workers + 1) }
     ensures account { IfOk result (λ closed.
-        Account R.keeps_accounts (IsStep J.weight_of J.allows ctx.now) (root ∷ []) []
-        (flat_map (λ list. list.items) closed.outs.items) closed.left.items closed.refused) }
+        Account R.keeps_accounts (law_of J.Job ctx.now) (root ∷ []) [] (all_outs closed.outs)
+        closed.left.items closed.refused) }
     ensures none_left { IfOk result (λ closed. closed.left.items ≡ []) }
 {
     with_pool::<W, R, L, _, _, _, _, _>(

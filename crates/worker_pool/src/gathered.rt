@@ -11,7 +11,7 @@ use std::alloc::{AllocError, Allocator};
 #[derive(Drop)]
 pub(crate) struct Gathered<J, A, W, R>
 where
-    J: Job<A> + Drop,
+    J: Job<A>,
     J::Out: Drop,
     A: Allocator,
     W: WaitPoint<A>,
@@ -25,7 +25,7 @@ where
 
 impl<J, A, W, R> Gathered<J, A, W, R>
 where
-    J: Job<A> + Drop,
+    J: Job<A>,
     J::Out: Drop,
     A: Allocator + Clone,
     W: WaitPoint<A>,

@@ -18,11 +18,11 @@ pub(crate) struct HomeRows<A: Allocator> {
 
 impl<A: Allocator> HomeRows<A> {
     /// The walk over the partition that the next random word picks.
-    pub(crate) fn walk(&self, words: &mut Lcg64Xsh32) -> Walk
+    pub(crate) fn walk(&self, random: &mut Lcg64Xsh32) -> Walk
         ensures { All (λ row. row < self.now.rows.limit) result }
     {
         let (start, limit) = (self.rows.start(), self.rows.limit());
-        Walk::of(words.next_word(), start, limit, &self.coprimes)
+        Walk::of(random.next_word(), start, limit, &self.coprimes)
     }
 }
 

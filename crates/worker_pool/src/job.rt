@@ -1,5 +1,5 @@
 //! What workers run.
-ghost use Rattle.std.specs.Prelude.{◌≡◌, ℕ, IfOk};
+ghost use Rattle.std.specs.Prelude.{◌≡◌, ℕ, IfOk, IfErr};
 
 use std::alloc::{AllocError, Allocator};
 
@@ -34,6 +34,9 @@ pub trait Job<A: Allocator>: Sized {
     // The job's law: which progress a step may make.
     ghost allows: { Self.Ctx → Self → Progress Self Self.Out → Type 0 };
 
+    // Which jobs a step may find no memory for: any, where a kind of jobs says nothing.
+    ghost may_lack_memory: { Self.Ctx → Self → Type 0 } = { λ _ _. Unit {0} };
+
     // What may be left of a job that was abandoned.
     ghost abandons: { Self.Ctx → Self → Self.Abandoned → Type 0 };
 
@@ -43,7 +46,8 @@ pub trait Job<A: Allocator>: Sized {
     /// Takes a step. Where it finds no memory the job has ended too.
     fn step(self, alloc: A, ctx: &Self::Ctx) -> Result<Progress<Self, Self::Out>, AllocError>
         ensures law { IfOk result (allows ctx.now self) }
-        ensures lighter { IfOk result (ForksLighter weight_of (weight_of self)) };
+        ensures lighter { IfOk result (ForksLighter weight_of (weight_of self)) }
+        ensures lacks { IfErr result (λ _. may_lack_memory ctx.now self) };
 
     /// Ends a job that isn't run, since there was no room for its result. What is left shows that
     /// it has done what it owes.

@@ -37,7 +37,7 @@ use steal_walk::Coprimes;
 #[derive(Drop)]
 pub(crate) struct Opened<J, A, W, R, L>
 where
-    J: Job<A> + Drop,
+    J: Job<A>,
     J::Out: Drop,
     A: Allocator,
     W: WaitPoint<A>,
@@ -60,7 +60,7 @@ pub(crate) fn open<J, A, W, R, L>(
     setup: &Setup<A>,
 ) -> Result<Opened<J, A, W, R, L>, PoolFault>
 where
-    J: Job<A> + Drop,
+    J: Job<A>,
     J::Out: Drop,
     A: Allocator + Clone,
     W: WaitPoint<A>,
@@ -83,7 +83,7 @@ fn open_checked<J, A, W, R, L>(
     setup: &Setup<A>,
 ) -> Result<Opened<J, A, W, R, L>, AllocError>
 where
-    J: Job<A> + Drop,
+    J: Job<A>,
     J::Out: Drop,
     A: Allocator + Clone,
     W: WaitPoint<A>,
@@ -97,7 +97,7 @@ where
     let workers = setup.workers as usize;
     let gathered = Gathered::with_room(&alloc, workers + 1)?;
     let ended = room(&alloc, workers)?;
-    let (pool, opener, states) = open_manned(alloc, setup)?;
+    let (pool, opener, states) = open_with_states(alloc, setup)?;
     Ok(Opened {
         pool,
         opener,
@@ -108,7 +108,7 @@ where
 }
 
 // A pool, what its opener works with, and the state of each worker, by number.
-fn open_manned<J, A, W, R, L>(
+fn open_with_states<J, A, W, R, L>(
     alloc: A,
     setup: &Setup<A>,
 ) -> Result<
@@ -120,7 +120,7 @@ fn open_manned<J, A, W, R, L>(
     AllocError,
 >
 where
-    J: Job<A> + Drop,
+    J: Job<A>,
     J::Out: Drop,
     A: Allocator + Clone,
     W: WaitPoint<A>,
@@ -130,7 +130,7 @@ where
     requires partitions { ArePartitions setup.now.workers setup.now.partitions.items }
     ensures workers { IfOk result (λ made. made.0.queue.workers ≡ setup.now.workers) }
     ensures opener { IfOk result (λ made. IsFresh R.Rows W.WaitPoint L.Lists made.0 made.1) }
-    ensures words { IfOk result (λ made. made.1.seats.words ≡ seeded_by setup.now.workers) }
+    ensures random { IfOk result (λ made. made.1.seats.random ≡ seeded_by setup.now.workers) }
     ensures at_work { IfOk result (λ made. (ctx : J.Ctx) →
         All (IsAtWork R.Rows W.WaitPoint J.Job made.0 ctx) made.2.items) }
     ensures numbers { IfOk result (λ made.
@@ -139,8 +139,8 @@ where
         setup.now.partitions.items setup.now.workers) made.2.items) }
 {
     let (queue, rows, wakers) = open_queue::<J, A, W, R>(&alloc, setup.workers as u16)?;
-    let (pool, scheduled) = pool_of(alloc, queue)?;
-    let (opener, states) = man(&pool, setup, rows, wakers, scheduled)?;
+    let (pool, stop_seat) = pool_of(alloc, queue)?;
+    let (opener, states) = opener_and_workers(&pool, setup, rows, wakers, stop_seat)?;
     Ok((pool, opener, states))
 }
 
@@ -223,7 +223,7 @@ where
     ensures none { IfOk result (λ made. jobs_of made.1 ≡ []) }
     ensures stored { IfOk result (λ made. stored_of made.1 ≡ open_word) }
 {
-    let (stop, scheduled) = stop::open(&alloc)?;
+    let (stop, stop_seat) = stop::open(&alloc)?;
     let coprimes = Coprimes::new(alloc.clone()?, u32::from(queue.workers))?;
     let pool = Pool {
         queue,
@@ -231,19 +231,19 @@ where
         coprimes,
         alloc,
     };
-    Ok((pool, scheduled))
+    Ok((pool, stop_seat))
 }
 
 // What the opener works with, to whom the last seats go, and the state of each worker, by number.
-fn man<J, A, W, R, L>(
+fn opener_and_workers<J, A, W, R, L>(
     pool: &Pool<J, A, W, R>,
     setup: &Setup<A>,
     mut rows: Vec<R::Seat, A>,
     mut wakers: Vec<W::Seat, A>,
-    mut scheduled: StopSeat<J>,
+    mut stop_seat: StopSeat<J>,
 ) -> Result<(OpenerState<J, A, W, R, L>, Vec<WorkerState<J, A, W, R>, A>), AllocError>
 where
-    J: Job<A> + Drop,
+    J: Job<A>,
     J::Out: Drop,
     A: Allocator + Clone,
     W: WaitPoint<A>,
@@ -257,11 +257,11 @@ where
     requires wakers { AreWakers W.WaitPoint pool.now.queue.point 0 wakers.items }
     requires rows_many { length rows.items ≡ setup.now.workers + 1 }
     requires wakers_many { length wakers.items ≡ setup.now.workers + 1 }
-    requires stop { IsStopSeatOf pool.now.stop.shared scheduled }
-    requires none { jobs_of scheduled ≡ [] }
-    requires stored { stored_of scheduled ≡ open_word }
+    requires stop { IsStopSeatOf pool.now.stop.shared stop_seat }
+    requires none { jobs_of stop_seat ≡ [] }
+    requires stored { stored_of stop_seat ≡ open_word }
     ensures opener { IfOk result (λ made. IsFresh R.Rows W.WaitPoint L.Lists pool.now made.0) }
-    ensures words { IfOk result (λ made. made.0.seats.words ≡ seeded_by setup.now.workers) }
+    ensures random { IfOk result (λ made. made.0.seats.random ≡ seeded_by setup.now.workers) }
     ensures at_work { IfOk result (λ made. (ctx : J.Ctx) →
         All (IsAtWork R.Rows W.WaitPoint J.Job pool.now ctx) made.1.items) }
     ensures numbers { IfOk result (λ made.
@@ -271,17 +271,17 @@ where
 {
     let row = take_last(&mut rows);
     let waker = take_last(&mut wakers);
-    let states = deal(pool, setup, &mut scheduled, rows, wakers)?;
+    let states = worker_states(pool, setup, &mut stop_seat, rows, wakers)?;
     let outs = L::new(pool.alloc.clone()?);
     let opener = OpenerState {
         seats: OpenerSeats {
             row,
             waker,
-            words: Lcg64Xsh32::seed_from_u64(u64::from(setup.workers)),
+            random: Lcg64Xsh32::seed_from_u64(u64::from(setup.workers)),
             started: 0,
             of: PhantomData,
         },
-        scheduled,
+        stop_seat,
         outs,
         refused: 0,
         cancelled: false,
@@ -301,15 +301,15 @@ fn take_last<T, A: Allocator>(list: &mut Vec<T, A>) -> T
 }
 
 // The state of each worker, by number.
-fn deal<J, A, W, R>(
+fn worker_states<J, A, W, R>(
     pool: &Pool<J, A, W, R>,
     setup: &Setup<A>,
-    scheduled: &mut StopSeat<J>,
+    stop_seat: &mut StopSeat<J>,
     rows: Vec<R::Seat, A>,
     wakers: Vec<W::Seat, A>,
 ) -> Result<Vec<WorkerState<J, A, W, R>, A>, AllocError>
 where
-    J: Job<A> + Drop,
+    J: Job<A>,
     J::Out: Drop,
     A: Allocator + Clone,
     W: WaitPoint<A>,
@@ -318,14 +318,14 @@ where
     requires coprimes { pool.now.coprimes ≡ pool.now.queue.workers }
     requires same_size { setup.now.workers ≡ pool.now.queue.workers }
     requires partitions { ArePartitions setup.now.workers setup.now.partitions.items }
-    requires stop { IsStopSeatOf pool.now.stop.shared scheduled.old }
+    requires stop { IsStopSeatOf pool.now.stop.shared stop_seat.old }
     requires rows { AreRowSeats R.Rows pool.now.queue.rows 0 rows.items }
     requires wakers { AreWakers W.WaitPoint pool.now.queue.point 0 wakers.items }
     requires rows_many { length rows.items ≡ pool.now.queue.workers }
     requires wakers_many { length wakers.items ≡ pool.now.queue.workers }
-    ensures stop { IsStopSeatOf pool.now.stop.shared scheduled.new }
-    ensures same { jobs_of scheduled.new ≡ jobs_of scheduled.old }
-    ensures stored { stored_of scheduled.new ≡ stored_of scheduled.old }
+    ensures stop { IsStopSeatOf pool.now.stop.shared stop_seat.new }
+    ensures same { jobs_of stop_seat.new ≡ jobs_of stop_seat.old }
+    ensures stored { stored_of stop_seat.new ≡ stored_of stop_seat.old }
     ensures at_work { IfOk result (λ states. (ctx : J.Ctx) →
         All (IsAtWork R.Rows W.WaitPoint J.Job pool.now ctx) states.items) }
     ensures numbers { IfOk result (λ states.
@@ -336,7 +336,7 @@ where
     let mut states = room(&pool.alloc, rows.len())?;
     for (row, waker) in rows.into_iter().zip(wakers) {
         let number = states.len() as u32;
-        let stop = stop::deal(&pool.stop.shared, scheduled);
+        let stop = stop::new_seat(&pool.stop.shared, stop_seat);
         states.push_reserved(state_of(pool, setup, number, row, waker, stop)?);
     }
     Ok(states)
@@ -352,7 +352,7 @@ fn state_of<J, A, W, R>(
     stop: StopSeat<J>,
 ) -> Result<WorkerState<J, A, W, R>, AllocError>
 where
-    J: Job<A> + Drop,
+    J: Job<A>,
     J::Out: Drop,
     A: Allocator + Clone,
     W: WaitPoint<A>,
@@ -382,7 +382,7 @@ where
             of: PhantomData,
         },
         stop,
-        words: Lcg64Xsh32::seed_from_u64(u64::from(number)),
+        random: Lcg64Xsh32::seed_from_u64(u64::from(number)),
         outs,
         refused: 0,
     })

@@ -1,5 +1,6 @@
 //! How the thread that opened a pool passes jobs on.
 ghost use Rattle.std.specs.Prelude.{◌≡◌, ℕ, ◌+◌, ◌<◌, ◌≤◌, List};
+ghost use Rattle.steal_walk.specs.Walk.{place_of};
 
 use crate::job_queue::JobQueue;
 use crate::passes::Passes;
@@ -16,7 +17,7 @@ use std::sync::Wait;
 pub(crate) struct OpenerSeats<J, A: Allocator, W: WaitPoint<A>, R: Rows<J, A>> {
     pub(crate) row: R::Seat,
     pub(crate) waker: W::Seat,
-    pub(crate) words: Lcg64Xsh32,
+    pub(crate) random: Lcg64Xsh32,
     /// How many workers were started.
     pub(crate) started: u32,
     pub(crate) of: PhantomData<(J, A)>,
@@ -42,7 +43,7 @@ impl<J, A: Allocator, W: WaitPoint<A>, R: Rows<J, A>> Passes<J> for OpenerSeats<
         if self.started == 0 {
             return Err(job);
         }
-        let row = row_at(self.words.next_word(), queue.workers);
+        let row = row_at(self.random.next_word(), queue.workers);
         queue.rows.put_back(rt, &mut self.row, row, job)?;
         queue.point.wake_one(rt, &mut self.waker);
         Ok(())
@@ -52,7 +53,8 @@ impl<J, A: Allocator, W: WaitPoint<A>, R: Rows<J, A>> Passes<J> for OpenerSeats<
 // The row that stands among the rows where the word stands among the words of 32 bits.
 fn row_at(word: u32, rows: u16) -> u16
     requires { 0 < rows }
-    ensures { result < rows }
+    ensures place { result ≡ place_of word rows }
+    ensures below { result < rows }
 {
     ((u64::from(word) * u64::from(rows)) >> 32) as u16
 }

@@ -29,7 +29,7 @@ where
     L: Lists<J::Out, A>,
 {
     pub(crate) seats: OpenerSeats<J, A, W, R>,
-    pub(crate) scheduled: StopSeat<J>,
+    pub(crate) stop_seat: StopSeat<J>,
     pub(crate) outs: L::List,
     pub(crate) refused: u64,
     /// Whether the pool was cancelled.
@@ -64,7 +64,7 @@ where
         → started_of before ≡ started
         → StaysCaller R.Rows W.WaitPoint J.Job L.Lists before after }
     ensures { (before : _) × (after : _) × FnOnceReturnsAtMut F.FnOnce body before tt after
-        × IsLent R.Rows W.WaitPoint J.Job L.Lists pool.now ctx.now before after result }
+        × IsLent R.Rows W.WaitPoint J.Job L.Lists pool.now ctx.now started before after result }
 {
     let mut caller = caller_of(pool, ctx, opener, started);
     call(&mut caller, body);
@@ -96,7 +96,7 @@ where
 {
     let OpenerState {
         mut seats,
-        scheduled,
+        stop_seat,
         outs,
         refused,
         cancelled: _,
@@ -108,7 +108,7 @@ where
         alloc: &pool.alloc,
         ctx,
         seats,
-        scheduled,
+        stop_seat,
         outs,
         refused,
         cancelled: false,
@@ -141,16 +141,16 @@ where
         alloc: _,
         ctx: _,
         mut seats,
-        mut scheduled,
+        mut stop_seat,
         outs,
         refused,
         cancelled,
     } = caller;
-    stop::set(&pool.stop.shared, &mut scheduled, cancelled);
+    stop::set(&pool.stop.shared, &mut stop_seat, cancelled);
     pool.queue.point.wake_all(rt, &mut seats.waker);
     OpenerState {
         seats,
-        scheduled,
+        stop_seat,
         outs,
         refused,
         cancelled,

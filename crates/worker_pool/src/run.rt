@@ -1,7 +1,7 @@
 //! Running one job to its end.
 ghost use Rattle.std.specs.Prelude.{◌≡◌, ◌+◌, ◌^◌, ◌<◌, ◌≤◌, length};
 ghost use Rattle.worker_pool.specs.Ran.{Ran};
-ghost use Rattle.worker_pool.specs.Steps.{IsStep};
+ghost use Rattle.worker_pool.specs.Laws.{law_of};
 
 use crate::job::{Job, Progress};
 use crate::lists::Lists;
@@ -30,7 +30,7 @@ where
     ensures ready { P.is_ready place.now passer.new }
     ensures number { P.number_of passer.new ≡ P.number_of passer.old }
     ensures takes { P.keeps_accounts → P.takes_of passer.new ≡ P.takes_of passer.old }
-    ensures ran { Ran P.keeps_accounts (IsStep J.weight_of J.allows ctx.now) job
+    ensures ran { Ran P.keeps_accounts (law_of J.Job ctx.now) job
         (P.puts_of passer.old) (P.puts_of passer.new)
         (L.items_of outs.old) (L.items_of outs.new) result }
 {
@@ -67,7 +67,7 @@ where
     ensures takes { P.keeps_accounts → P.takes_of passer.new ≡ P.takes_of passer.old }
     ensures room { length (L.items_of outs.new) + owed ≤ L.room_of outs.new }
     ensures fits { L.room_of outs.new < 2 ^ 63 }
-    ensures ran { Ran P.keeps_accounts (IsStep J.weight_of J.allows ctx.now) job
+    ensures ran { Ran P.keeps_accounts (law_of J.Job ctx.now) job
         (P.puts_of passer.old) (P.puts_of passer.new)
         (L.items_of outs.old) (L.items_of outs.new) result }
 {

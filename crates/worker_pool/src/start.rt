@@ -31,13 +31,13 @@ pub(crate) trait Opening<S> {
     // It may begin at this workplace, where so many workers were started.
     ghost may_begin: { Self → S → ℕ → Type 0 };
 
-    // It has ended, and this is what it left.
-    ghost has_left: { Self → S → Self.State → Type 0 };
+    // It has ended, where so many workers were started, and this is what it left.
+    ghost has_left: { Self → S → ℕ → Self.State → Type 0 };
 
     /// Does it, and lets the workers end.
     fn run(self, workplace: &S, started: u32) -> Self::State
         requires { may_begin self workplace.now started }
-        ensures { has_left self workplace.now result };
+        ensures { has_left self workplace.now started result };
 }
 
 /// A worker that was at work here still is.
@@ -52,7 +52,8 @@ impl<X, S: Workplace<X>> Promise<X> for ComeHome<S> {
 const NOBODY: u64 = u64::MAX;
 
 /// Starts a worker for each of the first `starts` states, calls the opening with how many were
-/// started, and brings all states home, by number. A worker that wasn't started does nothing.
+/// started, and brings all states home, by number. A worker that wasn't started does nothing. The
+/// answer counts the threads that were joined: all that were started.
 pub(crate) fn run_first<RT, X, A, S, B>(
     rt: &RT,
     workplace: &S,
@@ -60,7 +61,7 @@ pub(crate) fn run_first<RT, X, A, S, B>(
     mut states: Vec<X, A>,
     ended: Vec<X, A>,
     opening: B,
-) -> (Vec<X, A>, B::State)
+) -> (Vec<X, A>, u32, B::State)
 where
     RT: Threads + Wait + Sync,
     X: Send + Drop,
@@ -76,23 +77,25 @@ where
     ensures all { vec_len result.0 ≡ vec_len states }
     ensures capacity { vec_capacity result.0 ≡ vec_capacity ended }
     ensures at_work { All (S.is_at_work workplace.now) result.0.items }
-    ensures left { B.has_left opening workplace.now result.1 }
+    ensures few { result.1 ≤ starts }
+    ensures joined { result.1 ≤ vec_len states }
+    ensures left { B.has_left opening workplace.now result.1 result.2 }
 {
     if states.len() > starts as usize {
         let Some(last) = states.pop() else {
             unreachable!()
         };
-        let (mut ended, state) = run_first(rt, workplace, starts, states, ended, opening);
+        let (mut ended, joined, state) = run_first(rt, workplace, starts, states, ended, opening);
         ended.push_reserved(last);
-        return (ended, state);
+        return (ended, joined, state);
     }
     let left_out = AtomicU64::new(NOBODY);
     thread::scope(
         thread::scope_env(),
         rt,
-        |scope| -> (Vec<X, A>, B::State)
+        |scope| -> (Vec<X, A>, u32, B::State)
             requires { IsToRun S.is_at_work B.may_begin workplace.now states ended 0 opening }
-            ensures { HasRun S.is_at_work B.has_left workplace.entry.now states ended opening result }
+            ensures { HasRun S.is_at_work B.has_left workplace.entry.now states ended 0 opening result }
         { start_all(rt, scope, workplace, &left_out, states, ended, 0, opening) },
     )
 }
@@ -109,7 +112,7 @@ fn start_all<'s, E, RT, X, A, S, B>(
     ended: Vec<X, A>,
     started: u32,
     opening: B,
-) -> (Vec<X, A>, B::State)
+) -> (Vec<X, A>, u32, B::State)
 where
     RT: Threads + Wait + Sync,
     X: Send + Drop + 's,
@@ -117,10 +120,10 @@ where
     S: Workplace<X> + Sync,
     B: Opening<S> + Drop,
     requires { IsToRun S.is_at_work B.may_begin workplace.now states ended started opening }
-    ensures { HasRun S.is_at_work B.has_left workplace.now states ended opening result }
+    ensures { HasRun S.is_at_work B.has_left workplace.now states ended started opening result }
 {
     let Some(next) = states.pop() else {
-        return (ended, opening.run(workplace, started));
+        return (ended, 0, opening.run(workplace, started));
     };
     let number = states.len() as u64;
     match scope.spawn_with(
@@ -137,7 +140,7 @@ where
         },
     ) {
         Ok(child) => {
-            let (mut ended, state) = start_all(
+            let (mut ended, joined, state) = start_all(
                 rt,
                 scope,
                 workplace,
@@ -148,15 +151,15 @@ where
                 opening,
             );
             ended.push_reserved(child.join(rt));
-            (ended, state)
+            (ended, joined + 1, state)
         }
         Err(refused) => {
-            let (mut ended, state) = start_all(
+            let (mut ended, joined, state) = start_all(
                 rt, scope, workplace, left_out, states, ended, started, opening,
             );
             left_out.store(number, Ordering::SeqCst);
             ended.push_reserved((refused.value)());
-            (ended, state)
+            (ended, joined, state)
         }
     }
 }

@@ -104,7 +104,7 @@ pub fn open<J, A: Allocator + Clone>(
 }
 
 /// Another seat.
-pub fn deal<J>(stop: &StopWord<J>, seat: &mut StopSeat<J>) -> StopSeat<J>
+pub fn new_seat<J>(stop: &StopWord<J>, seat: &mut StopSeat<J>) -> StopSeat<J>
     requires { IsStopSeatOf stop.now seat.old }
     ensures of { IsStopSeatOf stop.now seat.new × IsStopSeatOf stop.now result }
     ensures same { jobs_of seat.new ≡ jobs_of seat.old }

@@ -40,7 +40,7 @@ where
     pub(crate) home: Option<HomeRows<A>>,
     pub(crate) seats: WorkerSeats<J, A, W, R>,
     pub(crate) stop: StopSeat<J>,
-    pub(crate) words: Lcg64Xsh32,
+    pub(crate) random: Lcg64Xsh32,
     pub(crate) outs: Vec<J::Out, A>,
     pub(crate) refused: u64,
 }
@@ -81,7 +81,7 @@ where
         home,
         mut seats,
         mut stop,
-        mut words,
+        mut random,
         mut outs,
         mut refused,
     } = state;
@@ -89,7 +89,7 @@ where
     for _ in rt.forever() {
         gate.before(number, turn);
         turn = turn.saturating_add(1);
-        match take_turn(rt, pool, &home, &mut seats, &mut stop, &mut words) {
+        match take_turn(rt, pool, &home, &mut seats, &mut stop, &mut random) {
             Turn::Found(job) => {
                 let more = begin::<_, _, _, VecLists, _>(
                     rt,
@@ -109,7 +109,7 @@ where
                     home,
                     seats,
                     stop,
-                    words,
+                    random,
                     outs,
                     refused,
                 };
@@ -127,7 +127,7 @@ fn take_turn<RT, J, A, W, R>(
     home: &Option<HomeRows<A>>,
     seats: &mut WorkerSeats<J, A, W, R>,
     stop: &mut StopSeat<J>,
-    words: &mut Lcg64Xsh32,
+    random: &mut Lcg64Xsh32,
 ) -> Turn<J>
 where
     RT: Wait,
@@ -152,15 +152,15 @@ where
         return Turn::Found(job);
     }
     if let Some(home) = home {
-        if let Some(job) = steal(rt, rows, &mut seats.row, home.walk(words)) {
+        if let Some(job) = steal(rt, rows, &mut seats.row, home.walk(random)) {
             return Turn::Found(job);
         }
     }
-    let walk = walk_of(pool, words);
+    let walk = walk_of(pool, random);
     if let Some(job) = steal(rt, rows, &mut seats.row, walk) {
         return Turn::Found(job);
     }
-    wait(rt, pool, seats, stop, words)
+    wait(rt, pool, seats, stop, random)
 }
 
 // Says that it is about to wait, looks once more at the stop word and at all rows, and waits where
@@ -170,7 +170,7 @@ fn wait<RT, J, A, W, R>(
     pool: &Pool<J, A, W, R>,
     seats: &mut WorkerSeats<J, A, W, R>,
     stop: &mut StopSeat<J>,
-    words: &mut Lcg64Xsh32,
+    random: &mut Lcg64Xsh32,
 ) -> Turn<J>
 where
     RT: Wait,
@@ -189,7 +189,7 @@ where
     let JobQueue { rows, point, .. } = &pool.queue;
     point.enter(rt, &mut seats.waker);
     let stopped = stop::is_set(&pool.stop.shared, stop);
-    let walk = walk_of(pool, words);
+    let walk = walk_of(pool, random);
     if let Some(row) = first_full(rt, rows, &mut seats.row, walk) {
         point.leave(rt, &mut seats.waker);
         return match rows.take_back(rt, &mut seats.row, row) {
@@ -209,7 +209,7 @@ where
 }
 
 // The walk over all rows that the next random word picks.
-fn walk_of<J, A, W, R>(pool: &Pool<J, A, W, R>, words: &mut Lcg64Xsh32) -> Walk
+fn walk_of<J, A, W, R>(pool: &Pool<J, A, W, R>, random: &mut Lcg64Xsh32) -> Walk
 where
     A: Allocator,
     W: WaitPoint<A>,
@@ -219,5 +219,5 @@ where
     ensures { All (λ row. row < R.row_count pool.now.queue.rows) result }
 {
     let workers = u32::from(pool.queue.workers);
-    Walk::of(words.next_word(), 0, workers, &pool.coprimes)
+    Walk::of(random.next_word(), 0, workers, &pool.coprimes)
 }

@@ -25,7 +25,7 @@ pub(crate) struct PoolWorkplace<'p, J: Job<A>, A: Allocator, W: WaitPoint<A>, R:
 
 impl<'p, J, A, W, R, G> Workplace<WorkerState<J, A, W, R>> for PoolWorkplace<'p, J, A, W, R, G>
 where
-    J: Job<A> + Drop,
+    J: Job<A>,
     J::Out: Drop,
     A: Allocator + Clone,
     W: WaitPoint<A>,
@@ -46,7 +46,7 @@ where
 #[derive(Drop)]
 pub(crate) struct LendsCaller<'p, RT, J, A, W, R, L, F>
 where
-    J: Job<A> + Drop,
+    J: Job<A>,
     A: Allocator,
     W: WaitPoint<A>,
     R: Rows<J, A>,
@@ -64,7 +64,7 @@ impl<'p, W, R, L, RT, J, A, G, F> Opening<PoolWorkplace<'p, J, A, W, R, G>>
     for LendsCaller<'p, RT, J, A, W, R, L, F>
 where
     RT: Wait,
-    J: Job<A> + Drop,
+    J: Job<A>,
     J::Out: Drop,
     A: Allocator + Clone,
     W: WaitPoint<A>,
@@ -90,9 +90,9 @@ where
         → started_of before ≡ started
         → StaysCaller R.Rows W.WaitPoint J.Job L.Lists before after) };
 
-    ghost has_left = { λ opening workplace opener. (before : _) × (after : _)
+    ghost has_left = { λ opening workplace started opener. (before : _) × (after : _)
         × FnOnceReturnsAtMut F.FnOnce opening.body before tt after
-        × IsLent R.Rows W.WaitPoint J.Job L.Lists workplace.pool.now workplace.ctx.now
+        × IsLent R.Rows W.WaitPoint J.Job L.Lists workplace.pool.now workplace.ctx.now started
         before after opener };
 
     fn run(

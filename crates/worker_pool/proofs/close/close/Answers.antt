@@ -3,7 +3,7 @@ use Rattle.std.proofs.lemmas.List.Elements.{All-weaker}
 use Rattle.std.specs.List.{flat_map}
 use Rattle.event_word.specs.declared.phase.Phase.TheVariants.{Running}
 use Rattle.worker_pool.specs.Seats.{IsIdle}
-use Rattle.worker_pool.specs.Steps.{IsStep}
+use Rattle.worker_pool.specs.Laws.{law_of}
 use Rattle.worker_pool.proofs.Closings.{account-closed, flat_map-snoc}
 use Rattle.worker_pool.proofs.Growing.{All-snoc, length-snoc}
 use Rattle.worker_pool.proofs.close.close.Goals as goal
@@ -62,10 +62,10 @@ returns-clause-account g c = λ roots start.
     let home = c.gather-rows.ensures.home c.args.pool c.args.ctx.now c.requires.at_work in
     let lists = c.gather-rows.result.lists.items in
     account-closed g.R.Rows.keeps_accounts
-    (IsStep g.J.Job.weight_of g.J.Job.allows c.args.ctx.now) g.R.Rows.puts_of g.R.Rows.takes_of
+    (law_of g.J.Job c.args.ctx.now) g.R.Rows.puts_of g.R.Rows.takes_of
     roots c.drain_all-left.result.items c.gather-rows.result.rows.items c.args.opener.seats.row
     c.push_reserved.new.self.items _ _ _ _ _ _ _ _ home.account
-    (c.settle-unrun.ensures.settled.account roots _ start) c.requires.took_none
+    (c.settle-refused.ensures.settled.account roots _ start) c.requires.took_none
     c.push_reserved.ensures.items c.drain_all-left.ensures.account
     (flat_map-snoc (λ list. list.items) _ _ _ c.push_reserved-3.ensures.items
     ∙ ap (λ outs. flat_map (λ list. list.items) lists ++ outs) c.into_vec.ensures)

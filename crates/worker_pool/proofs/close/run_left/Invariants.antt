@@ -1,15 +1,17 @@
-use Rattle.std.proofs.Common.{◌≡◌, ◌++◌}
-use Rattle.std.specs.Vec.Iter.{into_iter_items}
+use Rattle.std.proofs.Common.{ℕ, List}
+use Rattle.worker_pool.specs.Laws.{law_of}
 use Rattle.worker_pool.specs.Ran.{RanToo}
-use Rattle.worker_pool.specs.Steps.{IsStep}
 use Rattle.worker_pool.proofs.close.run_left.Given as goal
 
--- the jobs so far ran too
+-- once those that are left have run too, all have
 abbrev pub invariant-loop-job : goal.invariant-loop-job
 invariant-loop-job g l = record {
-  can : (goal.iterator-loop-job g).can_next l.job-iterator;
-  finite : (goal.iterator-loop-job g).is_finite l.job-iterator;
-  jobs : l.yielded ++ into_iter_items l.job-iterator ≡ l.fn.left.items;
-  ran : RanToo g.R.Rows.keeps_accounts (IsStep g.J.Job.weight_of g.J.Job.allows l.ctx) l.yielded
-      (g.L.Lists.items_of l.fn.outs) (g.L.Lists.items_of l.outs) l.before l.refused;
+  so_far : (outs : List _) (refused : ℕ)
+      → RanToo g.R.Rows.keeps_accounts (law_of g.J.Job l.ctx) l.left.items
+      (g.L.Lists.items_of l.outs) outs l.refused refused
+      → RanToo g.R.Rows.keeps_accounts (law_of g.J.Job l.ctx) l.initial.left.items
+      (g.L.Lists.items_of l.initial.outs) outs l.before refused;
 }
+
+abbrev pub decreases-loop-job : goal.decreases-loop-job
+decreases-loop-job g l = goal.left-loop-job g l

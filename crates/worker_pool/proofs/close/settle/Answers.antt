@@ -6,4 +6,4 @@ returns-then-cancelled-clause-settled g c = settled-left _ _ _ _ _
 
 pub returns-clause-settled : goal.returns-clause-settled
 returns-clause-settled g c =
-    settled-ran _ _ _ _ _ _ _ _ c.run_left-refused.ensures c.new.ensures.items
+    settled-ran _ _ _ _ _ _ _ _ c.run_left.ensures.ran c.run_left.ensures.none_left

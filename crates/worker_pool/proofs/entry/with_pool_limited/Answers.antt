@@ -27,10 +27,13 @@ returns-clause-account g c =
       left.0,
       left.1,
       left.2,
-      left.3.no_roots,
-      left.3.workers ∙ c.in_ok-opened.ensures.opened.workers,
-      left.3.stop,
-      (λ kept. c.close.ensures.none_left
-          (false_from_ne_true _ (λ on. kept (left.3.cancelled.0 on)))),
-      c.close.ensures.account _ left.3.worked.account,
+      record {
+        no_roots = left.3.no_roots;
+        workers = left.3.workers ∙ c.in_ok-opened.ensures.opened.workers;
+        started = rw left.3.started c.run_first-states.ensures.few;
+        stop = left.3.stop;
+        none_left = λ kept. c.close.ensures.none_left
+            (false_from_ne_true _ (λ on. kept (left.3.cancelled.0 on)));
+        account = c.close.ensures.account _ left.3.worked.account;
+      },
     )

@@ -10,7 +10,7 @@ returns g c =
     record {
       workers = made.workers;
       opener = made.opener;
-      opener_words = made.words;
+      opener_random = made.random;
       at_work = made.at_work;
       numbers = made.numbers;
       many = omega (arith, made.workers);

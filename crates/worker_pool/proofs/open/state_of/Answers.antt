@@ -31,7 +31,7 @@ pub returns-clause-by_number : goal.returns-clause-by_number
 returns-clause-by_number g c = record {
   row_number = c.requires.row_number;
   waker_number = c.requires.waker_number;
-  words = c.seed_from_u64.ensures ∙ ap seeded_by c.from.ensures;
+  random = c.seed_from_u64.ensures ∙ ap seeded_by c.from.ensures;
   no_home = c.in_ok-home.ensures.none;
   home = c.in_ok-home.ensures.rows;
 }

@@ -6,7 +6,7 @@ returns-clause-caller g c =
     let fresh = c.requires.fresh in
     record {
       seats = fresh.seats;
-      scheduled = fresh.stop_seat;
+      stop_seat = fresh.stop_seat;
       few = c.requires.few;
       stop = fresh.stored_none;
       took_none = fresh.took_none;

@@ -3,7 +3,7 @@ use Rattle.worker_pool.proofs.StopWords.{told-cancelled}
 use Rattle.worker_pool.proofs.opener_state.end.Goals as goal
 
 pub set-requires : goal.set-requires
-set-requires g c = rw c.requires.stop at c.requires.caller.scheduled
+set-requires g c = rw c.requires.stop at c.requires.caller.stop_seat
 
 pub returns-clause-worked : goal.returns-clause-worked
 returns-clause-worked g c =

@@ -15,6 +15,7 @@ returns g c =
       record {
         no_roots = c.caller_of-caller.ensures.no_roots;
         workers = ap (λ queue. queue.workers) c.caller_of-caller.ensures.queue;
+        started = c.caller_of-caller.ensures.started;
         stop = c.caller_of-caller.ensures.open;
         cancelled = c.end.ensures.cancelled;
         worked = rw ctx at c.end.ensures.worked;

@@ -1,13 +1,15 @@
 use Rattle.std.proofs.Common.{rules, refl, arith}
-use Rattle.worker_pool.proofs.Runnings.{ran-forks, ran-stops, ran-ends}
+use Rattle.worker_pool.specs.Nodes.{lacks_memory, is_abandoned}
+use Rattle.worker_pool.proofs.Runnings.{ran-forks, ran-refused, ran-ends}
 use Rattle.worker_pool.proofs.Runnings.{went-put, went-ran, went-returned}
 use Rattle.worker_pool.proofs.run.+run.Goals as goal
 
 pub returns-in_default-clause-ran : goal.returns-in_default-clause-ran
-returns-in_default-clause-ran g t c = ran-stops _ _ _ _ _
+returns-in_default-clause-ran g t c =
+    ran-refused _ _ _ _ _ (is_abandoned _ (search rules))
 
 pub returns-in-Err-clause-ran : goal.returns-in-Err-clause-ran
-returns-in-Err-clause-ran g t c = ran-stops _ _ _ _ _
+returns-in-Err-clause-ran g t c = ran-refused _ _ _ _ _ (lacks_memory _ (search rules))
 
 pub returns-in-Ok-Done-clause-ran : goal.returns-in-Ok-Done-clause-ran
 returns-in-Ok-Done-clause-ran g t c =
@@ -32,7 +34,7 @@ returns-then-is_err-clause-ran g t c =
     )
     (went-returned _ _ c.in-Err-pass.kid _ _ _ _ _ _ c.in-Err-pass.ensures.returned
     (went-ran _ _ _ _ _ _ _ _ _ _ c.in-Err-pass.ensures.puts c.reserve.ensures.items
-    (ran-stops _ _ _ _ _)))
+    (ran-refused _ _ _ _ _ (is_abandoned _ (search rules)))))
     c.run-then-is_err.ensures.ran (search rules)
 
 pub returns-else-is_err-clause-ran : goal.returns-else-is_err-clause-ran

@@ -1,6 +1,10 @@
-use Rattle.std.proofs.Common.{rules, arith, ◌∙◌}
+use Rattle.std.proofs.Common.{rules, ◌≡◌, ℕ, ◌+◌, arith, ◌∙◌}
 use Rattle.worker_pool.proofs.Growing.{All-front, All-last, All-snoc}
 use Rattle.worker_pool.proofs.start.+start_all.Goals as goal
+
+-- one more was started before those that are left
+told : (started joined : ℕ) → started + (joined + 1) ≡ started + 1 + joined
+told started joined = omega arith
 
 pub push_reserved-requires : goal.push_reserved-requires
 push_reserved-requires g t c =
@@ -45,6 +49,7 @@ push_reserved-requires-in-Err g t c =
 pub returns-in-Ok : goal.returns-in-Ok
 returns-in-Ok g t c =
     let ran = c.start_all-ended.ensures in
+    let few = ran.few in
     let all = ran.all in let more = c.push_reserved.ensures.len in
     let len = c.in-Some.ensures.len in
     record {
@@ -52,12 +57,14 @@ returns-in-Ok g t c =
       capacity = c.push_reserved.ensures.capacity ∙ ran.capacity;
       at_work = All-snoc (g.S.Workplace.is_at_work c.args.workplace.now) _ _ _ c.push_reserved.ensures.items
           ran.at_work (search rules);
-      left = ran.left;
+      few = omega arith;
+      left = rw (told c.args.started c.start_all-ended.result.1) ran.left;
     }
 
 pub returns-in-Err : goal.returns-in-Err
 returns-in-Err g t c =
     let ran = c.start_all-ended-in-Err.ensures in
+    let few = ran.few in
     let all = ran.all in let more = c.push_reserved-in-Err.ensures.len in
     let len = c.in-Some.ensures.len in
     record {
@@ -65,5 +72,6 @@ returns-in-Err g t c =
       capacity = c.push_reserved-in-Err.ensures.capacity ∙ ran.capacity;
       at_work = All-snoc (g.S.Workplace.is_at_work c.args.workplace.now) _ _ _
           c.push_reserved-in-Err.ensures.items ran.at_work (search rules);
+      few = omega arith;
       left = ran.left;
     }

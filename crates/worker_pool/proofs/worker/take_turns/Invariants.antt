@@ -1,6 +1,6 @@
 use Rattle.worker_pool.specs.Accounts.{Account}
 use Rattle.worker_pool.specs.Seats.{IsOwner}
-use Rattle.worker_pool.specs.Steps.{IsStep}
+use Rattle.worker_pool.specs.Laws.{law_of}
 use Rattle.worker_pool.specs.Stops.{IsStopSeatOf}
 use Rattle.std.proofs.Common.{[]}
 use Rattle.worker_pool.proofs.worker.take_turns.Given as goal
@@ -12,6 +12,6 @@ invariant-loop g l = record {
   finite : (goal.iterator-loop g).is_finite l.iterator';
   seats : IsOwner g.R.Rows g.W.WaitPoint l.pool.queue l.seats.row l.seats.waker;
   stop_seat : IsStopSeatOf l.pool.stop.shared l.stop;
-  account : Account g.R.Rows.keeps_accounts (IsStep g.J.Job.weight_of g.J.Job.allows l.ctx)
+  account : Account g.R.Rows.keeps_accounts (law_of g.J.Job l.ctx)
       (g.R.Rows.takes_of l.seats.row) (g.R.Rows.puts_of l.seats.row) l.outs.items [] l.refused;
 }

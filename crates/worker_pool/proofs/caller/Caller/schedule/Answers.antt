@@ -8,7 +8,7 @@ pub returns-in_default-clause-caller : goal.returns-in_default-clause-caller
 returns-in_default-clause-caller g c = record {
   still = record {
     seats = c.in_default.ensures.ready;
-    scheduled = c.note.ensures.of;
+    stop_seat = c.note.ensures.of;
     few = rw c.in_default.ensures.number c.requires.few;
     stop = c.note.ensures.stored ∙ c.requires.stop;
     took_none = λ on. c.in_default.ensures.takes on ∙ c.requires.took_none on;
@@ -30,7 +30,7 @@ returns-clause-caller g c =
     record {
       still = record {
         seats = c.begin-refused.ensures.ready;
-        scheduled = c.note.ensures.of;
+        stop_seat = c.note.ensures.of;
         few = rw number c.requires.few;
         stop = c.note.ensures.stored ∙ c.requires.stop;
         took_none = λ on. c.begin-refused.ensures.takes on

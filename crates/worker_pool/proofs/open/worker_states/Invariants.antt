@@ -5,16 +5,16 @@ use Rattle.std.specs.Vec.Iter.{into_iter_items}
 use Rattle.worker_pool.specs.Openings.{AreRowSeats, AreWakers, IsByNumber}
 use Rattle.worker_pool.specs.Stops.{IsStopSeatOf, jobs_of, stored_of}
 use Rattle.worker_pool.specs.Works.{IsAtWork}
-use Rattle.worker_pool.proofs.open.deal.Given as goal
+use Rattle.worker_pool.proofs.open.worker_states.Given as goal
 
 -- the states so far are by number, and the seats that are left go on from there
 abbrev pub invariant-loop-row : goal.invariant-loop-row
 invariant-loop-row g l = record {
   can : (goal.iterator-loop-row g).can_next l.row-iterator;
   finite : (goal.iterator-loop-row g).is_finite l.row-iterator;
-  stop : IsStopSeatOf l.pool.stop.shared l.scheduled;
-  same : jobs_of l.scheduled ≡ jobs_of l.fn.scheduled;
-  stored : stored_of l.scheduled ≡ stored_of l.fn.scheduled;
+  stop : IsStopSeatOf l.pool.stop.shared l.stop_seat;
+  same : jobs_of l.stop_seat ≡ jobs_of l.fn.stop_seat;
+  stored : stored_of l.stop_seat ≡ stored_of l.fn.stop_seat;
   rows : AreRowSeats g.R.Rows l.pool.queue.rows (length l.states.items)
       (into_iter_items (zip_first l.row-iterator));
   wakers : AreWakers g.W.WaitPoint l.pool.queue.point (length l.states.items)

@@ -9,7 +9,7 @@ use Rattle.std.proofs.lemmas.List.Elements.{All-nil, All-same}
 use Rattle.worker_pool.proofs.Dealings.{AreRowSeats-rest, AreWakers-rest}
 use Rattle.worker_pool.proofs.Dealings.{numbers-first, numbers-snoc}
 use Rattle.worker_pool.proofs.Growing.{All-first, All-snoc, length-snoc}
-use Rattle.worker_pool.proofs.open.deal.Goals as goal
+use Rattle.worker_pool.proofs.open.worker_states.Goals as goal
 
 pub state_of-requires-clause-row_number : goal.state_of-requires-clause-row_number
 state_of-requires-clause-row_number g c =
@@ -69,9 +69,9 @@ loop-row-preserved g c =
     record {
       can = (tt, tt);
       finite = tt;
-      stop = c.deal-stop.ensures.of.0;
-      same = c.deal-stop.ensures.same ∙ before.same;
-      stored = c.deal-stop.ensures.stored ∙ before.stored;
+      stop = c.new_seat-stop.ensures.of.0;
+      same = c.new_seat-stop.ensures.same ∙ before.same;
+      stored = c.new_seat-stop.ensures.stored ∙ before.stored;
       rows = subst (λ n. AreRowSeats g.R.Rows queue.rows n
           (into_iter_items (zip_first c.next.new.self)))
           (sym longer) (AreRowSeats-rest g.R.Rows _ _ _ _ _ row_split before.rows);

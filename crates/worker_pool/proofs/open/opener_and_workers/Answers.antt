@@ -3,25 +3,25 @@ use Rattle.std.specs.List.{range_with_len}
 use Rattle.worker_pool.specs.Seats.{IsIdle}
 use Rattle.worker_pool.proofs.Dealings.{AreRowSeats-front, AreWakers-front}
 use Rattle.worker_pool.proofs.Growing.{All-last, length-snoc}
-use Rattle.worker_pool.proofs.open.man.Goals as goal
+use Rattle.worker_pool.proofs.open.opener_and_workers.Goals as goal
 
-pub deal-requires-clause-rows : goal.deal-requires-clause-rows
-deal-requires-clause-rows g c =
+pub worker_states-requires-clause-rows : goal.worker_states-requires-clause-rows
+worker_states-requires-clause-rows g c =
     AreRowSeats-front g.R.Rows c.args.pool.now.queue.rows _ _ _ c.take_last-row.ensures
     c.requires.rows
 
-pub deal-requires-clause-wakers : goal.deal-requires-clause-wakers
-deal-requires-clause-wakers g c =
+pub worker_states-requires-clause-wakers : goal.worker_states-requires-clause-wakers
+worker_states-requires-clause-wakers g c =
     AreWakers-front g.W.WaitPoint c.args.pool.now.queue.point _ _ _ c.take_last-waker.ensures
     c.requires.wakers
 
-pub deal-requires-clause-rows_many : goal.deal-requires-clause-rows_many
-deal-requires-clause-rows_many g c =
+pub worker_states-requires-clause-rows_many : goal.worker_states-requires-clause-rows_many
+worker_states-requires-clause-rows_many g c =
     let less = length-snoc _ _ _ c.take_last-row.ensures in
     omega (arith, c.requires.rows_many, c.requires.same_size, less)
 
-pub deal-requires-clause-wakers_many : goal.deal-requires-clause-wakers_many
-deal-requires-clause-wakers_many g c =
+pub worker_states-requires-clause-wakers_many : goal.worker_states-requires-clause-wakers_many
+worker_states-requires-clause-wakers_many g c =
     let less = length-snoc _ _ _ c.take_last-waker.ensures in
     omega (arith, c.requires.wakers_many, c.requires.same_size, less)
 
@@ -46,9 +46,9 @@ returns-clause-opener g c =
             row_last c.requires.rows.ours;
         idle = All-last (IsIdle g.W.WaitPoint queue.point) _ _ _ waker_last c.requires.wakers.idle;
       };
-      stop_seat = c.deal.ensures.stop;
-      no_roots = c.deal.ensures.same ∙ c.requires.none;
-      stored_none = c.deal.ensures.stored ∙ c.requires.stored;
+      stop_seat = c.worker_states.ensures.stop;
+      no_roots = c.worker_states.ensures.same ∙ c.requires.none;
+      stored_none = c.worker_states.ensures.stored ∙ c.requires.stored;
       put_none = λ on. (untouched on).0;
       took_none = λ on. (untouched on).1;
       no_outs = c.new-outs.ensures;

@@ -1,0 +1,19 @@
+-- What the law of jobs says of one job.
+use Rattle.worker_pool.specs.declared.job.Job as job
+use Rattle.worker_pool.specs.declared.job.Progress.{Progress}
+use Rattle.worker_pool.specs.Steps.{IsStep}
+
+-- Which progress a step of a job may make, and which jobs may find no memory for one or be
+-- abandoned.
+pub record JobLaw (J O : Type 0) : Type 1 where
+  pub steps : J → Progress J O → Type 0
+  pub may_lack_memory : J → Type 0
+  pub may_be_abandoned : J → Type 0
+
+-- the law of a kind of jobs, in their context: of one that is abandoned something is left
+abbrev pub law_of : {J A C O N : Type 0} → job.Ghosts J A C O N → C → JobLaw J O
+law_of {J} {A} {C} {O} {N} law ctx = record {
+  steps = IsStep law.weight_of law.allows ctx;
+  may_lack_memory = law.may_lack_memory ctx;
+  may_be_abandoned = λ it. (left : N) × law.abandons ctx it left;
+}
