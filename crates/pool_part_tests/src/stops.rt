@@ -28,11 +28,13 @@ impl StopFlag {
 
     /// The one that opened the pool closes it.
     pub(crate) fn close(&mut self) {
-        stop::set(&self.table.shared, &mut self.opener, false);
+        let table = &self.table;
+        stop::set(&table.shared, &mut self.opener, false);
     }
 
     /// Whether a worker finds that the pool closes.
     pub(crate) fn is_set(&mut self) -> bool {
-        stop::is_set(&self.table.shared, &mut self.worker)
+        let table = &self.table;
+        stop::is_set(&table.shared, &mut self.worker)
     }
 }
