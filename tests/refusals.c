@@ -1,4 +1,4 @@
-/* Refuses a program's requests for memory and its starts of threads, as docs/refusals asks.
+/* Refuses a program's requests for memory and its starts of threads, as tests/refusals asks.
 
    It is loaded by LD_PRELOAD and answers in place of the C library. What it counts begins with the
    program's main: the loader's and the C library's own start, before that, is left alone. From

@@ -1,4 +1,4 @@
-"""What docs/refusals, docs/starts, docs/streams, docs/texts and docs/lines share: the programs, some
+"""What tests/refusals, tests/starts, tests/streams, tests/texts and tests/lines share: the programs, some
 requests, and the library that counts and refuses memory and threads."""
 
 import os
@@ -13,7 +13,7 @@ TOP = os.path.dirname(os.path.dirname(os.path.abspath(__file__)))
 PROGRAM = os.path.join(TOP, "crates", "tensor_run", "out", "tensor_run")
 PLAIN = os.path.join(TOP, "crates", "plain_run", "out", "plain_run")
 LINES_PROGRAM = os.path.join(TOP, "crates", "tensor_lines", "out", "tensor_lines")
-REFUSALS = os.path.join(TOP, "docs", "refusals.c")
+REFUSALS = os.path.join(TOP, "tests", "refusals.c")
 COMPILERS = ("cc", "gcc", "clang")
 COUNTS = struct.Struct("4Q")
 SECONDS = 20
@@ -61,7 +61,7 @@ def run(text, env=None, seconds=SECONDS, program=PROGRAM):
 
 
 class Refusals:
-    """The library of docs/refusals.c, and what it counted in the last run."""
+    """The library of tests/refusals.c, and what it counted in the last run."""
 
     def __init__(self):
         compiler = next(filter(shutil.which, COMPILERS), None)
