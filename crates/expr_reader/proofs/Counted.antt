@@ -1,7 +1,7 @@
 -- A value has at most one member more than its text has bytes.
 use Rattle.std.proofs.Common.{◌≡◌, ℕ, suc, ◌+◌, ◌≤◌, List, [], ◌∷◌, length, Bool, true, false}
 use Rattle.std.proofs.Common.{Option, Some, None, option_map, option_and_then, Ordering, Less, Equal}
-use Rattle.std.proofs.Common.{Greater, subst, if◌then◌else◌, codes, arith}
+use Rattle.std.proofs.Common.{Greater, subst, if◌then◌else◌, codes, arith, ℤ, drop}
 use Rattle.std.specs.Prelude.{⊤}
 use Rattle.std.specs.Ordering.{nat_cmp, match_ordering}
 use Rattle.std.specs.Cmp.Lexicographic.{slice_cmp}
@@ -15,9 +15,11 @@ use Rattle.serde_json.specs.Events.{members_len}
 use Rattle.serde_json.specs.Find.{get_member, get, as_object}
 use Rattle.serde_json.specs.Read.{number_of, of_json, of_items, of_members, max_depth, read}
 use Rattle.tensor_ops.specs.Contents.{Contents}
+use Rattle.expr_reader.specs.Behind.{tensors_by, naming_by}
 use Rattle.expr_reader.specs.Counted.{member_count, count_in_items, count_in_members}
 use Rattle.expr_reader.specs.Fields.{Fields, has_members, cons_of, fields_of, reading}
-use Rattle.expr_reader.specs.Tensors.{Named, tensor_in, tensors_in, names_in, named_in}
+use Rattle.expr_reader.specs.Frame.{none_left, framed_tensor, framed_tensors}
+use Rattle.expr_reader.specs.Tensors.{Named, tensor_in, tensors_in, names_in}
 use Rattle.expr_reader.proofs.Grammar as tree
 use Rattle.expr_reader.proofs.Grammar.{tree_count, Fits, Fits-more, Fits-value}
 use Rattle.expr_reader.proofs.Tokens.{length-tokens}
@@ -178,14 +180,34 @@ AtMost-tensors_in rank (member name d ms) =
     AtMost-cons_of (tensor_in rank d) (tensors_in rank ms) (count_in_members ms)
     (count_in_members (member name d ms)) (omega arith) (AtMost-tensors_in rank ms)
 
-pub length-named_in : (rank : ℕ) (d : Data) (n : Named) → named_in rank d ≡ Some n
+AtMost-none_left : (values : List ℤ) → AtMost length 0 (none_left values)
+AtMost-none_left [] = omega arith
+AtMost-none_left (v ∷ vs) = tt
+
+AtMost-framed_tensors : (rank : ℕ) (values : List ℤ) (ms : Members)
+    → AtMost length (count_in_members ms) (framed_tensors rank values ms)
+AtMost-framed_tensors rank values no_members = AtMost-none_left values
+AtMost-framed_tensors rank values (member name d ms) =
+    AtMost-and_then (λ t. 0) length 0 (count_in_members (member name d ms))
+    (λ t. option_map (λ ts. t ∷ ts) (framed_tensors rank (drop (length t.values) values) ms))
+    (λ t none. AtMost-option_map length length (count_in_members ms) (count_in_members (member name d ms))
+    (λ ts. t ∷ ts) (λ ts few. omega arith) (framed_tensors rank (drop (length t.values) values) ms)
+    (AtMost-framed_tensors rank (drop (length t.values) values) ms))
+    (framed_tensor rank values d) (AtMost-none (framed_tensor rank values d))
+
+AtMost-tensors_by : (left : Option (List ℤ)) (rank : ℕ) (ms : Members)
+    → AtMost length (count_in_members ms) (tensors_by left rank ms)
+AtMost-tensors_by None rank ms = AtMost-tensors_in rank ms
+AtMost-tensors_by (Some values) rank ms = AtMost-framed_tensors rank values ms
+
+pub length-naming_by : (left : Option (List ℤ)) (rank : ℕ) (d : Data) (n : Named) → naming_by left rank d ≡ Some n
     → length n.tensors ≤ member_count d
-length-named_in rank d n is = subst (AtMost tensor_count (member_count d)) is (all d)
+length-naming_by left rank d n is = subst (AtMost tensor_count (member_count d)) is (all d)
   where
     tensor_count : Named → ℕ
     tensor_count named = length named.tensors
 
-    all : (d : Data) → AtMost tensor_count (member_count d) (named_in rank d)
+    all : (d : Data) → AtMost tensor_count (member_count d) (naming_by left rank d)
     all null = tt
     all (boolean b) = tt
     all (number x) = tt
@@ -194,4 +216,4 @@ length-named_in rank d n is = subst (AtMost tensor_count (member_count d)) is (a
     all (object ms) =
         AtMost-option_map length tensor_count (count_in_members ms) (count_in_members ms)
         (λ tensors. record { names = names_in ms; tensors = tensors }) (λ tensors few. few)
-        (tensors_in rank ms) (AtMost-tensors_in rank ms)
+        (tensors_by left rank ms) (AtMost-tensors_by left rank ms)

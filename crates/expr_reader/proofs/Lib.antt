@@ -1,5 +1,6 @@
 pub mod Counted
 pub mod Data
+pub mod Filled
 pub mod Forms
 pub mod Grammar
 pub mod Lists

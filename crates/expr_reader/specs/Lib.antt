@@ -11,6 +11,8 @@ pub mod Arguments
 pub mod Asked
 pub mod Faults
 pub mod Fields
+pub mod Filled
+pub mod Frame
 pub mod Limits
 pub mod Node
 pub mod Profile
@@ -19,6 +21,7 @@ pub mod Steps
 pub mod Table
 pub mod Tensors
 -- for private clauses alone
+pub mod Behind
 pub mod Counted
 pub mod Numbers
 pub mod Outcome

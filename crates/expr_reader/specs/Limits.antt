@@ -5,6 +5,10 @@ use Rattle.std.specs.Prelude.{ℕ}
 abbrev pub most_bytes : ℕ
 most_bytes = 16777216
 
+-- the most values behind a header
+abbrev pub most_values : ℕ
+most_values = 16777216
+
 -- the most workers of any version
 abbrev pub most_workers : ℕ
 most_workers = 256

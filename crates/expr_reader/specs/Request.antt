@@ -38,26 +38,34 @@ tree_asked f p workers block named =
       term = tree.term;
     }))
 
--- each field is looked at where those before it have no fault
-abbrev pub inputs_asked : Fields → Profile → ℕ → ℕ → Result Asked Fault
-inputs_asked f p workers block =
-    and_then (ok_or (named_in p.rank f.inputs) BadTensor) (tree_asked f p workers block)
+-- what inputs are read as, where ranks end there: names and tensors
+abbrev pub Naming : Type 0
+Naming = ℕ → Data → Option Named
 
-abbrev pub block_asked : Fields → Profile → ℕ → Result Asked Fault
-block_asked f p workers =
-    and_then (ok_or (within 1 greatest_block f.block) BadBlock) (inputs_asked f p workers)
+module _ (named : Naming) where
+  -- each field is looked at where those before it have no fault
+  abbrev pub inputs_asked : Fields → Profile → ℕ → ℕ → Result Asked Fault
+  inputs_asked f p workers block =
+      and_then (ok_or (named p.rank f.inputs) BadTensor) (tree_asked f p workers block)
 
-abbrev pub workers_asked : Fields → Profile → Result Asked Fault
-workers_asked f p = and_then (ok_or (within 1 p.workers f.workers) BadWorkers) (block_asked f p)
+  abbrev pub block_asked : Fields → Profile → ℕ → Result Asked Fault
+  block_asked f p workers =
+      and_then (ok_or (within 1 greatest_block f.block) BadBlock) (inputs_asked f p workers)
 
-abbrev pub fields_asked : Fields → Result Asked Fault
-fields_asked f = and_then (ok_or (profile_in f) BadVersion) (workers_asked f)
+  abbrev pub workers_asked : Fields → Profile → Result Asked Fault
+  workers_asked f p =
+      and_then (ok_or (within 1 p.workers f.workers) BadWorkers) (block_asked f p)
 
-abbrev pub data_asked : Data → Result Asked Fault
-data_asked d = and_then (ok_or (fields_of d) BadField) fields_asked
+  abbrev pub fields_asked : Fields → Result Asked Fault
+  fields_asked f = and_then (ok_or (profile_in f) BadVersion) (workers_asked f)
+
+  abbrev pub data_asked : Data → Result Asked Fault
+  data_asked d = and_then (ok_or (fields_of d) BadField) fields_asked
+
+  abbrev pub bytes_asked : List ℕ → Result Asked Fault
+  bytes_asked text = and_then (ok_or (reading text) NotJson) data_asked
 
 -- the request of a text, or its first fault
 abbrev pub request_of : List ℕ → Result Asked Fault
 request_of text =
-    if nat_lt most_bytes (length text) then Err TooLong
-    else and_then (ok_or (reading text) NotJson) data_asked
+    if nat_lt most_bytes (length text) then Err TooLong else bytes_asked named_in text

@@ -54,10 +54,14 @@ pub record Named : Type 0 where
 abbrev pub given : ℕ → Named → Given
 given rank named = record { tensors = named.tensors; rank = rank }
 
-abbrev pub named_in : ℕ → Data → Option Named
-named_in rank d =
+-- the names of an object's members, and the tensors that are read of them
+abbrev pub named_by : (Members → Option (List Contents)) → Data → Option Named
+named_by read d =
     option_and_then (λ ms. option_map (λ tensors. record { names = names_in ms; tensors = tensors })
-    (tensors_in rank ms)) (as_object d)
+    (read ms)) (as_object d)
+
+abbrev pub named_in : ℕ → Data → Option Named
+named_in rank d = named_by (tensors_in rank) d
 
 -- the number of a name
 abbrev pub number_of : List (List ℕ) → List ℕ → Option ℕ

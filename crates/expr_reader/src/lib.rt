@@ -1,26 +1,33 @@
 //! Request texts: one JSON value (RFC 8259) that names tensors and an expression over them. A text
-//! is read in one pass, and answered by its request or by its first fault.
+//! is read in one pass, and answered by its request or by its first fault. The tensors' values may
+//! also stand behind the text, as numbers: the two are a frame.
 #![tactic(auto)]
 
 mod arguments;
 mod fault;
 mod fields;
 mod items;
+mod laws;
 mod named;
 mod node;
 mod operation;
 mod request;
 mod tensors;
 mod text;
+mod values;
 mod version;
 
 pub use fault::Fault;
+pub use laws::{frames_mean_texts, unfilled_headers_have_faults};
 pub use request::Request;
 pub use tensor_ops::{Dims, Expr, Inputs, Tensor};
-pub use text::read_request;
+pub use text::{read_frame, read_request};
 
 /// The most bytes of a text.
 pub const MAX_TEXT: usize = 16_777_216;
+
+/// The most values behind a header.
+pub const MAX_VALUES: usize = 16_777_216;
 
 /// The greatest block.
 pub const MAX_BLOCK: u64 = 1_048_576;

@@ -5,14 +5,15 @@ ghost use Rattle.std.specs.Prelude.{OnOk, IfErr, if◌then◌else◌};
 ghost use Rattle.std.specs.Option.{option_or};
 ghost use Rattle.std.specs.Str.{bytes_eq};
 ghost use Rattle.serde_json.specs.View.{view, members_view};
+ghost use Rattle.expr_reader.specs.Behind.{behind, tensors_by, naming_by};
 ghost use Rattle.expr_reader.specs.Counted.{member_count};
 ghost use Rattle.expr_reader.specs.Limits.{most_bytes};
 ghost use Rattle.expr_reader.specs.Numbers.{number_in};
 ghost use Rattle.expr_reader.specs.Shown.{IsNamed};
-ghost use Rattle.expr_reader.specs.Tensors.{Named, named_in, names_in, tensors_in, number_of};
+ghost use Rattle.expr_reader.specs.Tensors.{Named, names_in, number_of};
 
 use crate::fault::Fault;
-use crate::tensors::read_tensor;
+use crate::values::Values;
 use serde_json::{Map, Value};
 use std::alloc::Global;
 use std::collections::BTreeMap;
@@ -28,16 +29,22 @@ pub(crate) struct NamedInputs<'v> {
 
 impl<'v> NamedInputs<'v> {
     /// The tensor of each member of an object, numbered in the order of their names.
-    pub(crate) fn read(alloc: Global, value: &'v Value, rank: u32) -> Result<NamedInputs<'v>, Fault>
+    pub(crate) fn read(
+        alloc: Global,
+        value: &'v Value,
+        rank: u32,
+        values: Values<'_>,
+    ) -> Result<NamedInputs<'v>, Fault>
         requires rank { (rank ≡ 6) ⊎ (rank ≡ 8) }
         requires few { member_count (view value.now) ≤ most_bytes + 1 }
         ensures { MatchResult result
-            (λ found. (n : Named) × (named_in rank (view value.now) ≡ Some n) × IsNamed found rank n)
-            (λ fault. (fault ≡ Fault.NoMemory)
-            ⊎ ((fault ≡ Fault.BadTensor) × (named_in rank (view value.now) ≡ None))) }
+            (λ found. (n : Named) × (naming_by (behind values.entry) rank (view value.now) ≡ Some n)
+            × IsNamed found rank n)
+            (λ fault. (fault ≡ Fault.NoMemory) ⊎ ((fault ≡ Fault.BadTensor)
+            × (naming_by (behind values.entry) rank (view value.now) ≡ None))) }
     {
         let members = value.as_object().ok_or(Fault::BadTensor)?;
-        read_members(alloc, members, rank)
+        read_members(alloc, members, rank, values)
     }
 
     /// The number of a name.
@@ -49,30 +56,37 @@ impl<'v> NamedInputs<'v> {
     }
 }
 
-/// The tensors of members and their numbers.
+/// The tensors of members and their numbers. Values that stand behind the text are those of the
+/// first member, then of the second, and so on, until none are left.
 fn read_members<'v>(
     alloc: Global,
     members: &'v Map<String, Value>,
     rank: u32,
+    values: Values<'_>,
 ) -> Result<NamedInputs<'v>, Fault>
     requires rank { (rank ≡ 6) ⊎ (rank ≡ 8) }
     requires few { length members.now.entries ≤ most_bytes + 1 }
     ensures { MatchResult result
         (λ found. (n : Named)
-        × (tensors_in rank (members_view members.now.entries) ≡ Some n.tensors)
+        × (tensors_by (behind values.entry) rank (members_view members.now.entries) ≡ Some n.tensors)
         × (n.names ≡ names_in (members_view members.now.entries)) × IsNamed found rank n)
         (λ fault. (fault ≡ Fault.NoMemory) ⊎ ((fault ≡ Fault.BadTensor)
-        × (tensors_in rank (members_view members.now.entries) ≡ None))) }
+        × (tensors_by (behind values.entry) rank (members_view members.now.entries) ≡ None))) }
 {
     let mut numbers = BTreeMap::new(alloc);
     let mut tensors = Vec::new(alloc);
+    let mut left = values;
     for (name, value) in members {
-        let tensor = read_tensor(alloc, value, rank as usize)?;
+        let tensor = left.first_tensor(alloc, value, rank as usize)?;
+        left = left.without(&tensor);
         let number = tensors.len() as u32;
         put_first(&mut numbers, name.as_str(), number)?;
         let Ok(()) = tensors.push(tensor) else {
             return Err(Fault::NoMemory);
         };
+    }
+    if !left.is_end() {
+        return Err(Fault::BadTensor);
     }
     let inputs = Inputs::with_rank(tensors, rank);
     Ok(NamedInputs { numbers, inputs })

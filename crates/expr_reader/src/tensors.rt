@@ -3,6 +3,7 @@
 ghost use Rattle.std.specs.Prelude.{◌≡◌, ◌≤◌, length, IfOk, IfSome};
 ghost use Rattle.serde_json.specs.View.{view};
 ghost use Rattle.tensor_ops.specs.Legal.{highest_rank};
+ghost use Rattle.expr_reader.specs.Frame.{framed_tensor};
 ghost use Rattle.expr_reader.specs.Outcome.{IsReadOr};
 ghost use Rattle.expr_reader.specs.Tensors.{dims_in, values_in, tensor_in};
 
@@ -28,6 +29,34 @@ pub(crate) fn read_tensor(alloc: Global, value: &Value, rank: usize) -> Result<T
     let dims = read_dims(dims, rank).ok_or(Fault::BadTensor)?;
     let values = read_values(alloc, values, dims.size())?;
     Ok(Tensor::new(dims, values))
+}
+
+/// A tensor of a frame: an object of exactly `dims`, with the first of these values.
+pub(crate) fn read_framed_tensor(
+    alloc: Global,
+    value: &Value,
+    rank: usize,
+    values: &[i64],
+) -> Result<Tensor, Fault>
+    requires { rank ≤ highest_rank }
+    ensures tensor { IsReadOr Fault.BadTensor (λ t. t)
+        (framed_tensor rank values.now (view value.now)) result }
+    ensures rank { IfOk result (λ t. length t.dims ≤ rank) }
+    ensures few { IfOk result (λ t. length t.values ≤ length values.now) }
+{
+    if !has_members(value, 1) {
+        return Err(Fault::BadTensor);
+    }
+    let dims = value.get("dims").ok_or(Fault::BadTensor)?;
+    let dims = read_dims(dims, rank).ok_or(Fault::BadTensor)?;
+    let size = dims.size() as usize;
+    if values.len() < size {
+        return Err(Fault::BadTensor);
+    }
+    match Vec::from_slice(alloc, &values[..size]) {
+        Ok(values) => Ok(Tensor::new(dims, values)),
+        Err(_) => Err(Fault::NoMemory),
+    }
 }
 
 /// Legal dims of at most this rank. Takes no memory, however long the list is.

@@ -1,12 +1,14 @@
-use Rattle.std.proofs.Common.{◌≡◌, ap, ℕ, List, ◌+◌, ◌++◌, [], ◌∷◌, Some, None, length, sym, ◌∙◌}
+use Rattle.std.proofs.Common.{◌≡◌, ap, ℕ, List, ◌+◌, ◌++◌, [], ◌∷◌, Some, None, true, length, sym, ◌∙◌}
 use Rattle.std.proofs.Common.{string_bytes, if◌then◌else◌, arith}
 use Rattle.std.specs.Option.{option_or}
 use Rattle.std.specs.Str.{bytes_eq}
+use Rattle.std.proofs.lemmas.Grind.{common_steps}
 use Rattle.std.proofs.lemmas.List.{append-nil}
 use Rattle.serde_json.specs.View.{members_view}
+use Rattle.expr_reader.specs.Behind.{behind}
 use Rattle.expr_reader.specs.Numbers.{number_in}
 use Rattle.expr_reader.specs.Tensors.{names_in}
-use Rattle.expr_reader.proofs.Members.{length-turn, after-turn, number-turn, length-names_in, HaveRank-append}
+use Rattle.expr_reader.proofs.Members.{length-turn, after-turn, number-turn, length-names_in, HaveRank-append, tensors_by-end}
 use Rattle.expr_reader.proofs.Numbers.{option_or-None}
 use Rattle.expr_reader.proofs.named.read_members.Goals as goal
 
@@ -26,7 +28,8 @@ loop-name-preserved c =
       tt,
       rw (items, length-turn c.args.rank _ _ _ _ first done c.in_ok-tensor.tensor) c.loop-name.invariant.2,
       rw items (HaveRank-append c.args.rank done c.in_ok-tensor.tensor c.loop-name.invariant.3 c.in_ok-tensor.ensures.rank),
-      rw (items, after-turn c.args.rank _ _ _ _ first done c.in_ok-tensor.tensor c.in_ok-tensor.ensures.tensor) c.loop-name.invariant.4,
+      rw (items, c.without-left.ensures, after-turn c.args.rank _ _ _ _ first (behind c.loop-name.left) done c.in_ok-tensor.tensor c.in_ok-tensor.ensures.tensor)
+          c.loop-name.invariant.4,
       λ q. rw long
           (number-turn c.args.rank _ _ _ _ first (number_in c.loop-name.numbers q) (number_in c.put_first.new.numbers q) (length done) q (put q)
           ∙ c.loop-name.invariant.5 q),
@@ -35,7 +38,9 @@ loop-name-preserved c =
 pub returns : goal.returns
 returns c =
     let end = c.in-None.ensures.steps.0 in
-    let tensors = rw (end, append-nil) at c.loop-name.invariant.4 in
+    let last : c.is_end.result ≡ true = grind (arith, common_steps) in
+    let tensors = rw (end, tensors_by-end (behind c.loop-name.left) c.args.rank c.is_end.result c.is_end.ensures, last, append-nil)
+    at c.loop-name.invariant.4 in
     let count = rw end at c.loop-name.invariant.2 in (
       record {
         names = names_in (members_view c.args.members.now.entries);

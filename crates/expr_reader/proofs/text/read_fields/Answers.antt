@@ -1,11 +1,12 @@
 use Rattle.std.proofs.Common.{◌≤◌, length, ap, arith}
 use Rattle.serde_json.specs.View.{view}
+use Rattle.expr_reader.specs.Behind.{behind}
 use Rattle.expr_reader.specs.Limits.{most_workers}
 use Rattle.expr_reader.specs.Version.{profile_under}
 use Rattle.expr_reader.specs.Walked.{tree_under}
 use Rattle.expr_reader.specs.declared.version.Version.{Version}
 use Rattle.expr_reader.specs.declared.version.Version.TheVariants as version
-use Rattle.expr_reader.proofs.Counted.{length-named_in}
+use Rattle.expr_reader.proofs.Counted.{length-naming_by}
 use Rattle.expr_reader.proofs.Trees.{nodes_of-tree_at}
 use Rattle.expr_reader.proofs.text.read_fields.Goals as goal
 
@@ -32,7 +33,7 @@ invariant_of-result-clause-few c =
       arith,
       c.requires,
       ap (λ g. length g.tensors) named.inputs,
-      length-named_in c.rank.result (view c.args.fields.now.inputs.now) n c.in_ok-named.ensures.1,
+      length-naming_by (behind c.args.values) c.rank.result (view c.args.fields.now.inputs.now) n c.in_ok-named.ensures.1,
       nodes_of-tree_at (profile_under c.in-Some.version) n 0 (view c.args.fields.now.expr.now)
           (tree_under c.in_ok-tree.tree) tree.0,
     )

@@ -2,7 +2,7 @@ use Rattle.std.proofs.Common.{sym, arith}
 use Rattle.serde_json.specs.View.{view}
 use Rattle.expr_reader.specs.Shown.{fields_under}
 use Rattle.expr_reader.proofs.Counted.{member_count-reading, member_count-fields_of}
-use Rattle.expr_reader.proofs.text.read_request.Goals as goal
+use Rattle.expr_reader.proofs.text.read_text.Goals as goal
 
 pub read_fields-requires : goal.read_fields-requires
 read_fields-requires c =
@@ -10,5 +10,5 @@ read_fields-requires c =
       arith,
       member_count-reading c.args.text.now (view c.in_ok-value.value) c.in_ok-value.ensures,
       member_count-fields_of (view c.in_ok-value.value) (fields_under c.in-Some.fields) (sym c.in-Some.ensures),
-      c.if-text-gt-MAX_TEXT.false,
+      c.requires,
     )

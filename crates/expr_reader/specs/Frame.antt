@@ -1,0 +1,52 @@
+-- What a frame asks for: a header, which is a text in which each tensor is its dims alone, and the
+-- tensors' values behind it, those of one tensor after those of another, in the order of the names.
+use Rattle.std.specs.Prelude.{ℕ, ℤ, ◌||◌, nat_lt, nat_le, List, [], ◌∷◌, length, take, drop, codes}
+use Rattle.std.specs.Prelude.{Option, Some, None, option_map, option_and_then, Result, Err}
+use Rattle.std.specs.Prelude.{if◌then◌else◌}
+use Rattle.serde_json.specs.Data.{Data, Members, no_members, member}
+use Rattle.serde_json.specs.Find.{get}
+use Rattle.tensor_ops.specs.Index.{size_of}
+use Rattle.tensor_ops.specs.Contents.{Contents}
+use Rattle.expr_reader.specs.Fields.{has_members}
+use Rattle.expr_reader.specs.Limits.{most_bytes, most_values}
+use Rattle.expr_reader.specs.Request.{Asked, bytes_asked}
+use Rattle.expr_reader.specs.Tensors.{Named, dims_in, named_by}
+use Rattle.expr_reader.specs.declared.fault.Fault.{Fault}
+use Rattle.expr_reader.specs.declared.fault.Fault.TheVariants.{TooLong}
+
+-- what stands at `dims`, in an object of nothing else
+abbrev pub dims_alone : Data → Option Data
+dims_alone d = if has_members 1 d then get (codes "dims") d else None
+
+-- the first of the values, as many as the dims have places
+abbrev pub dealt : List ℤ → List ℕ → Option Contents
+dealt values dims =
+    if nat_le (size_of dims) (length values)
+    then Some (record { dims = dims; values = take (size_of dims) values })
+    else None
+
+-- an object of exactly dims, with the first of the values
+abbrev pub framed_tensor : ℕ → List ℤ → Data → Option Contents
+framed_tensor rank values d =
+    option_and_then (λ dims. option_and_then (dealt values) (dims_in rank dims)) (dims_alone d)
+
+-- no tensors, where no values are left for any
+abbrev pub none_left : List ℤ → Option (List Contents)
+none_left [] = Some []
+none_left (v ∷ vs) = None
+
+-- the tensor of each member, in the members' order: the values that it leaves are of those behind it
+abbrev pub framed_tensors : ℕ → List ℤ → Members → Option (List Contents)
+framed_tensors rank values no_members = none_left values
+framed_tensors rank values (member name d ms) =
+    option_and_then (λ t. option_map (λ ts. t ∷ ts)
+    (framed_tensors rank (drop (length t.values) values) ms)) (framed_tensor rank values d)
+
+abbrev pub framed_in : List ℤ → ℕ → Data → Option Named
+framed_in values rank d = named_by (framed_tensors rank values) d
+
+-- the request of a frame, or its first fault
+abbrev pub request_of_frame : List ℕ → List ℤ → Result Asked Fault
+request_of_frame header values =
+    if nat_lt most_bytes (length header) || nat_lt most_values (length values) then Err TooLong
+    else bytes_asked (framed_in values) header
