@@ -19,7 +19,8 @@ class Crate:
     def __init__(self, name, line, below, of_kit):
         self.name, self.line, self.below, self.of_kit = name, line, below, of_kit
         self.folder = os.path.join(CRATES, name)
-        self.sources = [it for part in ("src", "specs", "proofs") for it in files_in(self.folder, part)]
+        parts = "src", "specs", "proofs"
+        self.sources = [it for part in parts for it in files_in(self.folder, part)]
         texts = [it.read() for it in map(opened, self.sources)]
         self.lines = sum(it.count(b"\n") for it in texts)
         self.memory = BYTES + BYTES_OF_A_LINE * self.lines
@@ -70,6 +71,12 @@ def crates():
     for name in listed:
         add(name)
     return found
+
+
+def programs():
+    """The crates of the programs, as build/programs has them."""
+    with open(os.path.join(TOP, "build", "programs"), encoding="utf-8") as file:
+        return [it.split()[1] for it in file if it.strip() and not it.startswith("#")]
 
 
 def kit():

@@ -1,5 +1,5 @@
-"""What tests/refusals, tests/starts, tests/streams, tests/texts and tests/lines share: the programs, some
-requests, and the library that counts and refuses memory and threads."""
+"""What the scripts of tests/ share: the programs, some requests, and the library that counts and
+refuses memory and threads."""
 
 import os
 import signal
@@ -10,6 +10,9 @@ import sys
 import tempfile
 
 TOP = os.path.dirname(os.path.dirname(os.path.abspath(__file__)))
+sys.path.insert(0, os.path.join(TOP, "build"))
+sys.dont_write_bytecode = True
+from usage import fail, words  # noqa: E402,F401
 PROGRAM = os.path.join(TOP, "crates", "tensor_run", "out", "tensor_run")
 PLAIN = os.path.join(TOP, "crates", "plain_run", "out", "plain_run")
 LINES_PROGRAM = os.path.join(TOP, "crates", "tensor_lines", "out", "tensor_lines")
@@ -41,7 +44,7 @@ def need_program(program=PROGRAM):
     """Sees that a program is built, and that this script ends."""
     signal.alarm(MOST_SECONDS)
     if not os.access(program, os.X_OK):
-        sys.exit(f"{sys.argv[0]}: the program isn't built: ./run < examples/add.json builds it")
+        fail(f"{sys.argv[0]}: the program isn't built: ./run < examples/add.json builds it")
 
 
 def status_of(line):
@@ -66,13 +69,13 @@ class Refusals:
     def __init__(self):
         compiler = next(filter(shutil.which, COMPILERS), None)
         if compiler is None:
-            sys.exit(f"{sys.argv[0]}: there is no C compiler here, of {', '.join(COMPILERS)}")
+            fail(f"{sys.argv[0]}: there is no C compiler here, of {', '.join(COMPILERS)}")
         self.room = tempfile.TemporaryDirectory()
         self.library = os.path.join(self.room.name, "refusals.so")
         self.counts = os.path.join(self.room.name, "counts")
-        words = [compiler, "-O1", "-shared", "-fPIC", "-o", self.library, REFUSALS, "-ldl"]
-        if subprocess.run(words, check=False).returncode:
-            sys.exit(f"{sys.argv[0]}: {' '.join(words)} failed")
+        built = [compiler, "-O1", "-shared", "-fPIC", "-o", self.library, REFUSALS, "-ldl"]
+        if subprocess.run(built, check=False).returncode:
+            fail(f"{sys.argv[0]}: {' '.join(built)} failed")
 
     def run(self, text, program=PROGRAM, **settings):
         """A run with these settings, as `memory=3` for REFUSE_MEMORY."""
