@@ -4,6 +4,7 @@ pub mod Closings
 pub mod Dealings
 pub mod Growing
 pub mod Numbered
+pub mod Passing
 pub mod Runnings
 pub mod StopWords
 pub mod Tallies

@@ -9,7 +9,8 @@ use Rattle.worker_pool.specs.Accounts.{Account}
 use Rattle.worker_pool.specs.Seats.{IsOpener}
 use Rattle.worker_pool.specs.Laws.{law_of}
 use Rattle.worker_pool.specs.Stops.{IsStopSeatOf, jobs_of, stored_of, last_word}
-use Rattle.worker_pool.specs.Stops.{cancelled_word}
+use Rattle.worker_pool.specs.Stops.{cancelled_word, closing_word}
+use Rattle.worker_pool.specs.Told.{IsSilent}
 
 module _ {J A W R L C O N T S K : Type 0} where
   -- the jobs that were scheduled through the caller, in order
@@ -41,11 +42,13 @@ module _ {J A W R L C O N T S K : Type 0} where
 
   module _ (row : rows.Ghosts R J A S) (point : wait_point.Ghosts W A T)
       (law : job.Ghosts J A C O N) (list : lists.Ghosts L O A K) where
-    -- The caller's seats are its pool's, and it has the account of the jobs that were scheduled:
-    -- they came in, it passed some jobs on, and the others ran.
+    -- The caller's seats are its pool's, it has nothing left to tell those that wait, and it has the
+    -- account of the jobs that were scheduled: they came in, it passed some jobs on, and the others
+    -- ran.
     pub record IsCaller (caller : Caller J A W R L C O N T S K) : Type 0 where
       pub seats : IsOpener row point caller.queue.now caller.seats.row caller.seats.waker
       pub stop_seat : IsStopSeatOf caller.stop.now caller.stop_seat
+      pub silent : IsSilent caller.seats caller.stop_seat caller.told
       pub few : started_of caller ≤ workers_of caller
       pub stop : stop_of caller ≡ last_word caller.cancelled
       pub took_none : row.keeps_accounts → row.takes_of caller.seats.row ≡ []
@@ -58,3 +61,18 @@ module _ {J A W R L C O N T S K : Type 0} where
     pub record StaysCaller (caller then : Caller J A W R L C O N T S K) : Type 0 where
       pub still : IsCaller then
       pub same : IsSamePool caller then
+
+  -- The pool is closing, and those that wait were told. What was scheduled is as before, and so is
+  -- what became of it.
+  pub record Closes (row : rows.Ghosts R J A S) (point : wait_point.Ghosts W A T)
+      (caller then : Caller J A W R L C O N T S K) : Type 0 where
+    pub same : IsSamePool caller then
+    pub seats : IsOpener row point then.queue.now then.seats.row then.seats.waker
+    pub stop_seat : IsStopSeatOf then.stop.now then.stop_seat
+    pub silent : IsSilent then.seats then.stop_seat then.told
+    pub stop : stop_of then ≡ closing_word caller.cancelled
+    pub cancelled : then.cancelled ≡ caller.cancelled
+    pub roots : roots_of then ≡ roots_of caller
+    pub row_seat : then.seats.row ≡ caller.seats.row
+    pub outs : then.outs ≡ caller.outs
+    pub refused : then.refused ≡ caller.refused

@@ -9,11 +9,13 @@ pub mod Nodes
 pub mod Openings
 pub mod Ran
 pub mod Seats
+pub mod Seen
 pub mod Setup
 pub mod Starts
 pub mod Steps
 pub mod StopPlays
 pub mod Stops
 pub mod Tasks
+pub mod Told
 pub mod Turns
 pub mod Works

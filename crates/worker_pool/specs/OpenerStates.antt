@@ -12,6 +12,7 @@ use Rattle.worker_pool.specs.Callers.{IsCancelled, roots_of, started_of, workers
 use Rattle.worker_pool.specs.Seats.{IsOpener}
 use Rattle.worker_pool.specs.Laws.{law_of}
 use Rattle.worker_pool.specs.Stops.{IsStopSeatOf, jobs_of, stored_of, open_word, closing_word}
+use Rattle.worker_pool.specs.Told.{IsSilent}
 
 module _ {J A W R L C O N T S K : Type 0} (row : rows.Ghosts R J A S)
     (point : wait_point.Ghosts W A T) where
@@ -20,6 +21,7 @@ module _ {J A W R L C O N T S K : Type 0} (row : rows.Ghosts R J A S)
       (opener : OpenerState J A W R L C O N T S K) : Type 0 where
     pub seats : IsOpener row point pool.queue opener.seats.row opener.seats.waker
     pub stop_seat : IsStopSeatOf pool.stop.shared opener.stop_seat
+    pub silent : IsSilent opener.seats opener.stop_seat opener.told
     pub no_roots : jobs_of opener.stop_seat ≡ []
     pub stored_none : stored_of opener.stop_seat ≡ open_word
     pub put_none : row.keeps_accounts → row.puts_of opener.seats.row ≡ []
@@ -27,12 +29,14 @@ module _ {J A W R L C O N T S K : Type 0} (row : rows.Ghosts R J A S)
     pub no_outs : list.items_of opener.outs ≡ []
     pub none_refused : opener.refused ≡ 0
 
-  -- These jobs came in: some were passed on, and the others ran. The pool is closing.
+  -- These jobs came in: some were passed on, and the others ran. The pool is closing, and those that
+  -- wait were told.
   pub record HasWorked (law : job.Ghosts J A C O N) (list : lists.Ghosts L O A K)
       (pool : Pool J A W R) (ctx : C) (roots : List J)
       (opener : OpenerState J A W R L C O N T S K) : Type 0 where
     pub seats : IsOpener row point pool.queue opener.seats.row opener.seats.waker
     pub stop_seat : IsStopSeatOf pool.stop.shared opener.stop_seat
+    pub silent : IsSilent opener.seats opener.stop_seat opener.told
     pub closing : stored_of opener.stop_seat ≡ closing_word opener.cancelled
     pub took_none : row.keeps_accounts → row.takes_of opener.seats.row ≡ []
     pub account : Account row.keeps_accounts (law_of law ctx) roots

@@ -1,6 +1,6 @@
 -- What the seats of a pool's threads are, while they work.
 use Rattle.std.specs.Prelude.{◌≡◌, ◌+◌, ◌<◌, ◌≤◌, []}
-use Rattle.event_word.specs.declared.phase.Phase.TheVariants.{Running}
+use Rattle.event_word.specs.declared.phase.Phase.TheVariants.{Running, Pre}
 use Rattle.event_count.specs.declared.wait_point.WaitPoint as wait_point
 use Rattle.run_queue.specs.declared.rows.Rows as rows
 use Rattle.run_queue.specs.Limits.{most_rows}
@@ -46,3 +46,12 @@ module _ {R J A S W T : Type 0} (row : rows.Ghosts R J A S) (point : wait_point.
     pub sized : IsJobQueue queue
     pub owns : OwnsRow row queue.rows seat
     pub waits : IsWaiter point queue.point waker
+
+  -- the seats of a worker that has entered, and has neither slept nor left since
+  pub record HasEntered (queue : JobQueue W R) (seat : S) (waker : T) : Type 0 where
+    pub sized : IsJobQueue queue
+    pub owns : OwnsRow row queue.rows seat
+    pub ours : point.point_of waker ≡ point.identity_of queue.point
+    pub waiter : point.number_of waker < point.waiter_count queue.point
+    pub pre : point.phase_of waker ≡ Pre
+    pub owes_none : point.owing_of waker ≡ []

@@ -1,5 +1,5 @@
 -- What a worker works with, and what it has done.
-use Rattle.std.specs.Prelude.{◌≡◌, ℕ, ◌≤◌, [], Option, IfSome}
+use Rattle.std.specs.Prelude.{◌≡◌, ℕ, ◌≤◌, [], Option, IfSome, false}
 use Rattle.event_count.specs.declared.wait_point.WaitPoint as wait_point
 use Rattle.run_queue.specs.declared.rows.Rows as rows
 use Rattle.worker_pool.specs.declared.job.Job as job
@@ -9,7 +9,7 @@ use Rattle.worker_pool.specs.declared.worker.WorkerState.{WorkerState}
 use Rattle.worker_pool.specs.Accounts.{Account}
 use Rattle.worker_pool.specs.Seats.{IsOwner}
 use Rattle.worker_pool.specs.Laws.{law_of}
-use Rattle.worker_pool.specs.Stops.{IsStopSeatOf}
+use Rattle.worker_pool.specs.Stops.{IsStopSeatOf, stored_of, open_word}
 
 -- the partition ends inside a pool of so many workers, where there is one
 abbrev pub IsInside : {A : Type 0} → (workers : ℕ) → Option (HomeRows A) → Type 0
@@ -17,12 +17,15 @@ IsInside workers home = IfSome home (λ n. n.rows.limit ≤ workers)
 
 module _ {J A W R C O N T S : Type 0} (row : rows.Ghosts R J A S) (point : wait_point.Ghosts W A T)
     (law : job.Ghosts J A C O N) where
-  -- The worker's seats are the pool's, and it has the account of the jobs that it took: it put some
-  -- jobs into its row, and the others ran.
+  -- The worker's seats are the pool's. It has woken somebody since it last put a job in, and stored
+  -- nothing in the stop word. It has the account of the jobs that it took: it put some jobs into its
+  -- row, and the others ran.
   pub record IsAtWork (pool : Pool J A W R) (ctx : C) (state : WorkerState J A W R C O N T S)
       : Type 0 where
     pub seats : IsOwner row point pool.queue state.seats.row state.seats.waker
+    pub silent : state.seats.announcing ≡ false
     pub stop_seat : IsStopSeatOf pool.stop.shared state.stop
+    pub stored_none : stored_of state.stop ≡ open_word
     pub home : IsInside pool.queue.workers state.home
     pub walks : pool.coprimes ≡ pool.queue.workers
     pub account : Account row.keeps_accounts (law_of law ctx)

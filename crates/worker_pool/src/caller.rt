@@ -1,12 +1,11 @@
 //! The one that opened a pool, as its body sees it.
 ghost use Rattle.std.specs.Prelude.{◌≡◌, ◌≤◌, [], ◌∷◌, ◌++◌};
-ghost use Rattle.worker_pool.specs.Callers.{IsCaller, StaysCaller, IsCancelled, roots_of};
+ghost use Rattle.worker_pool.specs.Callers.{IsCaller, StaysCaller, Closes, IsCancelled, roots_of};
 ghost use Rattle.worker_pool.specs.Callers.{started_of, workers_of, stop_of};
 
 use crate::job::Job;
-use crate::job_queue::JobQueue;
+use crate::job_queue::{JobQueue, OpenerSeats, Told};
 use crate::lists::Lists;
-use crate::opener_seats::OpenerSeats;
 use crate::passes::Passes;
 use crate::run::begin;
 use crate::stop;
@@ -31,6 +30,8 @@ pub struct Caller<
     pub(crate) ctx: &'p J::Ctx,
     pub(crate) seats: OpenerSeats<J, A, W, R>,
     pub(crate) stop_seat: StopSeat<J>,
+    /// What those that wait were last told of the stop word.
+    pub(crate) told: Told<J>,
     pub(crate) outs: L::List,
     pub(crate) refused: u64,
     /// Whether it cancelled the pool.
@@ -79,7 +80,7 @@ where
     {
         stop::cancel(self.stop, &mut self.stop_seat);
         self.cancelled = true;
-        self.queue.point.wake_all(rt, &mut self.seats.waker);
+        self.told = self.seats.wake_all(rt, self.queue, &self.stop_seat);
     }
 
     /// How many workers were started: at most those that the pool was set up with.
@@ -89,5 +90,23 @@ where
         ensures few { result ≤ workers_of self.now }
     {
         self.seats.started
+    }
+}
+
+impl<'p, J, A, W, R, L> Caller<'p, J, A, W, R, L>
+where
+    J: Job<A>,
+    A: Allocator,
+    W: WaitPoint<A>,
+    R: Rows<J, A>,
+    L: Lists<J::Out, A>,
+{
+    /// From now on the pool is closing. Where it was cancelled it stays so.
+    pub(crate) fn close<RT: Wait>(&mut self, rt: &RT)
+        requires { IsCaller R.Rows W.WaitPoint J.Job L.Lists self.old }
+        ensures { Closes R.Rows W.WaitPoint self.old self.new }
+    {
+        stop::set(self.stop, &mut self.stop_seat, self.cancelled);
+        self.told = self.seats.wake_all(rt, self.queue, &self.stop_seat);
     }
 }

@@ -73,8 +73,7 @@ where
     rows.push_reserved(seats.row);
     wakers.push_reserved(seats.waker);
     let Pool { queue, alloc, .. } = pool;
-    let mut left = queue.rows.drain_all(rows);
-    queue.point.shut(wakers);
+    let mut left = queue.end(rows, wakers);
     let refused = settle::<_, _, _, R, L>(
         rt, &alloc, ctx, cancelled, &mut left, &mut outs, refused,
     );

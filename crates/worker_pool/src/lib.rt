@@ -65,18 +65,15 @@ mod job;
 mod job_queue;
 mod lists;
 mod open;
-mod opener_seats;
 mod opener_state;
 mod passes;
 mod pool;
 mod run;
 mod setup;
 mod start;
-mod steal;
 pub mod stop;
 mod stop_view;
 mod worker;
-mod worker_seats;
 mod workplace;
 
 pub use boxed::{BoxedJob, BoxedTask, TaskOut};

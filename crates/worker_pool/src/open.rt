@@ -15,22 +15,19 @@ ghost use Rattle.worker_pool.specs.Works.{IsAtWork};
 use crate::gathered::{Gathered, room};
 use crate::home_rows::home_rows_of;
 use crate::job::Job;
-use crate::job_queue::JobQueue;
+use crate::job_queue::{JobQueue, OpenerSeats, Told, WorkerSeats};
 use crate::lists::Lists;
-use crate::opener_seats::OpenerSeats;
 use crate::opener_state::OpenerState;
 use crate::pool::Pool;
 use crate::setup::{PoolFault, Setup};
 use crate::stop;
 use crate::stop::StopSeat;
 use crate::worker::WorkerState;
-use crate::worker_seats::WorkerSeats;
 use event_count::{CountFault, WaitPoint};
 use rand_core::SeedableRng;
 use rand_pcg::Lcg64Xsh32;
 use run_queue::{Rows, RowsFault};
 use std::alloc::{AllocError, Allocator};
-use std::marker::PhantomData;
 use steal_walk::Coprimes;
 
 /// A pool, and what its threads work with.
@@ -163,12 +160,7 @@ where
 {
     let (rows, row_seats) = open_rows::<J, A, R>(alloc, workers)?;
     let (point, wakers) = open_point(alloc, workers)?;
-    let queue = JobQueue {
-        rows,
-        point,
-        workers,
-    };
-    Ok((queue, row_seats, wakers))
+    Ok((JobQueue::new(rows, point, workers), row_seats, wakers))
 }
 
 // Rows for so many workers, and the seats there.
@@ -273,15 +265,12 @@ where
     let waker = take_last(&mut wakers);
     let states = worker_states(pool, setup, &mut stop_seat, rows, wakers)?;
     let outs = L::new(pool.alloc.clone()?);
+    let random = Lcg64Xsh32::seed_from_u64(u64::from(setup.workers));
+    let told = Told::nothing(&stop_seat);
     let opener = OpenerState {
-        seats: OpenerSeats {
-            row,
-            waker,
-            random: Lcg64Xsh32::seed_from_u64(u64::from(setup.workers)),
-            started: 0,
-            of: PhantomData,
-        },
+        seats: OpenerSeats::new(row, waker, random),
         stop_seat,
+        told,
         outs,
         refused: 0,
         cancelled: false,
@@ -365,6 +354,7 @@ where
     requires waker_number { W.number_of waker ≡ number }
     requires untouched { R.keeps_accounts → (R.puts_of row ≡ []) × (R.takes_of row ≡ []) }
     requires stop { IsStopSeatOf pool.now.stop.shared stop }
+    requires stored_none { stored_of stop ≡ open_word }
     ensures at_work { IfOk result (λ state. (ctx : J.Ctx) →
         IsAtWork R.Rows W.WaitPoint J.Job pool.now ctx state) }
     ensures number { IfOk result (λ state. state.number ≡ number) }
@@ -376,11 +366,7 @@ where
     Ok(WorkerState {
         number,
         home,
-        seats: WorkerSeats {
-            row,
-            waker,
-            of: PhantomData,
-        },
+        seats: WorkerSeats::new(row, waker),
         stop,
         random: Lcg64Xsh32::seed_from_u64(u64::from(number)),
         outs,

@@ -8,10 +8,9 @@ ghost use Rattle.worker_pool.specs.Stops.{open_word};
 
 use crate::caller::Caller;
 use crate::job::Job;
+use crate::job_queue::{OpenerSeats, Told};
 use crate::lists::Lists;
-use crate::opener_seats::OpenerSeats;
 use crate::pool::Pool;
-use crate::stop;
 use crate::stop::StopSeat;
 use event_count::WaitPoint;
 use run_queue::Rows;
@@ -30,6 +29,8 @@ where
 {
     pub(crate) seats: OpenerSeats<J, A, W, R>,
     pub(crate) stop_seat: StopSeat<J>,
+    /// What those that wait were last told of the stop word.
+    pub(crate) told: Told<J>,
     pub(crate) outs: L::List,
     pub(crate) refused: u64,
     /// Whether the pool was cancelled.
@@ -97,6 +98,7 @@ where
     let OpenerState {
         mut seats,
         stop_seat,
+        told,
         outs,
         refused,
         cancelled: _,
@@ -109,6 +111,7 @@ where
         ctx,
         seats,
         stop_seat,
+        told,
         outs,
         refused,
         cancelled: false,
@@ -135,22 +138,24 @@ where
         (roots_of caller.entry) result }
     ensures cancelled { IsTrue result.cancelled ↔ IsCancelled caller.entry }
 {
+    let mut caller = caller;
+    caller.close(rt);
     let Caller {
         queue: _,
         stop: _,
         alloc: _,
         ctx: _,
-        mut seats,
-        mut stop_seat,
+        seats,
+        stop_seat,
+        told,
         outs,
         refused,
         cancelled,
     } = caller;
-    stop::set(&pool.stop.shared, &mut stop_seat, cancelled);
-    pool.queue.point.wake_all(rt, &mut seats.waker);
     OpenerState {
         seats,
         stop_seat,
+        told,
         outs,
         refused,
         cancelled,

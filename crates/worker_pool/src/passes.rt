@@ -2,6 +2,9 @@
 ghost use Rattle.std.specs.Prelude.{◌≡◌, ℕ, List, IfErr};
 ghost use Rattle.run_queue.specs.Account.{AddsIfOk};
 
+mod by_opener;
+mod by_worker;
+
 use std::sync::Wait;
 
 /// One that runs jobs, and passes on the kids that they fork.

@@ -110,6 +110,7 @@ pub fn new_seat<J>(stop: &StopWord<J>, seat: &mut StopSeat<J>) -> StopSeat<J>
     ensures same { jobs_of seat.new ≡ jobs_of seat.old }
     ensures stored { stored_of seat.new ≡ stored_of seat.old }
     ensures none { jobs_of result ≡ [] }
+    ensures stored_none { stored_of result ≡ open_word }
 {
     stop.split_seat::<DealsSeat<J>>(seat)
 }

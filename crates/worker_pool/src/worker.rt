@@ -1,21 +1,20 @@
 //! A worker's turns.
-ghost use Rattle.std.specs.Prelude.{◌≡◌, ◌<◌, ◌++◌, All};
+ghost use Rattle.std.specs.Prelude.{◌≡◌, ◌<◌, ◌++◌, All, false};
+ghost use Rattle.steal_walk.specs.Walk.{VisitsEachOnce};
 ghost use Rattle.worker_pool.specs.Seats.{IsJobQueue, IsOwner};
-ghost use Rattle.worker_pool.specs.Stops.{IsStopSeatOf};
+ghost use Rattle.worker_pool.specs.Stops.{IsStopSeatOf, stored_of};
 ghost use Rattle.worker_pool.specs.Turns.{jobs_in};
 ghost use Rattle.worker_pool.specs.Works.{IsAtWork, IsInside};
 
 use crate::gate::Gate;
 use crate::home_rows::HomeRows;
 use crate::job::Job;
-use crate::job_queue::JobQueue;
+use crate::job_queue::WorkerSeats;
 use crate::lists::VecLists;
 use crate::pool::Pool;
 use crate::run::begin;
-use crate::steal::{first_full, steal};
 use crate::stop;
 use crate::stop::StopSeat;
-use crate::worker_seats::WorkerSeats;
 use event_count::WaitPoint;
 use rand_core::utils::NextWord;
 use rand_pcg::Lcg64Xsh32;
@@ -136,28 +135,31 @@ where
     R: Rows<J, A>,
     requires home { IsInside pool.now.queue.workers home.now }
     requires seats { IsOwner R.Rows W.WaitPoint pool.now.queue seats.old.row seats.old.waker }
+    requires silent { seats.old.announcing ≡ false }
     requires stop { IsStopSeatOf pool.now.stop.shared stop.old }
     requires coprimes { pool.now.coprimes ≡ pool.now.queue.workers }
     ensures seats { IsOwner R.Rows W.WaitPoint pool.now.queue seats.new.row seats.new.waker }
+    ensures silent { seats.new.announcing ≡ false }
     ensures stop { IsStopSeatOf pool.now.stop.shared stop.new }
+    ensures stored { stored_of stop.new ≡ stored_of stop.old }
     ensures puts { R.keeps_accounts → R.puts_of seats.new.row ≡ R.puts_of seats.old.row }
     ensures takes { R.keeps_accounts
         → R.takes_of seats.new.row ≡ R.takes_of seats.old.row ++ jobs_in result }
 {
-    let rows = &pool.queue.rows;
+    let queue = &pool.queue;
     if stop::is_cancelled(&pool.stop.shared, stop) {
         return Turn::Last;
     }
-    if let Some(job) = rows.take_front(rt, &mut seats.row) {
+    if let Some(job) = seats.take_front(rt, queue) {
         return Turn::Found(job);
     }
     if let Some(home) = home {
-        if let Some(job) = steal(rt, rows, &mut seats.row, home.walk(random)) {
+        if let Some(job) = seats.steal(rt, queue, home.walk(random)) {
             return Turn::Found(job);
         }
     }
     let walk = walk_of(pool, random);
-    if let Some(job) = steal(rt, rows, &mut seats.row, walk) {
+    if let Some(job) = seats.steal(rt, queue, walk) {
         return Turn::Found(job);
     }
     wait(rt, pool, seats, stop, random)
@@ -178,21 +180,24 @@ where
     W: WaitPoint<A>,
     R: Rows<J, A>,
     requires seats { IsOwner R.Rows W.WaitPoint pool.now.queue seats.old.row seats.old.waker }
+    requires silent { seats.old.announcing ≡ false }
     requires stop { IsStopSeatOf pool.now.stop.shared stop.old }
     requires coprimes { pool.now.coprimes ≡ pool.now.queue.workers }
     ensures seats { IsOwner R.Rows W.WaitPoint pool.now.queue seats.new.row seats.new.waker }
+    ensures silent { seats.new.announcing ≡ false }
     ensures stop { IsStopSeatOf pool.now.stop.shared stop.new }
+    ensures stored { stored_of stop.new ≡ stored_of stop.old }
     ensures puts { R.keeps_accounts → R.puts_of seats.new.row ≡ R.puts_of seats.old.row }
     ensures takes { R.keeps_accounts
         → R.takes_of seats.new.row ≡ R.takes_of seats.old.row ++ jobs_in result }
 {
-    let JobQueue { rows, point, .. } = &pool.queue;
-    point.enter(rt, &mut seats.waker);
-    let stopped = stop::is_set(&pool.stop.shared, stop);
+    let queue = &pool.queue;
+    seats.enter(rt, queue);
+    let stopped = seats.look_at_stop(&pool.stop.shared, stop);
     let walk = walk_of(pool, random);
-    if let Some(row) = first_full(rt, rows, &mut seats.row, walk) {
-        point.leave(rt, &mut seats.waker);
-        return match rows.take_back(rt, &mut seats.row, row) {
+    if let Some(row) = seats.first_full(rt, queue, walk) {
+        seats.leave(rt, queue);
+        return match seats.take_back(rt, queue, row) {
             Some(job) => Turn::Found(job),
             None => {
                 yield_now();
@@ -201,10 +206,10 @@ where
         };
     }
     if stopped {
-        point.leave(rt, &mut seats.waker);
+        seats.leave(rt, queue);
         return Turn::Last;
     }
-    point.sleep(rt, &mut seats.waker);
+    seats.sleep(rt, queue);
     Turn::Again
 }
 
@@ -216,7 +221,8 @@ where
     R: Rows<J, A>,
     requires sized { IsJobQueue R.Rows W.WaitPoint pool.now.queue }
     requires coprimes { pool.now.coprimes ≡ pool.now.queue.workers }
-    ensures { All (λ row. row < R.row_count pool.now.queue.rows) result }
+    ensures inside { All (λ row. row < R.row_count pool.now.queue.rows) result }
+    ensures once { VisitsEachOnce 0 (R.row_count pool.now.queue.rows) result }
 {
     let workers = u32::from(pool.queue.workers);
     Walk::of(random.next_word(), 0, workers, &pool.coprimes)

@@ -8,14 +8,14 @@ use Rattle.worker_pool.proofs.Closings.{account-closed, flat_map-snoc}
 use Rattle.worker_pool.proofs.Growing.{All-snoc, length-snoc}
 use Rattle.worker_pool.proofs.close.close.Goals as goal
 
-pub drain_all-left-requires-clause-ours : goal.drain_all-left-requires-clause-ours
-drain_all-left-requires-clause-ours g c =
+pub end-left-requires-clause-rows_ours : goal.end-left-requires-clause-rows_ours
+end-left-requires-clause-rows_ours g c =
     let home = c.gather-rows.ensures.home c.args.pool c.args.ctx.now c.requires.at_work in
     All-snoc (λ seat. g.R.Rows.rows_of seat ≡ g.R.Rows.identity_of c.args.pool.queue.rows) _ _ _
     c.push_reserved.ensures.items home.ours c.requires.seats.ours
 
-pub shut-requires-clause-ours : goal.shut-requires-clause-ours
-shut-requires-clause-ours g c =
+pub end-left-requires-clause-ours : goal.end-left-requires-clause-ours
+end-left-requires-clause-ours g c =
     let point = c.args.pool.queue.point in
     let home = c.gather-rows.ensures.home c.args.pool c.args.ctx.now c.requires.at_work in
     All-snoc (λ seat. g.W.WaitPoint.point_of seat ≡ g.W.WaitPoint.identity_of point) _ _ _
@@ -23,8 +23,8 @@ shut-requires-clause-ours g c =
     (All-weaker (IsIdle g.W.WaitPoint point) _ (λ seat is. is.ours) _ home.idle)
     c.requires.seats.idle.ours
 
-pub shut-requires-clause-all : goal.shut-requires-clause-all
-shut-requires-clause-all g c =
+pub end-left-requires-clause-all : goal.end-left-requires-clause-all
+end-left-requires-clause-all g c =
     let home = c.gather-rows.ensures.home c.args.pool c.args.ctx.now c.requires.at_work in
     let wakers_many = home.wakers_many in
     let many = c.gather-rows.ensures.many in
@@ -33,15 +33,15 @@ shut-requires-clause-all g c =
     let long = length-snoc _ _ _ c.push_reserved-2.ensures.items in
     omega arith
 
-pub shut-requires-clause-running : goal.shut-requires-clause-running
-shut-requires-clause-running g c =
+pub end-left-requires-clause-running : goal.end-left-requires-clause-running
+end-left-requires-clause-running g c =
     let home = c.gather-rows.ensures.home c.args.pool c.args.ctx.now c.requires.at_work in
     All-snoc (λ seat. g.W.WaitPoint.phase_of seat ≡ Running) _ _ _ c.push_reserved-2.ensures.items
     (All-weaker (IsIdle g.W.WaitPoint c.args.pool.queue.point) _ (λ seat is. is.running) _ home.idle)
     c.requires.seats.idle.running
 
-pub shut-requires-clause-owe_none : goal.shut-requires-clause-owe_none
-shut-requires-clause-owe_none g c =
+pub end-left-requires-clause-owe_none : goal.end-left-requires-clause-owe_none
+end-left-requires-clause-owe_none g c =
     let home = c.gather-rows.ensures.home c.args.pool c.args.ctx.now c.requires.at_work in
     All-snoc (λ seat. g.W.WaitPoint.owing_of seat ≡ []) _ _ _ c.push_reserved-2.ensures.items
     (All-weaker (IsIdle g.W.WaitPoint c.args.pool.queue.point) _ (λ seat is. is.owes_none) _ home.idle)
@@ -63,10 +63,10 @@ returns-clause-account g c = λ roots start.
     let lists = c.gather-rows.result.lists.items in
     account-closed g.R.Rows.keeps_accounts
     (law_of g.J.Job c.args.ctx.now) g.R.Rows.puts_of g.R.Rows.takes_of
-    roots c.drain_all-left.result.items c.gather-rows.result.rows.items c.args.opener.seats.row
+    roots c.end-left.result.items c.gather-rows.result.rows.items c.args.opener.seats.row
     c.push_reserved.new.self.items _ _ _ _ _ _ _ _ home.account
     (c.settle-refused.ensures.settled.account roots _ start) c.requires.took_none
-    c.push_reserved.ensures.items c.drain_all-left.ensures.account
+    c.push_reserved.ensures.items c.end-left.ensures.account
     (flat_map-snoc (λ list. list.items) _ _ _ c.push_reserved-3.ensures.items
     ∙ ap (λ outs. flat_map (λ list. list.items) lists ++ outs) c.into_vec.ensures)
     refl (search rules)

@@ -39,18 +39,22 @@ returns-clause-opener g c =
     let untouched = λ (on : g.R.Rows.keeps_accounts).
     All-last (λ seat. (g.R.Rows.puts_of seat ≡ []) × (g.R.Rows.takes_of seat ≡ [])) _ _ _
     row_last (c.requires.rows.untouched on) in
+    let stored = c.worker_states.ensures.stored ∙ c.requires.stored in
     record {
       seats = record {
         sized = c.requires.sized;
-        ours = All-last (λ seat. g.R.Rows.rows_of seat ≡ g.R.Rows.identity_of queue.rows) _ _ _
-            row_last c.requires.rows.ours;
-        idle = All-last (IsIdle g.W.WaitPoint queue.point) _ _ _ waker_last c.requires.wakers.idle;
+        ours = rw c.new.ensures.row
+            (All-last (λ seat. g.R.Rows.rows_of seat ≡ g.R.Rows.identity_of queue.rows) _ _ _
+            row_last c.requires.rows.ours);
+        idle = rw c.new.ensures.waker
+            (All-last (IsIdle g.W.WaitPoint queue.point) _ _ _ waker_last c.requires.wakers.idle);
       };
       stop_seat = c.worker_states.ensures.stop;
+      silent = record { jobs = c.new.ensures.silent; stop = c.nothing-told.ensures ∙ sym stored };
       no_roots = c.worker_states.ensures.same ∙ c.requires.none;
-      stored_none = c.worker_states.ensures.stored ∙ c.requires.stored;
-      put_none = λ on. (untouched on).0;
-      took_none = λ on. (untouched on).1;
+      stored_none = stored;
+      put_none = λ on. rw c.new.ensures.row (untouched on).0;
+      took_none = λ on. rw c.new.ensures.row (untouched on).1;
       no_outs = c.new-outs.ensures;
       none_refused = refl;
     }

@@ -19,18 +19,20 @@ home_rows_of-requires-clause-number g c =
 
 pub returns-clause-at_work : goal.returns-clause-at_work
 returns-clause-at_work g c = λ ctx. record {
-  seats = c.requires.seats;
+  seats = rw (c.new.ensures.row, c.new.ensures.waker) c.requires.seats;
+  silent = c.new.ensures.silent;
   stop_seat = c.requires.stop;
+  stored_none = c.requires.stored_none;
   home = rw c.requires.same_size at c.in_ok-home.ensures.inside;
   walks = c.requires.coprimes;
-  account = account-none _ _ _ _ _ (λ on. (c.requires.untouched on).1)
-      (λ on. (c.requires.untouched on).0) c.new-outs.ensures.items;
+  account = rw c.new.ensures.row (account-none _ _ _ _ _ (λ on. (c.requires.untouched on).1)
+      (λ on. (c.requires.untouched on).0) c.new-outs.ensures.items);
 }
 
 pub returns-clause-by_number : goal.returns-clause-by_number
 returns-clause-by_number g c = record {
-  row_number = c.requires.row_number;
-  waker_number = c.requires.waker_number;
+  row_number = rw c.new.ensures.row c.requires.row_number;
+  waker_number = rw c.new.ensures.waker c.requires.waker_number;
   random = c.seed_from_u64.ensures ∙ ap seeded_by c.from.ensures;
   no_home = c.in_ok-home.ensures.none;
   home = c.in_ok-home.ensures.rows;

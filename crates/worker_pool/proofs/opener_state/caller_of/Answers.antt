@@ -7,6 +7,7 @@ returns-clause-caller g c =
     record {
       seats = fresh.seats;
       stop_seat = fresh.stop_seat;
+      silent = record { jobs = fresh.silent.jobs; stop = fresh.silent.stop };
       few = c.requires.few;
       stop = fresh.stored_none;
       took_none = fresh.took_none;

@@ -1,29 +1,20 @@
-use Rattle.std.proofs.Common.{◌∙◌}
+use Rattle.std.proofs.Common.{◌∙◌, ap}
 use Rattle.worker_pool.proofs.StopWords.{told-cancelled}
 use Rattle.worker_pool.proofs.opener_state.end.Goals as goal
-
-pub set-requires : goal.set-requires
-set-requires g c = rw c.requires.stop at c.requires.caller.stop_seat
 
 pub returns-clause-worked : goal.returns-clause-worked
 returns-clause-worked g c =
     let caller = c.requires.caller in
-    let seats = rw c.requires.queue at caller.seats in
+    let closes = c.close.ensures in
     record {
-      seats = record {
-        sized = seats.sized;
-        ours = seats.ours;
-        idle = record {
-          ours = c.wake_all.ensures.ours ∙ seats.idle.ours;
-          running = c.wake_all.ensures.running;
-          owes_none = c.wake_all.ensures.owes_none;
-        };
-      };
-      stop_seat = c.set.ensures.of;
-      closing = c.set.ensures.stored;
-      took_none = caller.took_none;
-      account = caller.account;
+      seats = rw (closes.same.queue ∙ c.requires.queue) at closes.seats;
+      stop_seat = rw (closes.same.stop ∙ c.requires.stop) at closes.stop_seat;
+      silent = closes.silent;
+      closing = rw closes.cancelled closes.stop;
+      took_none = λ on. ap g.R.Rows.takes_of closes.row_seat ∙ caller.took_none on;
+      account = rw (closes.row_seat, closes.outs, closes.refused) caller.account;
     }
 
 pub returns-clause-cancelled : goal.returns-clause-cancelled
-returns-clause-cancelled g c = told-cancelled _ _ c.requires.caller.stop
+returns-clause-cancelled g c =
+    rw c.close.ensures.cancelled (told-cancelled _ _ c.requires.caller.stop)

@@ -7,7 +7,9 @@ loop-init g c = record {
   can = tt;
   finite = tt;
   seats = c.requires.seats;
+  silent = c.requires.silent;
   stop_seat = c.requires.stop_seat;
+  stored_none = c.requires.stored_none;
   account = c.requires.account;
 }
 
@@ -18,8 +20,10 @@ pub loop-preserved-in-Found : goal.loop-preserved-in-Found
 loop-preserved-in-Found g c = record {
   can = tt;
   finite = tt;
-  seats = c.begin-more.ensures.ready;
+  seats = c.begin-more.ensures.ready.0;
+  silent = c.begin-more.ensures.ready.1;
   stop_seat = c.in-Found.ensures.stop;
+  stored_none = c.in-Found.ensures.stored ∙ c.loop.invariant.stored_none;
   account = account-more _ _ c.in-Found.job _ _ _ _ _ _ _ _ _ _ _ _ c.loop.invariant.account refl
       c.in-Found.ensures.puts
       (λ on. c.begin-more.ensures.takes on ∙ c.in-Found.ensures.takes on)
@@ -29,7 +33,9 @@ loop-preserved-in-Found g c = record {
 pub returns-in-Last : goal.returns-in-Last
 returns-in-Last g c = record {
   seats = c.in-Last.ensures.seats;
+  silent = c.in-Last.ensures.silent;
   stop_seat = c.in-Last.ensures.stop;
+  stored_none = c.in-Last.ensures.stored ∙ c.loop.invariant.stored_none;
   home = c.requires.home;
   walks = c.requires.walks;
   account = account-same _ _ _ _ _ _ _ _ _ c.loop.invariant.account c.in-Last.ensures.takes
@@ -41,7 +47,9 @@ loop-preserved g c = record {
   can = tt;
   finite = tt;
   seats = c.in-Again.ensures.seats;
+  silent = c.in-Again.ensures.silent;
   stop_seat = c.in-Again.ensures.stop;
+  stored_none = c.in-Again.ensures.stored ∙ c.loop.invariant.stored_none;
   account = account-same _ _ _ _ _ _ _ _ _ c.loop.invariant.account c.in-Again.ensures.takes
       c.in-Again.ensures.puts;
 }

@@ -7,8 +7,12 @@ use Rattle.worker_pool.proofs.caller.Caller.schedule.Goals as goal
 pub returns-in_default-clause-caller : goal.returns-in_default-clause-caller
 returns-in_default-clause-caller g c = record {
   still = record {
-    seats = c.in_default.ensures.ready;
+    seats = c.in_default.ensures.ready.0;
     stop_seat = c.note.ensures.of;
+    silent = record {
+      jobs = c.in_default.ensures.ready.1;
+      stop = c.requires.silent.stop ∙ sym c.note.ensures.stored;
+    };
     few = rw c.in_default.ensures.number c.requires.few;
     stop = c.note.ensures.stored ∙ c.requires.stop;
     took_none = λ on. c.in_default.ensures.takes on ∙ c.requires.took_none on;
@@ -29,8 +33,12 @@ returns-clause-caller g c =
     let number = c.begin-refused.ensures.number ∙ c.in-Err.ensures.number in
     record {
       still = record {
-        seats = c.begin-refused.ensures.ready;
+        seats = c.begin-refused.ensures.ready.0;
         stop_seat = c.note.ensures.of;
+        silent = record {
+          jobs = c.begin-refused.ensures.ready.1;
+          stop = c.requires.silent.stop ∙ sym c.note.ensures.stored;
+        };
         few = rw number c.requires.few;
         stop = c.note.ensures.stored ∙ c.requires.stop;
         took_none = λ on. c.begin-refused.ensures.takes on

@@ -1,5 +1,5 @@
 use Rattle.std.proofs.Common.{◌≡◌, ◌<◌, All}
-use Rattle.worker_pool.proofs.steal.steal.Given as goal
+use Rattle.worker_pool.proofs.job_queue.steal.steal.Given as goal
 
 -- nothing was taken so far, and the rows that are left are rows
 abbrev pub invariant-loop-row : goal.invariant-loop-row

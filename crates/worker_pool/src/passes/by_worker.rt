@@ -1,28 +1,22 @@
 //! How a worker passes jobs on.
 ghost use Rattle.std.specs.Prelude.{◌≡◌};
 
-use crate::job_queue::JobQueue;
+use crate::job_queue::{JobQueue, WorkerSeats};
 use crate::passes::Passes;
 use event_count::WaitPoint;
 use run_queue::Rows;
 use std::alloc::Allocator;
-use std::marker::PhantomData;
 use std::sync::Wait;
 
-/// The seats of a worker.
-#[derive(Drop)]
-pub(crate) struct WorkerSeats<J, A: Allocator, W: WaitPoint<A>, R: Rows<J, A>> {
-    pub(crate) row: R::Seat,
-    pub(crate) waker: W::Seat,
-    pub(crate) of: PhantomData<(J, A)>,
-}
-
+// It has woken somebody for what it passed on.
 impl<J, A: Allocator, W: WaitPoint<A>, R: Rows<J, A>> Passes<J> for WorkerSeats<J, A, W, R> {
+    ghost use Rattle.std.specs.Prelude.{◌≡◌, false};
     ghost use Rattle.worker_pool.specs.Seats.{IsOwner};
 
     type Place = JobQueue<W, R>;
 
-    ghost is_ready = { λ queue seats. IsOwner R.Rows W.WaitPoint queue seats.row seats.waker };
+    ghost is_ready = { λ queue seats. IsOwner R.Rows W.WaitPoint queue seats.row seats.waker
+        × (seats.announcing ≡ false) };
 
     ghost number_of = { λ seats. R.number_of seats.row };
 
@@ -34,8 +28,8 @@ impl<J, A: Allocator, W: WaitPoint<A>, R: Rows<J, A>> Passes<J> for WorkerSeats<
 
     // To the front of its own row.
     fn pass<RT: Wait>(&mut self, rt: &RT, queue: &JobQueue<W, R>, job: J) -> Result<(), J> {
-        queue.rows.put_front(rt, &mut self.row, job)?;
-        queue.point.wake_one(rt, &mut self.waker);
+        self.put_front(rt, queue, job)?;
+        self.wake_one(rt, queue);
         Ok(())
     }
 }

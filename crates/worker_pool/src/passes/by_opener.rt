@@ -2,33 +2,23 @@
 ghost use Rattle.std.specs.Prelude.{◌≡◌, ℕ, ◌+◌, ◌<◌, ◌≤◌, List};
 ghost use Rattle.steal_walk.specs.Walk.{place_of};
 
-use crate::job_queue::JobQueue;
+use crate::job_queue::{JobQueue, OpenerSeats};
 use crate::passes::Passes;
 use event_count::WaitPoint;
 use rand_core::utils::NextWord;
-use rand_pcg::Lcg64Xsh32;
 use run_queue::Rows;
 use std::alloc::Allocator;
-use std::marker::PhantomData;
 use std::sync::Wait;
 
-/// The seats of the thread that opened a pool.
-#[derive(Drop)]
-pub(crate) struct OpenerSeats<J, A: Allocator, W: WaitPoint<A>, R: Rows<J, A>> {
-    pub(crate) row: R::Seat,
-    pub(crate) waker: W::Seat,
-    pub(crate) random: Lcg64Xsh32,
-    /// How many workers were started.
-    pub(crate) started: u32,
-    pub(crate) of: PhantomData<(J, A)>,
-}
-
+// It has woken somebody for what it passed on.
 impl<J, A: Allocator, W: WaitPoint<A>, R: Rows<J, A>> Passes<J> for OpenerSeats<J, A, W, R> {
+    ghost use Rattle.std.specs.Prelude.{◌≡◌, false};
     ghost use Rattle.worker_pool.specs.Seats.{IsOpener};
 
     type Place = JobQueue<W, R>;
 
-    ghost is_ready = { λ queue seats. IsOpener R.Rows W.WaitPoint queue seats.row seats.waker };
+    ghost is_ready = { λ queue seats. IsOpener R.Rows W.WaitPoint queue seats.row seats.waker
+        × (seats.announcing ≡ false) };
 
     ghost number_of = { λ seats. seats.started };
 
@@ -44,8 +34,8 @@ impl<J, A: Allocator, W: WaitPoint<A>, R: Rows<J, A>> Passes<J> for OpenerSeats<
             return Err(job);
         }
         let row = row_at(self.random.next_word(), queue.workers);
-        queue.rows.put_back(rt, &mut self.row, row, job)?;
-        queue.point.wake_one(rt, &mut self.waker);
+        self.put_back(rt, queue, row, job)?;
+        self.wake_one(rt, queue);
         Ok(())
     }
 }

@@ -1,6 +1,6 @@
 use Rattle.std.proofs.Common.{rules, ◌<◌, arith}
 use Rattle.worker_pool.proofs.Growing.{All-first, All-rest}
-use Rattle.worker_pool.proofs.steal.steal.Goals as goal
+use Rattle.worker_pool.proofs.job_queue.steal.steal.Goals as goal
 
 pub overflow_cast-row : goal.overflow_cast-row
 overflow_cast-row g c =

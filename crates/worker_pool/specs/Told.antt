@@ -1,0 +1,17 @@
+-- What the thread that opened a pool has yet to tell those that wait.
+use Rattle.std.specs.Prelude.{◌≡◌, ℕ, false}
+use Rattle.atomic_table.specs.declared.shared.Seat.{Seat}
+use Rattle.worker_pool.specs.declared.job_queue.opener_seats.OpenerSeats.{OpenerSeats}
+use Rattle.worker_pool.specs.declared.job_queue.told.Told.{Told}
+use Rattle.worker_pool.specs.declared.stop_view.StopView.{StopView}
+use Rattle.worker_pool.specs.Stops.{stored_of}
+
+-- what had been stored in the stop word when all were last woken
+abbrev pub told_of : {J : Type 0} → Told J → ℕ
+told_of told = stored_of told.seat.value
+
+-- It has woken somebody since it last put a job in, and all since it last stored another stop word.
+pub record IsSilent {J A W R T S : Type 0} (seats : OpenerSeats J A W R T S)
+    (stop_seat : Seat (Unit {0}) (StopView J)) (told : Told J) : Type 0 where
+  pub jobs : seats.announcing ≡ false
+  pub stop : told_of told ≡ stored_of stop_seat
