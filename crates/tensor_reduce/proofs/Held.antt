@@ -18,14 +18,23 @@ use Rattle.tensor_ops.proofs.Evaluated.{value_at-tensor_of}
 use Rattle.tensor_ops.proofs.Shapes.{Ok-unwrap}
 use Rattle.tensor_reduce.specs.Plan.{term_of_step, dims_of_step, terms_in, worked_out}
 use Rattle.tensor_reduce.specs.Plan.{IsReady, AreReady}
-use Rattle.tensor_reduce.specs.Reading.{reads, are_reading, through, AreHeldFor, AreHeld}
-use Rattle.tensor_reduce.specs.Reading.{IsReadThrough}
+use Rattle.tensor_reduce.specs.Fusing.{fused_with}
+use Rattle.tensor_reduce.specs.Held.{AreHeldFor, AreHeld}
+use Rattle.tensor_reduce.specs.Readers.{reads, are_reading}
 use Rattle.tensor_reduce.specs.Steps.{is_combining}
 use Rattle.tensor_reduce.specs.declared.step.Step.{Step}
 use Rattle.tensor_reduce.proofs.Planned.{last_tensor-append}
-use Rattle.tensor_reduce.proofs.Through.{other-number, same-read, same-through, names-through}
-use Rattle.tensor_reduce.proofs.Through.{ReadDirectly, ReadDirectly-single, ReadDirectly-through}
-use Rattle.tensor_reduce.proofs.Through.{reads-through, is_combining-through}
+use Rattle.tensor_reduce.proofs.FusedTerms.{other-number, same-read, same-fused_with, names-fused_with}
+use Rattle.tensor_reduce.proofs.FusedTerms.{ReadDirectly, ReadDirectly-single, ReadDirectly-fused_with}
+use Rattle.tensor_reduce.proofs.FusedTerms.{reads-fused_with, is_combining-fused_with}
+
+-- the tensor of the step behind so many others, none of whose tensors a step behind it reads
+abbrev pub IsFusedTensor : ℕ → List Step → List Contents → Contents → Type 0
+IsFusedTensor n [] all tensor = ⊥
+IsFusedTensor zero (s ∷ left) all tensor = tensor ≡ tensor_of (term_of_step s) all
+IsFusedTensor (suc n) (s ∷ left) all tensor =
+    (are_reading (length all) (drop (suc n) left) ≡ false)
+    × IsFusedTensor n left (all ++ tensor_of (term_of_step s) all ∷ []) tensor
 
 -- a tensor more
 input_of-before : (tensors : List Contents) (t : Contents) (n : ℕ) → n < length tensors
@@ -84,7 +93,7 @@ held-read : (left : List Step) (more held all : List Contents) (t : Contents)
     → length held ≡ length all → AreReady left all
     → ((n : ℕ) → are_reading n (drop (suc (length more)) left) ≡ true
     → input_of held n ≡ input_of all n)
-    → IsReadThrough (length more) left all t
+    → IsFusedTensor (length more) left all t
     → AreHeld (drop (suc (length more)) left) (worked_out (terms_in left) all)
     (held ++ (more ++ t ∷ []))
 held-read [] more held all t many ready there is = absurd is
@@ -117,11 +126,11 @@ held-read (s ∷ left) (x ∷ more) held all t many ready there is =
     (read-more rest held all x made many there (inr is.0)) is.1)
 
 -- the same of tensors from which the steps left to do give the whole
-pub AreHeld-read : (left : List Step) (whole held more : List Contents) (t : Contents)
+pub AreHeld-fused : (left : List Step) (whole held more : List Contents) (t : Contents)
     → AreHeld left whole held
-    → ((all : List Contents) → AreHeldFor left held all → IsReadThrough (length more) left all t)
+    → ((all : List Contents) → AreHeldFor left held all → IsFusedTensor (length more) left all t)
     → AreHeld (drop (suc (length more)) left) whole (held ++ (more ++ t ∷ []))
-AreHeld-read left whole held more t are is =
+AreHeld-fused left whole held more t are is =
     let for = are.1.0 in
     subst (λ w. AreHeld (drop (suc (length more)) left) w (held ++ (more ++ t ∷ []))) are.1.1
     (held-read left more held are.0 t for.as_many for.ready
@@ -195,11 +204,11 @@ module _ (s r : Step) (later : List Step) (held all : List Contents)
     (are : AreHeldFor (s ∷ r ∷ later) held all) (combining : is_combining (term_of_step r) ≡ true)
     (n : ℕ) (place : n ≡ length all) where
   abbrev pub joined-two : Term
-  joined-two = through n (term_of_step s) (term_of_step r)
+  joined-two = fused_with n (term_of_step s) (term_of_step r)
 
   same-two : IsSameTensor joined-two held (term_of_step r) (more s (r ∷ later) held all are)
   same-two =
-      same-through held (more s (r ∷ later) held all are) n (term_of_step s) (term_of_step r)
+      same-fused_with held (more s (r ∷ later) held all are) n (term_of_step s) (term_of_step r)
       combining (ReadDirectly-single n (term_of_step r) combining are.ready.1.0.single)
       (ap is_ok are.ready.1.0.dims) (same-operand s (r ∷ later) held all are n place)
       (λ m reading. read-other s (r ∷ later) held all are n place m
@@ -210,7 +219,7 @@ module _ (s r : Step) (later : List Step) (held all : List Contents)
   names-two =
       let count : length (more s (r ∷ later) held all are) ≡ length held + 1 =
       omega (arith, are.as_many, length-append all (tensor_of (term_of_step s) all ∷ [])) in
-      names-through n (length held) (term_of_step s) (term_of_step r)
+      names-fused_with n (length held) (term_of_step s) (term_of_step r)
       (ap (has_inputs (term_of_step s)) are.as_many ∙ are.ready.0.inputs)
       (ap (has_inputs (term_of_step r)) (sym count) ∙ are.ready.1.0.inputs)
       (omega (arith, place, are.as_many)) combining
@@ -220,10 +229,10 @@ module _ (s r : Step) (later : List Step) (held all : List Contents)
   dims-two = same-two.dims ∙ are.ready.1.0.dims
 
   -- and gives its tensor
-  pub IsReadThrough-two : (t : Contents) → t ≡ tensor_of joined-two held
+  pub IsFusedTensor-two : (t : Contents) → t ≡ tensor_of joined-two held
       → are_reading n later ≡ false
-      → IsReadThrough 1 (s ∷ r ∷ later) all t
-  IsReadThrough-two t made unread = (
+      → IsFusedTensor 1 (s ∷ r ∷ later) all t
+  IsFusedTensor-two t made unread = (
     ap (λ k. are_reading k later) (sym place) ∙ unread,
     made
         ∙ tensor_of-same joined-two (term_of_step r) held (more s (r ∷ later) held all are) same-two,
@@ -244,17 +253,17 @@ module _ (s r c : Step) (later : List Step) (held all : List Contents)
   place-one = omega (arith, place, length-append all (tensor_of (term_of_step s) all ∷ []))
 
   abbrev inner : Term
-  inner = through (n + 1) (term_of_step r) (term_of_step c)
+  inner = fused_with (n + 1) (term_of_step r) (term_of_step c)
 
   abbrev pub joined-three : Term
-  joined-three = through n (term_of_step s) inner
+  joined-three = fused_with n (term_of_step s) inner
 
   combining-inner : is_combining inner ≡ true
-  combining-inner = is_combining-through (n + 1) (term_of_step r) (term_of_step c) combining
+  combining-inner = is_combining-fused_with (n + 1) (term_of_step r) (term_of_step c) combining
 
   direct-inner : ReadDirectly n inner
   direct-inner =
-      ReadDirectly-through n (n + 1) (term_of_step r) (term_of_step c) combining
+      ReadDirectly-fused_with n (n + 1) (term_of_step r) (term_of_step c) combining
       are.ready.1.1.0.single apart
 
   dims-inner : dims_of highest_rank inner one ≡ Ok (dims_of_step c)
@@ -266,7 +275,7 @@ module _ (s r c : Step) (later : List Step) (held all : List Contents)
       let r_reads = reads m (term_of_step r) in
       let c_reads = reads m (term_of_step c) in
       let both : are_reading m (r ∷ c ∷ later) ≡ true =
-      elim (or_cases r_reads c_reads (reads-through m (n + 1) (term_of_step r) (term_of_step c) reading)) [
+      elim (or_cases r_reads c_reads (reads-fused_with m (n + 1) (term_of_step r) (term_of_step c) reading)) [
         | inl second ↦ or_left r_reads (c_reads || are_reading m later) second
         | inr third ↦
             or_right r_reads (c_reads || are_reading m later)
@@ -276,13 +285,13 @@ module _ (s r c : Step) (later : List Step) (held all : List Contents)
 
   same-three : IsSameTensor joined-three held inner one
   same-three =
-      same-through held one n (term_of_step s) inner combining-inner direct-inner
+      same-fused_with held one n (term_of_step s) inner combining-inner direct-inner
       (ap is_ok dims-inner) (same-operand s (r ∷ c ∷ later) held all are n place) read-inner
 
   pub names-three : has_inputs joined-three (length held) ≡ true
   names-three =
       let count : length one ≡ length held + 1 = omega (arith, place-one, place, are.as_many) in
-      names-through n (length held) (term_of_step s) inner
+      names-fused_with n (length held) (term_of_step s) inner
       (ap (has_inputs (term_of_step s)) are.as_many ∙ are.ready.0.inputs)
       (ap (has_inputs inner) (sym count)
       ∙ names-two r c later one one all-one combining (n + 1) place-one)
@@ -291,11 +300,11 @@ module _ (s r c : Step) (later : List Step) (held all : List Contents)
   pub dims-three : dims_of highest_rank joined-three held ≡ Ok (dims_of_step c)
   dims-three = same-three.dims ∙ dims-inner
 
-  pub IsReadThrough-three : (t : Contents) → t ≡ tensor_of joined-three held
+  pub IsFusedTensor-three : (t : Contents) → t ≡ tensor_of joined-three held
       → are_reading n later ≡ false → are_reading (n + 1) later ≡ false
-      → IsReadThrough 2 (s ∷ r ∷ c ∷ later) all t
-  IsReadThrough-three t made unread unread_too = (
+      → IsFusedTensor 2 (s ∷ r ∷ c ∷ later) all t
+  IsFusedTensor-three t made unread unread_too = (
     ap (λ k. are_reading k later) (sym place) ∙ unread,
-    IsReadThrough-two r c later one one all-one combining (n + 1) place-one t
+    IsFusedTensor-two r c later one one all-one combining (n + 1) place-one t
         (made ∙ tensor_of-same joined-three inner held one same-three) unread_too,
   )

@@ -12,7 +12,7 @@ use Rattle.tensor_ops.specs.Term.{Unary, each, constant, movement, pad, reduce}
 use Rattle.tensor_ops.specs.Reducer.{Reducer}
 use Rattle.tensor_ops.specs.Reducer.TheVariants.{Sum}
 use Rattle.tensor_reduce.specs.Shards.{Shard, shards_in}
-use Rattle.tensor_reduce.specs.declared.shard_kernel.ShardKernel.{ShardKernel}
+use Rattle.tensor_reduce.specs.declared.running.shard_kernel.ShardKernel.{ShardKernel}
 
 -- how many shards a step has at most: 1,024 of each of the most values
 abbrev pub most_items : ℕ

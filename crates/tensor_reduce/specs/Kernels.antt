@@ -5,7 +5,7 @@ use Rattle.tensor_ops.specs.Evaluator.{term_evaluated, inputs_evaluated}
 use Rattle.tensor_ops.specs.Index.{size_of}
 use Rattle.tensor_ops.specs.Result.{shape_of}
 use Rattle.tensor_ops.specs.Term.{Term}
-use Rattle.tensor_reduce.specs.declared.step_kernel.StepKernel.{StepKernel}
+use Rattle.tensor_reduce.specs.declared.running.step_kernel.StepKernel.{StepKernel}
 
 -- the term whose values it works out
 abbrev pub kernel_term : StepKernel → Term

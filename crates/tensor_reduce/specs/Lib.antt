@@ -20,5 +20,8 @@ pub mod Steps
 -- for private clauses alone
 pub mod Combined
 pub mod Cutting
-pub mod Reading
-pub mod Ways
+pub mod Fusing
+pub mod Held
+pub mod Next
+pub mod Readers
+pub mod Schedules

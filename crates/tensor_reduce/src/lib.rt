@@ -20,24 +20,13 @@
 //! value, are laws.
 #![tactic(auto)]
 
-mod combined;
 mod cutting;
 mod laws;
-mod parts;
-mod places_read;
 mod plan;
-mod ranged;
-mod read_through;
-mod reading;
 mod running;
-mod shard_kernel;
-mod sharded;
+mod schedule;
 mod shards;
 mod step;
-mod step_kernel;
-mod unread;
-mod way;
-mod workers;
 
 pub use laws::{
     reducers_combine_in_any_grouping, shards_give_the_contraction, shards_give_the_reduction,
@@ -46,7 +35,7 @@ pub use laws::{
 pub use parallel_for::{ForFault, Kernel, PoolFault, Setup};
 pub use plan::Plan;
 pub use running::run_plan;
+pub use running::step_kernel::StepKernel;
 pub use shards::Shards;
 pub use step::Step;
-pub use step_kernel::StepKernel;
 pub use tensor_ops::{Dims, Expr, Inputs, Reducer, Tensor};

@@ -1,4 +1,4 @@
-//! Plans.
+//! A plan: the steps of an expression, in the order in which they are worked out.
 
 ghost use Rattle.std.specs.Prelude.{◌≡◌, ◌+◌, ◌<◌, ◌≤◌, ◌^◌, ◌++◌, length, map, IsTrue, IsOk, IfOk};
 ghost use Rattle.tensor_ops.specs.Legal.{highest_rank};

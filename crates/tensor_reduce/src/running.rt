@@ -1,22 +1,28 @@
-//! Working out a plan.
+//! Running a plan: its steps are worked out one after the other, each by its schedule.
+
+pub(crate) mod combined;
+pub(crate) mod freeing;
+pub(crate) mod fused_expr;
+pub(crate) mod ranged;
+pub(crate) mod scheduled;
+pub(crate) mod shard_kernel;
+pub(crate) mod sharded;
+pub(crate) mod step_kernel;
+pub(crate) mod workers;
 
 ghost use Rattle.std.specs.Prelude.{◌≡◌, ◌<◌, ◌≤◌, ◌+◌, ◌↔◌, ◌++◌, drop, length};
 ghost use Rattle.std.specs.Prelude.{vec_capacity, IfOk, IfErr, IsErrOf};
-ghost use Rattle.tensor_ops.specs.Value.{tensor_of};
 ghost use Rattle.parallel_for.specs.Setup.{IsPoolSize, IsNoPoolSize, AreNoPartitions};
-ghost use Rattle.tensor_reduce.specs.Plan.{steps_in, term_of_step, terms_in, worked_out};
-ghost use Rattle.tensor_reduce.specs.Plan.{last_tensor, IsReady, AreReady};
-ghost use Rattle.tensor_reduce.specs.Reading.{AreHeld};
+ghost use Rattle.tensor_reduce.specs.Plan.{steps_in, terms_in, worked_out};
+ghost use Rattle.tensor_reduce.specs.Plan.{last_tensor, AreReady};
+ghost use Rattle.tensor_reduce.specs.Held.{AreHeld};
 
-use crate::parts::{Cut, is_in_shards, leaf_of};
-use crate::places_read::places_combined;
 use crate::plan::Plan;
-use crate::ranged::of_ranges;
-use crate::read_through::read_through;
-use crate::sharded::of_shards;
+use crate::running::freeing::{free_unread, push_freed};
+use crate::running::scheduled::of_next;
+use crate::running::workers::Workers;
+use crate::schedule::next::Next;
 use crate::step::Step;
-use crate::unread::{let_go, push_unread};
-use crate::workers::Workers;
 use parallel_for::{ForFault, PoolFault, Setup};
 use std::alloc::Global;
 use std::sync::Wait;
@@ -28,10 +34,10 @@ use tensor_ops::{Inputs, Tensor};
 ///
 /// A reduction or a contraction of at most 64 values is worked out in shards, each a leaf of its
 /// own. An operand that an inner product reads alone, or a reduction over four index lists a value or
-/// more, is no tensor of its own: its values are worked out a thousand at a time, as they are
-/// combined. Nor is one that a contraction of more values reads alone, where it broadcasts, slices,
-/// shuffles, chips or strides an input or the tensor of an earlier step, and both operands have
-/// four rows or more: its values are taken where they lie.
+/// more, is fused into it and no tensor of its own: its values are worked out a thousand at a time,
+/// as they are combined. So is one that a contraction of more values reads alone, where it
+/// broadcasts, slices, shuffles, chips or strides an input or the tensor of an earlier step, and
+/// both operands have four rows or more: its values are taken where they lie.
 ///
 /// # Errors
 ///
@@ -88,7 +94,7 @@ fn work_out<RT: Threads + Wait + Sync>(
     let mut done = 0;
     while done < steps.len() {
         done = advance(workers, steps, done, inputs, &mut tensors)?;
-        let_go(workers.alloc, &steps[done..], inputs, &mut tensors);
+        free_unread(workers.alloc, &steps[done..], inputs, &mut tensors);
     }
     let Some(last) = tensors.pop() else {
         unreachable!()
@@ -96,8 +102,8 @@ fn work_out<RT: Threads + Wait + Sync>(
     Ok(last)
 }
 
-/// Works out the next step, or one behind it that reads those before it as they are worked out.
-/// Answers how many are done.
+/// Works out the next step, or one behind it with those before it fused into it. Answers how many
+/// are done.
 fn advance<RT: Threads + Wait + Sync>(
     workers: &Workers<'_, RT>,
     steps: &[Step],
@@ -120,33 +126,11 @@ fn advance<RT: Threads + Wait + Sync>(
         length tensors.new.items + length steps.now ≤ vec_capacity tensors.new + next) }
     ensures faults { IfErr result (λ fault. fault ≡ ForFault.NoMemory) }
 {
-    if let Some(read) = read_through(workers, &steps[done..], inputs, tensors)? {
-        push_unread(workers.alloc, tensors, read.skipped);
-        tensors.push_reserved(read.tensor);
-        return Ok(done + read.skipped + 1);
-    }
-    let tensor = work_out_step(workers, &steps[done], inputs, tensors)?;
+    let earlier: &[Tensor] = tensors;
+    let next = Next::of(&steps[done..], inputs, earlier, workers.grain());
+    let fused = next.fused();
+    let tensor = of_next(workers, next, inputs, earlier)?;
+    push_freed(workers.alloc, tensors, fused);
     tensors.push_reserved(tensor);
-    Ok(done + 1)
-}
-
-/// The tensor of a step, over inputs and the tensors of the steps before it.
-fn work_out_step<RT: Threads + Wait + Sync>(
-    workers: &Workers<'_, RT>,
-    step: &Step,
-    inputs: &Inputs,
-    earlier: &[Tensor],
-) -> Result<Tensor, ForFault>
-    requires ready { IsReady step.now (inputs.now.tensors ++ earlier.now) }
-    ensures tensor { IfOk result (λ t.
-        t ≡ tensor_of (term_of_step step.now) (inputs.now.tensors ++ earlier.now)) }
-    ensures faults { IfErr result (λ fault. fault ≡ ForFault.NoMemory) }
-{
-    if is_in_shards(step) {
-        let cut = Cut::by_blocks(workers.block);
-        return of_shards(workers, cut, step.expr(), step.dims(), inputs, earlier);
-    }
-    let places = places_combined(step.expr(), inputs, earlier);
-    let leaf = leaf_of(step.dims().size(), places, workers.count(), workers.block);
-    of_ranges(workers, leaf, step.expr(), step.dims(), inputs, earlier)
+    Ok(done + fused + 1)
 }

@@ -1,29 +1,50 @@
 use Rattle.tensor_reduce.specs.Plan.{terms_in, worked_out}
-use Rattle.tensor_reduce.proofs.LeftSteps.{IsReady-next, AreHeld-next, AreHeld-found}
+use Rattle.tensor_reduce.proofs.NextSteps.{names-next, dims-next, schedule-next, numbers-next}
+use Rattle.tensor_reduce.proofs.NextSteps.{held-left, AreHeld-next}
 use Rattle.tensor_reduce.proofs.running.advance.Goals as goal
 
-pub returns-in-Some-clause-held : goal.returns-in-Some-clause-held
-returns-in-Some-clause-held g c =
-    AreHeld-found c.args.steps.now c.args.done c.args.inputs.now.tensors
-    c.args.tensors.now.items c.deref.result.now
-    (worked_out (terms_in c.args.steps.now) c.args.inputs.now.tensors) c.deref.ensures.value
-    c.requires.held c.in_ok-read.field-0 c.in-Some.read
-    c.push_unread.new.tensors.items c.push_reserved.new.self.items c.in-Some.is
-    c.in_ok-read.ensures.gives c.push_unread.ensures.more
-    c.push_reserved.ensures.items
+pub of_next-requires-clause-inputs : goal.of_next-requires-clause-inputs
+of_next-requires-clause-inputs g c κs within =
+    let steps = c.args.steps.now in
+    let inputs = c.args.inputs.now.tensors in
+    names-next _ _ _
+    (held-left steps c.args.done inputs c.args.tensors.now.items c.deref-earlier.result.now
+    (worked_out (terms_in steps) inputs) c.deref-earlier.ensures.value c.requires.held)
+    c.of-next.result c.of-next.ensures.next
 
-pub work_out_step-requires-clause-ready : goal.work_out_step-requires-clause-ready
-work_out_step-requires-clause-ready g c κs within =
-    IsReady-next c.args.steps.now c.args.done c.args.inputs.now.tensors
-    c.args.tensors.now.items c.deref-2.result.now
-    (worked_out (terms_in c.args.steps.now) c.args.inputs.now.tensors) c.deref-2.ensures.value
-    c.requires.held c.index-steps-done.result c.requires.more c.index-steps-done.is
+pub of_next-requires-clause-dims : goal.of_next-requires-clause-dims
+of_next-requires-clause-dims g c κs within =
+    let steps = c.args.steps.now in
+    let inputs = c.args.inputs.now.tensors in
+    dims-next _ _ _
+    (held-left steps c.args.done inputs c.args.tensors.now.items c.deref-earlier.result.now
+    (worked_out (terms_in steps) inputs) c.deref-earlier.ensures.value c.requires.held)
+    c.of-next.result c.of-next.ensures.next
+
+pub of_next-requires-clause-schedule : goal.of_next-requires-clause-schedule
+of_next-requires-clause-schedule g c κs within =
+    let steps = c.args.steps.now in
+    let inputs = c.args.inputs.now.tensors in
+    schedule-next _ _ _
+    (held-left steps c.args.done inputs c.args.tensors.now.items c.deref-earlier.result.now
+    (worked_out (terms_in steps) inputs) c.deref-earlier.ensures.value c.requires.held)
+    c.of-next.result c.of-next.ensures.next
+
+pub of_next-requires-clause-numbers : goal.of_next-requires-clause-numbers
+of_next-requires-clause-numbers g c κs within =
+    let steps = c.args.steps.now in
+    let inputs = c.args.inputs.now.tensors in
+    numbers-next _ _ _
+    (held-left steps c.args.done inputs c.args.tensors.now.items c.deref-earlier.result.now
+    (worked_out (terms_in steps) inputs) c.deref-earlier.ensures.value c.requires.held)
+    c.of-next.result c.of-next.ensures.next
 
 pub returns-clause-held : goal.returns-clause-held
 returns-clause-held g c =
-    AreHeld-next c.args.steps.now c.args.done c.args.inputs.now.tensors
-    c.args.tensors.now.items c.deref-2.result.now
-    (worked_out (terms_in c.args.steps.now) c.args.inputs.now.tensors) c.deref-2.ensures.value
-    c.requires.held c.index-steps-done.result c.requires.more c.index-steps-done.is
-    c.in_ok-tensor.tensor c.push_reserved-2.new.self.items c.in_ok-tensor.ensures.tensor
-    c.push_reserved-2.ensures.items
+    let steps = c.args.steps.now in
+    let inputs = c.args.inputs.now.tensors in
+    AreHeld-next steps c.args.done inputs c.args.tensors.now.items c.deref-earlier.result.now
+    (worked_out (terms_in steps) inputs) c.deref-earlier.ensures.value c.requires.held
+    c.of-next.result c.fused-fused.result c.in_ok-tensor.tensor c.push_freed.new.tensors.items
+    c.push_reserved.new.self.items c.fused-fused.ensures c.of-next.ensures.next
+    c.in_ok-tensor.ensures.tensor c.push_freed.ensures.more c.push_reserved.ensures.items

@@ -1,7 +1,7 @@
 use Rattle.std.proofs.Common.{◌≡◌, ◌-◌, ◌++◌, length, take, drop, sym, subst, arith}
 use Rattle.std.proofs.lemmas.List.{length-drop, take_all}
 use Rattle.tensor_reduce.specs.Plan.{terms_in, worked_out}
-use Rattle.tensor_reduce.specs.Reading.{AreHeld}
+use Rattle.tensor_reduce.specs.Held.{AreHeld}
 use Rattle.tensor_reduce.proofs.running.work_out.Goals as goal
 
 pub loop-done-preserved : goal.loop-done-preserved
@@ -14,15 +14,15 @@ loop-done-preserved g c =
     take_all (length steps - done) (drop done steps) (omega (arith, length-drop done steps)) in
     record {
       held =
-          subst (λ l. AreHeld l whole (inputs ++ c.let_go.new.tensors.items)) left
-          (c.let_go.ensures.held whole
+          subst (λ l. AreHeld l whole (inputs ++ c.free_unread.new.tensors.items)) left
+          (c.free_unread.ensures.held whole
           (subst (λ l. AreHeld l whole (inputs ++ c.advance.new.tensors.items)) (sym left)
           c.in_ok-done.ensures.held));
-      some = λ more. omega (arith, c.let_go.ensures.len, c.in_ok-done.ensures.some);
+      some = λ more. omega (arith, c.free_unread.ensures.len, c.in_ok-done.ensures.some);
       room = omega (
         arith,
-        c.let_go.ensures.len,
-        c.let_go.ensures.capacity,
+        c.free_unread.ensures.len,
+        c.free_unread.ensures.capacity,
         c.in_ok-done.ensures.room,
       );
     }

@@ -1,0 +1,53 @@
+//! Freeing tensors that no step left reads: something empty takes their place, so that the others
+//! keep their numbers.
+
+ghost use Rattle.std.specs.Prelude.{◌≡◌, ◌+◌, ◌≤◌, ◌++◌, List, length, vec_capacity};
+ghost use Rattle.tensor_ops.specs.Contents.{Contents};
+ghost use Rattle.tensor_reduce.specs.Held.{AreHeld, HasMore};
+
+use crate::cutting::NUMBERS;
+use crate::schedule::readers::are_reading;
+use crate::step::Step;
+use std::alloc::Global;
+use tensor_ops::{Dims, Inputs, Tensor};
+
+/// Puts something empty in the place of so many tensors, which nobody has worked out or reads.
+pub(crate) fn push_freed(alloc: Global, tensors: &mut Vec<Tensor>, count: usize)
+    requires { length tensors.old.items + count ≤ vec_capacity tensors.old }
+    ensures more { HasMore count tensors.old.items tensors.new.items }
+    ensures capacity { vec_capacity tensors.new ≡ vec_capacity tensors.old }
+{
+    for _ in 0..count {
+        tensors.push_reserved(freed(alloc));
+    }
+}
+
+/// Frees the tensors that none of the steps left reads, from the one before the last back to
+/// the nearest that is read. Those of a tree's operands are never behind it.
+pub(crate) fn free_unread(alloc: Global, left: &[Step], inputs: &Inputs, tensors: &mut Vec<Tensor>)
+    ensures held { (whole : List Contents)
+        → AreHeld left.now whole (inputs.now.tensors ++ tensors.old.items)
+        → AreHeld left.now whole (inputs.now.tensors ++ tensors.new.items) }
+    ensures len { length tensors.new.items ≡ length tensors.old.items }
+    ensures capacity { vec_capacity tensors.new ≡ vec_capacity tensors.old }
+{
+    let first = u64::from(inputs.len());
+    for behind in 1..tensors.len() {
+        let place = tensors.len() - 1 - behind;
+        if !tensors[place].values().is_empty() {
+            let number = first + place as u64;
+            if number >= NUMBERS || are_reading(left, number as u32) {
+                return;
+            }
+            tensors[place] = freed(alloc);
+        }
+    }
+}
+
+/// A tensor that holds no memory.
+fn freed(alloc: Global) -> Tensor {
+    let Ok(dims) = Dims::new(&[0]) else {
+        unreachable!()
+    };
+    Tensor::new(dims, Vec::new(alloc))
+}

@@ -1,0 +1,49 @@
+//! The workers that the items of a step are worked out by.
+
+ghost use Rattle.std.specs.Prelude.{◌≡◌, ◌<◌, ◌≤◌, IfOk, IfErr};
+ghost use Rattle.parallel_for.specs.Items.{AreItems};
+ghost use Rattle.parallel_for.specs.Setup.{IsPoolSize, AreNoPartitions};
+ghost use Rattle.tensor_reduce.specs.Combined.{most_items};
+
+use crate::schedule::grain::Grain;
+use parallel_for::{ForFault, Kernel, Setup, parallel_for};
+use std::alloc::Global;
+use std::sync::Wait;
+use std::thread::Threads;
+
+/// What a plan is worked out by: the workers of a pool that the setup describes, opened for each
+/// step, and how many places they take at a time.
+#[derive(Drop)]
+pub(crate) struct Workers<'a, RT> {
+    pub(crate) rt: &'a RT,
+    pub(crate) alloc: Global,
+    pub(crate) setup: &'a Setup,
+    pub(crate) block: u64,
+    ghost some: { 0 < block },
+    ghost pool: { IsPoolSize setup.now.workers },
+    ghost partitions: { AreNoPartitions setup.now.workers setup.now.partitions.items → ⊥ },
+}
+
+impl<RT: Threads + Wait + Sync> Workers<'_, RT> {
+    /// What leaves are sized for.
+    pub(crate) fn grain(&self) -> Grain {
+        Grain {
+            workers: u64::from(self.setup.workers),
+            block: self.block,
+        }
+    }
+
+    /// The items of a kernel at the places below `n`, so many at a time.
+    pub(crate) fn items<K>(&self, kernel: &K, n: u64, leaf: u64) -> Result<Vec<K::Item>, ForFault>
+    where
+        K: Kernel + Sync,
+        K::Item: Send,
+        requires inside { n ≤ K.size kernel.now }
+        requires few { n ≤ most_items }
+        requires some { 0 < leaf }
+        ensures items { IfOk result (λ items. AreItems (K.item_at kernel.now) 0 n items.items) }
+        ensures faults { IfErr result (λ fault. fault ≡ ForFault.NoMemory) }
+    {
+        parallel_for(self.rt, self.alloc, self.setup, kernel, n, leaf)
+    }
+}

@@ -1,0 +1,152 @@
+//! Schedules: how the tensor of a step is worked out, and which steps before it are fused into it.
+//! All that is chosen for the sake of time is chosen here.
+//!
+//! A step is worked out in shards of the index lists that each of its values is over, where it has
+//! few values, or else by ranges of its places. A step before it is fused into it where its values
+//! are better worked out as they are read, or taken where a strided view has them, than put into a
+//! tensor of their own.
+
+pub(crate) mod fusible;
+pub(crate) mod grain;
+pub(crate) mod next;
+pub(crate) mod places_read;
+pub(crate) mod readers;
+pub(crate) mod rows;
+pub(crate) mod sharding;
+
+ghost use Rattle.std.specs.Prelude.{IfSome, IsTrue};
+ghost use Rattle.tensor_ops.specs.Parts.{has_parts};
+ghost use Rattle.tensor_reduce.specs.Plan.{term_of_step};
+
+use crate::schedule::fusible::{
+    SHORT, is_fusible, is_fusing_reduction, is_inner_product, is_strided_view,
+};
+use crate::schedule::grain::Grain;
+use crate::schedule::rows::{is_tensor, row_width};
+use crate::schedule::sharding::{FEW_VALUES, Sharding, has_contiguous_parts};
+use crate::step::Step;
+use tensor_ops::{Binary, Node};
+
+/// From so many rows of both operands on a contraction takes their values wherever they lie, where
+/// with fewer it goes over rows that lie side by side.
+const MANY_ROWS: u64 = 4;
+
+/// Over how many index lists a value is at least that is worked out of values as they come, where
+/// there are many of them. A shuffled operand is read in rows of as many places.
+const LONG_RUN: u64 = 4;
+
+/// How the values of a step are divided among workers.
+#[derive(Clone, Copy, Drop)]
+pub(crate) enum Schedule {
+    /// In shards of the index lists that each value is over.
+    Sharded(Sharding),
+    /// By ranges of places, so many of them a leaf.
+    Ranged(u64),
+}
+
+/// A step that may be fused into one behind it.
+#[derive(Clone, Copy, Drop)]
+pub(crate) struct Operand<'a> {
+    pub(crate) step: &'a Step,
+    /// The number by which its reader names its tensor.
+    pub(crate) number: u64,
+}
+
+impl Schedule {
+    ghost use Rattle.tensor_reduce.specs.Schedules.{IsScheduleFor, IsFusingFor};
+
+    /// A step by itself, which combines values of so many places: in shards of a block where it has
+    /// few values and the parts of each lie side by side.
+    pub(crate) fn of_step(step: &Step, places: u64, grain: Grain) -> Schedule
+        ensures { IsScheduleFor result (term_of_step step.now) }
+    {
+        if step.dims().size() <= FEW_VALUES && has_contiguous_parts(step.expr()) {
+            return Schedule::Sharded(Sharding::by_blocks(grain));
+        }
+        Schedule::Ranged(grain.leaf_size(step.dims().size(), places))
+    }
+
+    /// A step with one operand fused into it, whose values may be worked out as fast in any order,
+    /// if that is better than a tensor of the operand.
+    pub(crate) fn of_fused(
+        operand: Operand<'_>,
+        in_any_order: bool,
+        reader: &Step,
+        grain: Grain,
+    ) -> Option<Schedule>
+        ensures { IfSome result (λ schedule. IsFusingFor schedule (term_of_step reader.now)) }
+    {
+        if is_fusible(operand.step) {
+            if is_fusing_reduction(reader.expr(), in_any_order) {
+                return Schedule::of_reduction(operand.step, reader, grain);
+            }
+            if reader.dims().size() == 1 && has_contiguous_parts(reader.expr()) {
+                return Some(Schedule::Sharded(Sharding::by_blocks(grain)));
+            }
+        }
+        if operand.step.dims().size() <= SHORT || !is_strided_view(operand.step.expr()) {
+            return None;
+        }
+        Schedule::of_contraction(operand, reader, grain)
+    }
+
+    /// A step with both its operands fused into it: an inner product of values as they are worked
+    /// out, or a contraction of two strided views, though one of them has few values.
+    pub(crate) fn of_both_fused(
+        first: Operand<'_>,
+        second: &Step,
+        reader: &Step,
+        grain: Grain,
+    ) -> Option<Schedule>
+        ensures { IfSome result (λ schedule. IsFusingFor schedule (term_of_step reader.now)) }
+    {
+        if is_fusible(first.step) && is_fusible(second) && is_inner_product(reader) {
+            return Some(Schedule::Sharded(Sharding::by_blocks(grain)));
+        }
+        let longer = first.step.dims().size().max(second.dims().size());
+        let are_views = is_strided_view(first.step.expr()) && is_strided_view(second.expr());
+        if longer <= SHORT || !are_views {
+            return None;
+        }
+        Schedule::of_contraction(first, reader, grain)
+    }
+
+    /// A reduction whose operand's values are each worked out once: few values in shards of a block,
+    /// and many each in one where no fewer workers have something to do than if the operand were a
+    /// tensor.
+    fn of_reduction(operand: &Step, reader: &Step, grain: Grain) -> Option<Schedule>
+        requires { IsTrue (has_parts (term_of_step reader.now)) }
+        ensures { IfSome result (λ schedule. IsFusingFor schedule (term_of_step reader.now)) }
+    {
+        let (values, places) = (reader.dims().size(), operand.dims().size());
+        if values <= FEW_VALUES {
+            return Some(Schedule::Sharded(Sharding::by_blocks(grain)));
+        }
+        let leaf = grain.leaf_size(values, places);
+        let all_work = values.div_ceil(leaf) >= places.div_ceil(grain.block).min(grain.workers);
+        if !all_work || places < LONG_RUN * values {
+            return None;
+        }
+        Some(Schedule::Sharded(Sharding::by_values(leaf)))
+    }
+
+    /// A contraction of many values and of operands of many rows, of which this operand is one. An
+    /// operand has a row for each index list of its axes that aren't paired.
+    fn of_contraction(operand: Operand<'_>, reader: &Step, grain: Grain) -> Option<Schedule>
+        ensures { IfSome result (λ schedule. IsFusingFor schedule (term_of_step reader.now)) }
+    {
+        let Node::Binary(Binary::Contract(pairs), first, _) = reader.expr().node() else {
+            return None;
+        };
+        let is_first = is_tensor(first, operand.number);
+        let width = row_width(operand.step.dims(), pairs, is_first).max(1);
+        let rows = (operand.step.dims().size() / width).max(1);
+        let values = reader.dims().size();
+        let others = values / rows;
+        if values <= FEW_VALUES || rows.min(others) < MANY_ROWS {
+            return None;
+        }
+        let places = rows.max(others).saturating_mul(width);
+        Some(Schedule::Ranged(grain.leaf_size(values, places)))
+    }
+}

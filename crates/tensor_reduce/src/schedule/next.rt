@@ -1,0 +1,119 @@
+//! The next of the steps left, and what of those before it is fused into it: where that is better,
+//! and where no other step left reads what would then be no tensor.
+
+ghost use Rattle.std.specs.Prelude.{◌≡◌, ◌<◌, ◌++◌, length, IfSome};
+
+use crate::cutting::NUMBERS;
+use crate::schedule::grain::Grain;
+use crate::schedule::places_read::{is_read_in_any_order, places_combined};
+use crate::schedule::readers::{are_read_elsewhere, are_reading};
+use crate::schedule::{Operand, Schedule};
+use crate::step::Step;
+use tensor_ops::{Inputs, Tensor};
+
+/// What is worked out next of the steps left, and by which schedule.
+#[derive(Drop)]
+pub(crate) enum Next<'a> {
+    /// The first step.
+    Alone(&'a Step, Schedule),
+    /// The second step, with the first fused into it in the place of the tensor of this number.
+    Fused(u32, &'a Step, &'a Step, Schedule),
+    /// The third step, with the first two fused into it in the place of the tensors of this number
+    /// and the next.
+    BothFused(u32, &'a Step, &'a Step, &'a Step, Schedule),
+}
+
+impl<'a> Next<'a> {
+    ghost use Rattle.tensor_reduce.specs.Next.{IsNextOf, fused_in};
+
+    /// The next of these steps, over inputs and the tensors of the steps before it: the third if it
+    /// may have both before it fused into it, or the second with the first, or else the first.
+    pub(crate) fn of(
+        left: &'a [Step],
+        inputs: &Inputs,
+        earlier: &[Tensor],
+        grain: Grain,
+    ) -> Next<'a>
+        requires { 0 < length left.now }
+        ensures next { IsNextOf left.now (length (inputs.now.tensors ++ earlier.now)) result }
+        ensures within { fused_in result < length left.now }
+    {
+        if let Some(next) = Next::with_both_fused(left, inputs, earlier, grain) {
+            return next;
+        }
+        if let Some(next) = Next::with_one_fused(left, inputs, earlier, grain) {
+            return next;
+        }
+        let step = &left[0];
+        let places = places_combined(step.expr(), inputs, earlier);
+        Next::Alone(step, Schedule::of_step(step, places, grain))
+    }
+
+    /// The second of these steps, with the first fused into it.
+    fn with_one_fused(
+        left: &'a [Step],
+        inputs: &Inputs,
+        earlier: &[Tensor],
+        grain: Grain,
+    ) -> Option<Next<'a>>
+        ensures next { IfSome result
+            (IsNextOf left.now (length (inputs.now.tensors ++ earlier.now))) }
+        ensures within { IfSome result (λ next. fused_in next < length left.now) }
+    {
+        let [first, second, later @ ..] = left else {
+            return None;
+        };
+        let number = u64::from(inputs.len()) + earlier.len() as u64;
+        let operand = Operand {
+            step: first,
+            number,
+        };
+        let in_any_order = is_read_in_any_order(first.expr(), inputs, earlier);
+        let Some(schedule) = Schedule::of_fused(operand, in_any_order, second, grain) else {
+            return None;
+        };
+        if number >= NUMBERS || are_reading(later, number as u32) {
+            return None;
+        }
+        Some(Next::Fused(number as u32, first, second, schedule))
+    }
+
+    /// The third of these steps, with the first two fused into it.
+    fn with_both_fused(
+        left: &'a [Step],
+        inputs: &Inputs,
+        earlier: &[Tensor],
+        grain: Grain,
+    ) -> Option<Next<'a>>
+        ensures next { IfSome result
+            (IsNextOf left.now (length (inputs.now.tensors ++ earlier.now))) }
+        ensures within { IfSome result (λ next. fused_in next < length left.now) }
+    {
+        let [first, second, third, later @ ..] = left else {
+            return None;
+        };
+        let number = u64::from(inputs.len()) + earlier.len() as u64;
+        let operand = Operand {
+            step: first,
+            number,
+        };
+        let Some(schedule) = Schedule::of_both_fused(operand, second, third, grain) else {
+            return None;
+        };
+        if number + 1 >= NUMBERS || are_read_elsewhere(number as u32, second, later) {
+            return None;
+        }
+        Some(Next::BothFused(number as u32, first, second, third, schedule))
+    }
+
+    /// How many steps are fused into it.
+    pub(crate) fn fused(&self) -> usize
+        ensures { result ≡ fused_in self.now }
+    {
+        match self {
+            Next::Alone(_, _) => 0,
+            Next::Fused(_, _, _, _) => 1,
+            Next::BothFused(_, _, _, _, _) => 2,
+        }
+    }
+}

@@ -1,0 +1,44 @@
+//! Which steps read a tensor.
+
+ghost use Rattle.std.specs.Prelude.{◌≡◌, ◌+◌, ◌<◌, ◌^◌, false};
+ghost use Rattle.tensor_ops.specs.Tree.{term_of};
+ghost use Rattle.tensor_reduce.specs.Plan.{term_of_step};
+ghost use Rattle.tensor_reduce.specs.Readers.{reads, are_reading};
+
+use crate::step::Step;
+use tensor_ops::{Expr, Node};
+
+/// Whether one of these steps reads the tensor of a number.
+pub(crate) fn are_reading(steps: &[Step], number: u32) -> bool
+    ensures { result ≡ are_reading number steps.now }
+{
+    for step in steps {
+        if reads(step.expr(), number) {
+            return true;
+        }
+    }
+    false
+}
+
+/// Whether the second of two operands reads the first, whose number is given, or one of the later
+/// steps reads one of both.
+pub(crate) fn are_read_elsewhere(number: u32, second: &Step, later: &[Step]) -> bool
+    requires { number + 1 < 2 ^ 32 }
+    ensures second { result ≡ false → reads number (term_of_step second.now) ≡ false }
+    ensures first_later { result ≡ false → are_reading number later.now ≡ false }
+    ensures second_later { result ≡ false → are_reading (number + 1) later.now ≡ false }
+{
+    reads(second.expr(), number) || are_reading(later, number) || are_reading(later, number + 1)
+}
+
+/// Whether an expression reads the tensor of a number.
+pub(crate) fn reads(expr: &Expr, number: u32) -> bool
+    ensures { result ≡ reads number (term_of expr.now) }
+{
+    match expr.node() {
+        Node::Input(other) => other == number,
+        Node::Unary(_, a) => reads(a, number),
+        Node::Binary(_, a, b) => reads(a, number) || reads(b, number),
+        Node::Ternary(_, a, b, c) => reads(a, number) || (reads(b, number) || reads(c, number)),
+    }
+}

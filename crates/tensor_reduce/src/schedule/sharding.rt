@@ -1,0 +1,73 @@
+//! How the values of a step are divided into shards, and of which expressions that can be done.
+
+ghost use Rattle.std.specs.Prelude.{◌<◌, IsTrue};
+ghost use Rattle.tensor_ops.specs.Parts.{has_parts};
+ghost use Rattle.tensor_ops.specs.Tree.{term_of};
+
+use crate::schedule::grain::Grain;
+use tensor_ops::{Binary, Expr, MAX_ELEMENTS, Node, Unary};
+
+/// How many values a step has at most whose every value is divided into shards of a block.
+pub(crate) const FEW_VALUES: u64 = 64;
+
+/// How the values of a step are divided into shards.
+#[derive(Clone, Copy, Drop)]
+pub(crate) struct Sharding {
+    /// How many index lists a shard has, where there are not too many shards.
+    pub(crate) width: u64,
+    /// How many shards are worked out at a time.
+    pub(crate) leaf: u64,
+    ghost some: { 0 < leaf },
+}
+
+impl Sharding {
+    /// Shards of a block of index lists, each a leaf of its own.
+    pub(crate) fn by_blocks(grain: Grain) -> Sharding {
+        Sharding {
+            width: grain.block,
+            leaf: 1,
+        }
+    }
+
+    /// A shard for each value, so many of them a leaf.
+    pub(crate) fn by_values(leaf: u64) -> Sharding
+        requires { 0 < leaf }
+    {
+        Sharding {
+            width: MAX_ELEMENTS,
+            leaf,
+        }
+    }
+}
+
+/// Whether an expression is a reduction or a contraction, and what is combined into one of its
+/// values lies side by side: it drops or pairs the first axes.
+pub(crate) fn has_contiguous_parts(expr: &Expr) -> bool
+    ensures { IsTrue result → IsTrue (has_parts (term_of expr.now)) }
+{
+    match expr.node() {
+        Node::Unary(Unary::Reduce(_, axes), _) => are_first(axes),
+        Node::Binary(Binary::Contract(pairs), _, _) => are_first_pairs(pairs),
+        _ => false,
+    }
+}
+
+/// Whether axes, each of them named once, are the first.
+pub(crate) fn are_first(axes: &[u64]) -> bool {
+    for axis in axes {
+        if *axis >= axes.len() as u64 {
+            return false;
+        }
+    }
+    true
+}
+
+/// Whether pairs are the first axes of both, in order.
+fn are_first_pairs(pairs: &[(u64, u64)]) -> bool {
+    for axis in 0..pairs.len() {
+        if pairs[axis] != (axis as u64, axis as u64) {
+            return false;
+        }
+    }
+    true
+}
