@@ -7,6 +7,7 @@ pub mod Lists
 pub mod Members
 pub mod Numbers
 pub mod Operations
+pub mod SameDims
 pub mod Tokens
 pub mod Trees
 pub mod Walk

@@ -2,8 +2,8 @@
 use Rattle.std.specs.Prelude.{ℕ, ℤ, Bool, true, false, List, [], ◌∷◌, Option, Some, None}
 use Rattle.serde_json.specs.Data.{Data, Members}
 use Rattle.tensor_ops.specs.Contents.{Contents}
-use Rattle.expr_reader.specs.Frame.{framed_tensor, framed_tensors, framed_in}
-use Rattle.expr_reader.specs.Tensors.{Named, tensor_in, tensors_in, named_by}
+use Rattle.expr_reader.specs.Frame.{framed_tensor, framed_tensors}
+use Rattle.expr_reader.specs.Tensors.{tensor_in, tensors_in, named_by}
 use Rattle.expr_reader.specs.Request.{Naming}
 use Rattle.expr_reader.specs.declared.values.Values.{Values}
 use Rattle.expr_reader.specs.declared.values.Values.TheVariants.{InText, Behind}

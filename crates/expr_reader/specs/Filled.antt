@@ -17,7 +17,8 @@ numbers_of (v ∷ vs) = item (number (of_integer v)) (numbers_of vs)
 -- an object of these values and dims
 abbrev pub tensor_of : Data → List ℤ → Data
 tensor_of dims values =
-    object (member (codes "data") (array (numbers_of values)) (member (codes "dims") dims no_members))
+    object
+    (member (codes "data") (array (numbers_of values)) (member (codes "dims") dims no_members))
 
 -- the object of exactly these dims, with the first of the values, where there are as many as the
 -- dims have places; and how many those are

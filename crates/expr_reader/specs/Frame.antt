@@ -35,7 +35,7 @@ abbrev pub none_left : List ℤ → Option (List Contents)
 none_left [] = Some []
 none_left (v ∷ vs) = None
 
--- the tensor of each member, in the members' order: the values that it leaves are of those behind it
+-- the tensor of each member, in the members' order; those behind it have the values that it leaves
 abbrev pub framed_tensors : ℕ → List ℤ → Members → Option (List Contents)
 framed_tensors rank values no_members = none_left values
 framed_tensors rank values (member name d ms) =

@@ -7,6 +7,7 @@ pub use Rattle.tensor_ops.specs.Term
 pub use Rattle.tensor_ops.specs.Tree
 pub use Rattle.tensor_ops.specs.Result
 pub use Rattle.tensor_ops.specs.Value
+pub mod Alike
 pub mod Arguments
 pub mod Asked
 pub mod Faults

@@ -1,11 +1,12 @@
 //! What a frame has to do with a text.
 
-ghost use Rattle.std.specs.Prelude.{◌≡◌, List, ℤ, Some, None, FitsSigned};
+ghost use Rattle.std.specs.Prelude.{◌≡◌, ℕ, ℤ, List, length, Some, None, FitsSigned};
 ghost use Rattle.std.specs.Int.{w64};
 ghost use Rattle.std.specs.List.{All};
 ghost use Rattle.serde_json.specs.Data.{Data};
+ghost use Rattle.expr_reader.specs.Alike.{AskAlike};
 ghost use Rattle.expr_reader.specs.Filled.{filled_text};
-ghost use Rattle.expr_reader.specs.Frame.{framed_in};
+ghost use Rattle.expr_reader.specs.Frame.{framed_in, request_of_frame};
 ghost use Rattle.expr_reader.specs.Request.{data_asked};
 ghost use Rattle.expr_reader.specs.Tensors.{named_in};
 
@@ -18,9 +19,16 @@ pub fn frames_mean_texts()
 {}
 
 /// Where there is no such text, since the header isn't a request's or the values are more or fewer
-/// than its tensors have places, the frame has the fault of a header whose inputs are no tensors, or
-/// one that comes before it.
+/// than its tensors have places, the frame has the fault of a header whose inputs are no tensors,
+/// or one that comes before it.
 pub fn unfilled_headers_have_faults()
     ensures { (header : Data) (values : List ℤ) → filled_text values header ≡ None
         → data_asked (framed_in values) header ≡ data_asked (λ rank inputs. None) header }
+{}
+
+/// The values of a frame decide nothing but the values of its inputs: with others, of the same
+/// number, its fault is the same, or its expression and the dims of its inputs.
+pub fn frames_ask_alike()
+    ensures { (header : List ℕ) (values others : List ℤ) → length values ≡ length others
+        → AskAlike (request_of_frame header values) (request_of_frame header others) }
 {}

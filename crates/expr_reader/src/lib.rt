@@ -18,7 +18,7 @@ mod values;
 mod version;
 
 pub use fault::Fault;
-pub use laws::{frames_mean_texts, unfilled_headers_have_faults};
+pub use laws::{frames_ask_alike, frames_mean_texts, unfilled_headers_have_faults};
 pub use request::Request;
 pub use tensor_ops::{Dims, Expr, Inputs, Tensor};
 pub use text::{read_frame, read_request};

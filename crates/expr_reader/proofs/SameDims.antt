@@ -1,0 +1,238 @@
+-- What a frame asks for goes by its header and the number of its values, but for its inputs' values.
+use Rattle.std.proofs.Common.{◌≡◌, ℕ, ℤ, zero, suc, ◌+◌, ◌-◌, min, List, [], ◌∷◌, length, Bool, true, false, ◌==◌}
+use Rattle.std.proofs.Common.{Option, Some, None, ok_or, option_map, option_and_then, take, drop, Result, Ok, Err}
+use Rattle.std.proofs.Common.{refl, ap, sym, ◌∙◌, if◌then◌else◌, leb, arith}
+use Rattle.std.proofs.lemmas.List.{length-take, length-drop}
+use Rattle.std.specs.Option.{option_map_or}
+use Rattle.std.specs.Prelude.{⊤, nat_lt, ◌||◌}
+use Rattle.std.specs.Result.{result_map_both}
+use Rattle.serde_json.specs.Data.{Data, null, boolean, number, string, array, object, Items}
+use Rattle.serde_json.specs.Data.{no_items, item, Members, no_members, member}
+use Rattle.serde_json.specs.Events.{items_len}
+use Rattle.serde_json.specs.Find.{as_object}
+use Rattle.tensor_ops.specs.Contents.{Contents}
+use Rattle.tensor_ops.specs.Index.{size_of}
+use Rattle.tensor_ops.specs.Result.{unary_dims, binary_dims, ternary_dims, dims_of}
+use Rattle.tensor_ops.specs.Shaped.{with_one, with_two, with_three}
+use Rattle.tensor_ops.specs.Term.{Term, input, unary, binary, ternary}
+use Rattle.expr_reader.specs.Arguments.{Form, Arguments, arguments_in}
+use Rattle.expr_reader.specs.Faults.{text_fault}
+use Rattle.expr_reader.specs.Fields.{Fields, fields_of, reading, within}
+use Rattle.expr_reader.specs.Frame.{dims_alone, dealt, none_left, framed_tensors, framed_in, request_of_frame}
+use Rattle.expr_reader.specs.Limits.{greatest_block, most_bytes, most_values}
+use Rattle.expr_reader.specs.Node.{Tree, within_limit, operation_at, checked, made, node_at, applied, tree_at}
+use Rattle.expr_reader.specs.Profile.{Profile}
+use Rattle.expr_reader.specs.Request.{Asked, profile_in, tree_asked, inputs_asked, block_asked, workers_asked}
+use Rattle.expr_reader.specs.Request.{fields_asked, data_asked, bytes_asked}
+use Rattle.expr_reader.specs.Steps.{and_then}
+use Rattle.expr_reader.specs.Table.{Operation, one, two, three, arity_of}
+use Rattle.expr_reader.specs.Tensors.{Named, dims_in, names_in, given}
+use Rattle.expr_reader.specs.declared.fault.Fault.{Fault}
+use Rattle.expr_reader.specs.declared.fault.Fault.TheVariants.{NotJson, BadField, BadVersion, BadWorkers, BadBlock, BadTensor, BadArgument, UnknownOp, BadArity, TooLong}
+use Rattle.expr_reader.specs.Alike.{HaveSameDims, AskAlike}
+
+module _ (ts us : List Contents) (same : HaveSameDims ts us) (rank : ℕ) where
+  -- the dims of a term over them
+  pub dims_of-same : (t : Term) → dims_of rank t ts ≡ dims_of rank t us
+  dims_of-same (input n) = ap Ok (same n)
+  dims_of-same (unary o a) = ap (with_one (unary_dims rank o)) (dims_of-same a)
+  dims_of-same (binary o a b) =
+      ap (λ d. with_two (binary_dims rank o) d (dims_of rank b ts)) (dims_of-same a)
+      ∙ ap (λ e. with_two (binary_dims rank o) (dims_of rank a us) e) (dims_of-same b)
+  dims_of-same (ternary o a b c) =
+      ap (λ d. with_three (ternary_dims o) d (dims_of rank b ts) (dims_of rank c ts)) (dims_of-same a)
+      ∙ ap (λ e. with_three (ternary_dims o) (dims_of rank a us) e (dims_of rank c ts)) (dims_of-same b)
+      ∙ ap (λ f. with_three (ternary_dims o) (dims_of rank a us) (dims_of rank b us) f) (dims_of-same c)
+
+and_then-same : {A B : Type 0} (found other : Result A Fault) (f g : A → Result B Fault) → found ≡ other
+    → ((x : A) → f x ≡ g x) → and_then found f ≡ and_then other g
+and_then-same {A = A} {B = B} found other f g is same = ap (λ r. and_then r f) is ∙ by_case other
+  where
+    by_case : (r : Result A Fault) → and_then r f ≡ and_then r g
+    by_case (Ok x) = same x
+    by_case (Err fault) = refl
+
+-- a tree over names of tensors of the same dims
+module _ (profile : Profile) (names : List (List ℕ)) (ts us : List Contents) (same : HaveSameDims ts us) where
+  abbrev first : Named
+  first = record { names = names; tensors = ts }
+
+  abbrev second : Named
+  second = record { names = names; tensors = us }
+
+  made-same : (fs : List Form) (items : Items) (make : Arguments fs → Term) (end : ℕ)
+      → made (given profile.rank first) fs items make end ≡ made (given profile.rank second) fs items make end
+  made-same fs items make end =
+      and_then-same (ok_or (arguments_in fs items) BadArgument) (ok_or (arguments_in fs items) BadArgument)
+      (λ a. checked (given profile.rank first) (make a) end) (λ a. checked (given profile.rank second) (make a) end) refl
+      (λ a. ap (result_map_both (λ dims. record { term = make a; end = end }) text_fault) (dims_of-same ts us same profile.rank (make a)))
+
+  option_map_or-same : (f g : Operation → Result Tree Fault) → ((o : Operation) → f o ≡ g o) → (o : Option Operation)
+      → option_map_or f o (Err UnknownOp) ≡ option_map_or g o (Err UnknownOp)
+  option_map_or-same f g alike None = refl
+  option_map_or-same f g alike (Some o) = alike o
+
+  mutual
+    node_at-same : (n : ℕ) (d : Data) → node_at profile first n d ≡ node_at profile second n d
+    node_at-same n null = refl
+    node_at-same n (boolean b) = refl
+    node_at-same n (number x) = refl
+    node_at-same n (object ms) = refl
+    node_at-same n (string name) = refl
+    node_at-same n (array no_items) = refl
+    node_at-same n (array (item head rest)) =
+        option_map_or-same (λ o. if items_len rest == arity_of o then applied profile first n o rest else Err BadArity)
+        (λ o. if items_len rest == arity_of o then applied profile second n o rest else Err BadArity)
+        (λ o. ap (λ r. if items_len rest == arity_of o then r else Err BadArity) (applied-same n o rest)) (operation_at profile head)
+
+    applied-same : (n : ℕ) (o : Operation) (rest : Items) → applied profile first n o rest ≡ applied profile second n o rest
+    applied-same n (one forms make) no_items = refl
+    applied-same n (one forms make) (item a rest) =
+        and_then-same (tree_at profile first (n + 1) a) (tree_at profile second (n + 1) a) _ _
+        (ap (within_limit (n + 1)) (node_at-same (n + 1) a))
+        (λ x. made-same forms rest (λ args. unary (make args) x.term) x.end)
+    applied-same n (two forms make) no_items = refl
+    applied-same n (two forms make) (item a no_items) = refl
+    applied-same n (two forms make) (item a (item b rest)) =
+        and_then-same (tree_at profile first (n + 1) a) (tree_at profile second (n + 1) a) _ _
+        (ap (within_limit (n + 1)) (node_at-same (n + 1) a))
+        (λ x. and_then-same (tree_at profile first x.end b) (tree_at profile second x.end b) _ _
+        (ap (within_limit x.end) (node_at-same x.end b))
+        (λ y. made-same forms rest (λ args. binary (make args) x.term y.term) y.end))
+    applied-same n (three forms make) no_items = refl
+    applied-same n (three forms make) (item a no_items) = refl
+    applied-same n (three forms make) (item a (item b no_items)) = refl
+    applied-same n (three forms make) (item a (item b (item c rest))) =
+        and_then-same (tree_at profile first (n + 1) a) (tree_at profile second (n + 1) a) _ _
+        (ap (within_limit (n + 1)) (node_at-same (n + 1) a))
+        (λ x. and_then-same (tree_at profile first x.end b) (tree_at profile second x.end b) _ _
+        (ap (within_limit x.end) (node_at-same x.end b))
+        (λ y. and_then-same (tree_at profile first y.end c) (tree_at profile second y.end c) _ _
+        (ap (within_limit y.end) (node_at-same y.end c))
+        (λ z. made-same forms rest (λ args. ternary (make args) x.term y.term z.term) z.end)))
+
+  tree_at-same : (n : ℕ) (d : Data) → tree_at profile first n d ≡ tree_at profile second n d
+  tree_at-same n d = ap (within_limit n) (node_at-same n d)
+
+-- tensors that are read of the same members, and as many values
+abbrev AreAlike : Option (List Contents) → Option (List Contents) → Type 0
+AreAlike None None = ⊤
+AreAlike None (Some us) = ⊥
+AreAlike (Some ts) None = ⊥
+AreAlike (Some ts) (Some us) = HaveSameDims ts us
+
+HaveSameDims-cons : (t u : Contents) (ts us : List Contents) → t.dims ≡ u.dims → HaveSameDims ts us → HaveSameDims (t ∷ ts) (u ∷ us)
+HaveSameDims-cons t u ts us head rest zero = head
+HaveSameDims-cons t u ts us head rest (suc n) = rest n
+
+AreAlike-cons : (t u : Contents) → t.dims ≡ u.dims → (ts us : Option (List Contents)) → AreAlike ts us
+    → AreAlike (option_map (λ ts. t ∷ ts) ts) (option_map (λ us. u ∷ us) us)
+AreAlike-cons t u head None None alike = tt
+AreAlike-cons t u head None (Some us) alike = absurd alike
+AreAlike-cons t u head (Some ts) None alike = absurd alike
+AreAlike-cons t u head (Some ts) (Some us) alike = HaveSameDims-cons t u ts us head alike
+
+module _ (rank : ℕ) where
+  AreAlike-none_left : (vs ws : List ℤ) → length vs ≡ length ws → AreAlike (none_left vs) (none_left ws)
+  AreAlike-none_left [] [] long = λ n. refl
+  AreAlike-none_left [] (w ∷ ws) long = absurd (omega arith)
+  AreAlike-none_left (v ∷ vs) [] long = absurd (omega arith)
+  AreAlike-none_left (v ∷ vs) (w ∷ ws) long = tt
+
+  AreAlike-framed_tensors : (ms : Members) (vs ws : List ℤ) → length vs ≡ length ws
+      → AreAlike (framed_tensors rank vs ms) (framed_tensors rank ws ms)
+  AreAlike-framed_tensors no_members vs ws long = AreAlike-none_left vs ws long
+  AreAlike-framed_tensors (member name d ms) vs ws long = by_dims (AreAlike-framed_tensors ms) (dims_alone d)
+    where
+      AllAlike : Type 0
+      AllAlike = (xs ys : List ℤ) → length xs ≡ length ys → AreAlike (framed_tensors rank xs ms) (framed_tensors rank ys ms)
+
+      behind : List ℤ → Contents → Option (List Contents)
+      behind values t = option_map (λ ts. t ∷ ts) (framed_tensors rank (drop (length t.values) values) ms)
+
+      by_room : AllAlike → (sizes : List ℕ) (has_room : Bool)
+          → AreAlike (option_and_then (behind vs) (if has_room then Some (record { dims = sizes; values = take (size_of sizes) vs }) else None))
+          (option_and_then (behind ws) (if has_room then Some (record { dims = sizes; values = take (size_of sizes) ws }) else None))
+      by_room alike sizes false = tt
+      by_room alike sizes true =
+          let first : ℕ = length (take (size_of sizes) vs) in
+          let second : ℕ = length (take (size_of sizes) ws) in
+          let taken : first ≡ second =
+          length-take (size_of sizes) vs ∙ ap (min (size_of sizes)) long ∙ sym (length-take (size_of sizes) ws) in
+          let left : length (drop first vs) ≡ length (drop second ws) =
+          length-drop first vs ∙ ap (λ n. n - first) long ∙ ap (λ k. length ws - k) taken ∙ sym (length-drop second ws) in
+          AreAlike-cons (record { dims = sizes; values = take (size_of sizes) vs }) (record { dims = sizes; values = take (size_of sizes) ws }) refl
+          (framed_tensors rank (drop first vs) ms) (framed_tensors rank (drop second ws) ms)
+          (alike (drop first vs) (drop second ws) left)
+
+      by_sizes : AllAlike → (sizes : Option (List ℕ))
+          → AreAlike (option_and_then (behind vs) (option_and_then (dealt vs) sizes)) (option_and_then (behind ws) (option_and_then (dealt ws) sizes))
+      by_sizes alike None = tt
+      by_sizes alike (Some sizes) = rw long (by_room alike sizes (leb (size_of sizes) (length ws)))
+
+      by_dims : AllAlike → (dims : Option Data)
+          → AreAlike (option_and_then (behind vs) (option_and_then (λ dims. option_and_then (dealt vs) (dims_in rank dims)) dims))
+          (option_and_then (behind ws) (option_and_then (λ dims. option_and_then (dealt ws) (dims_in rank dims)) dims))
+      by_dims alike None = tt
+      by_dims alike (Some dims) = by_sizes alike (dims_in rank dims)
+
+-- a fault, or what is asked alike where something was found
+AskAlike-and_then : {A : Type 0} (found : Result A Fault) (f g : A → Result Asked Fault) → ((x : A) → AskAlike (f x) (g x))
+    → AskAlike (and_then found f) (and_then found g)
+AskAlike-and_then (Ok x) f g alike = alike x
+AskAlike-and_then (Err fault) f g alike = refl
+
+module _ (f : Fields) (profile : Profile) (workers block : ℕ) (names : List (List ℕ)) where
+  AskAlike-tree_asked : (ts us : List Contents) → HaveSameDims ts us
+      → AskAlike (tree_asked f profile workers block (record { names = names; tensors = ts }))
+      (tree_asked f profile workers block (record { names = names; tensors = us }))
+  AskAlike-tree_asked ts us same =
+      rw (tree_at-same profile names ts us same 0 f.expr)
+      (AskAlike-and_then (tree_at profile (record { names = names; tensors = us }) 0 f.expr) _ _
+      (λ tree. record { workers = refl; block = refl; rank = refl; term = refl; inputs = same }))
+
+  AskAlike-named : (ts us : Option (List Contents)) → AreAlike ts us
+      → AskAlike (and_then (ok_or (option_map (λ ts. record { names = names; tensors = ts }) ts) BadTensor) (tree_asked f profile workers block))
+      (and_then (ok_or (option_map (λ us. record { names = names; tensors = us }) us) BadTensor) (tree_asked f profile workers block))
+  AskAlike-named None None alike = refl
+  AskAlike-named None (Some us) alike = absurd alike
+  AskAlike-named (Some ts) None alike = absurd alike
+  AskAlike-named (Some ts) (Some us) alike = AskAlike-tree_asked ts us alike
+
+module _ (vs ws : List ℤ) (long : length vs ≡ length ws) where
+  AskAlike-inputs : (f : Fields) (profile : Profile) (workers block : ℕ)
+      → AskAlike (inputs_asked (framed_in vs) f profile workers block) (inputs_asked (framed_in ws) f profile workers block)
+  AskAlike-inputs f profile workers block = by_members (as_object f.inputs)
+    where
+      named : List ℤ → Option Members → Option Named
+      named values ms =
+          option_and_then (λ ms. option_map (λ ts. record { names = names_in ms; tensors = ts }) (framed_tensors profile.rank values ms)) ms
+
+      by_members : (ms : Option Members)
+          → AskAlike (and_then (ok_or (named vs ms) BadTensor) (tree_asked f profile workers block))
+          (and_then (ok_or (named ws ms) BadTensor) (tree_asked f profile workers block))
+      by_members None = refl
+      by_members (Some ms) =
+          AskAlike-named f profile workers block (names_in ms) (framed_tensors profile.rank vs ms) (framed_tensors profile.rank ws ms)
+          (AreAlike-framed_tensors profile.rank ms vs ws long)
+
+  AskAlike-fields : (f : Fields) → AskAlike (fields_asked (framed_in vs) f) (fields_asked (framed_in ws) f)
+  AskAlike-fields f =
+      AskAlike-and_then (ok_or (profile_in f) BadVersion) (workers_asked (framed_in vs) f) (workers_asked (framed_in ws) f)
+      (λ p. AskAlike-and_then (ok_or (within 1 p.workers f.workers) BadWorkers) (block_asked (framed_in vs) f p) (block_asked (framed_in ws) f p)
+      (λ workers. AskAlike-and_then (ok_or (within 1 greatest_block f.block) BadBlock)
+      (inputs_asked (framed_in vs) f p workers) (inputs_asked (framed_in ws) f p workers)
+      (λ block. AskAlike-inputs f p workers block)))
+
+  AskAlike-bytes : (header : List ℕ) → AskAlike (bytes_asked (framed_in vs) header) (bytes_asked (framed_in ws) header)
+  AskAlike-bytes header =
+      AskAlike-and_then (ok_or (reading header) NotJson) (data_asked (framed_in vs)) (data_asked (framed_in ws))
+      (λ d. AskAlike-and_then (ok_or (fields_of d) BadField) (fields_asked (framed_in vs)) (fields_asked (framed_in ws)) AskAlike-fields)
+
+  pub AskAlike-frame : (header : List ℕ) → AskAlike (request_of_frame header vs) (request_of_frame header ws)
+  AskAlike-frame header = rw long (by_length (nat_lt most_bytes (length header) || nat_lt most_values (length ws)))
+    where
+      by_length : (is_long : Bool)
+          → AskAlike (if is_long then Err TooLong else bytes_asked (framed_in vs) header) (if is_long then Err TooLong else bytes_asked (framed_in ws) header)
+      by_length true = refl
+      by_length false = AskAlike-bytes header

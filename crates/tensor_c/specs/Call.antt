@@ -1,0 +1,81 @@
+-- What a call returns, and what it leaves in the lists that its caller lends it.
+use Rattle.std.specs.Prelude.{◌≡◌, ◌⊎◌, ℕ, ℤ, pos, neg_ℤ, ◌&&◌, ◌++◌, Bool, List, [], ◌∷◌}
+use Rattle.std.specs.Prelude.{length, drop, nat_le, nat_lt, Result, Ok, Err, if◌then◌else◌}
+use Rattle.expr_reader.specs.Contents.{Contents}
+use Rattle.expr_reader.specs.Faults.{fault_number}
+use Rattle.expr_reader.specs.Index.{size_of}
+use Rattle.expr_reader.specs.declared.fault.Fault.{Fault}
+use Rattle.expr_reader.specs.declared.fault.Fault.TheVariants.{NoMemory}
+
+-- what is returned for a fault: its number, negated
+abbrev pub fault_result : Fault → ℤ
+fault_result f = neg_ℤ (pos (fault_number f))
+
+-- what is returned where a list has too little room
+abbrev pub no_room : ℤ
+no_room = neg_ℤ (pos 100)
+
+-- a list with other elements at its beginning; those behind them stay
+abbrev pub begun : {A : Type 0} → List A → List A → List A
+begun first xs = first ++ drop (length first) xs
+
+-- the rank, and then the dims
+abbrev pub ranked : List ℕ → List ℕ
+ranked sizes = length sizes ∷ sizes
+
+-- what a call returns, and how the two lists stand then
+pub record Called : Type 0 where
+  pub result : ℤ
+  pub out : List ℤ
+  pub dims : List ℕ
+
+-- whether the values, and the rank and the dims, have room
+abbrev pub has_room : Contents → List ℤ → List ℕ → Bool
+has_room t out dims =
+    nat_le (length t.values) (length out) && nat_le (length (ranked t.dims)) (length dims)
+
+-- a tensor is written where it has room, and its number of values returned; of a fault nothing is
+-- written
+abbrev pub called : Result Contents Fault → List ℤ → List ℕ → Called
+called (Ok t) out dims =
+    if has_room t out dims
+    then record {
+      result = pos (length t.values);
+      out = begun t.values out;
+      dims = begun (ranked t.dims) dims;
+    }
+    else record { result = no_room; out = out; dims = dims }
+called (Err f) out dims = record { result = fault_result f; out = out; dims = dims }
+
+-- what a call does is what the answer says, or it finds no memory
+abbrev pub IsCall : Result Contents Fault → List ℤ → List ℕ → Called → Type 0
+IsCall answer out dims call =
+    (call ≡ called answer out dims) ⊎ (call ≡ called (Err NoMemory) out dims)
+
+-- the same where dims alone are asked for, whose size is returned
+pub record CalledForDims : Type 0 where
+  pub result : ℤ
+  pub dims : List ℕ
+
+abbrev pub called_for_dims : Result (List ℕ) Fault → List ℕ → CalledForDims
+called_for_dims (Ok sizes) dims =
+    if nat_le (length (ranked sizes)) (length dims)
+    then record { result = pos (size_of sizes); dims = begun (ranked sizes) dims }
+    else record { result = no_room; dims = dims }
+called_for_dims (Err f) dims = record { result = fault_result f; dims = dims }
+
+abbrev pub IsDimsCall : Result (List ℕ) Fault → List ℕ → CalledForDims → Type 0
+IsDimsCall answer dims call =
+    (call ≡ called_for_dims answer dims) ⊎ (call ≡ called_for_dims (Err NoMemory) dims)
+
+-- the same where a name is asked for, whose length is returned; it is written with a 0 behind it, as
+-- C ends a text
+pub record CalledForName : Type 0 where
+  pub result : ℤ
+  pub name : List ℕ
+
+abbrev pub called_for_name : List ℕ → List ℕ → CalledForName
+called_for_name text name =
+    if nat_lt (length text) (length name)
+    then record { result = pos (length text); name = begun (text ++ 0 ∷ []) name }
+    else record { result = no_room; name = name }
