@@ -1,13 +1,14 @@
-"""Tests of the client on random arrays: each operation and each of numpy's ways, by the program and
-by numpy. They are skipped where numpy isn't installed."""
+"""Tests of the client on random arrays: each operation and each of numpy's ways, in each way to ask
+and by numpy. They are skipped where numpy isn't installed."""
 
 import random
 import unittest
 
 import tensor_client as client
-from tensor_client.rules import slid
 from tensor_client import GREATEST, LEAST, concat, contract, full, tensor, where
-from test_asked import documented, method, run
+from tensor_client.rules import slid
+from asking import OneWay, each_way
+from test_asked import documented, method
 
 try:
     import numpy
@@ -103,11 +104,11 @@ class Random:
 
 
 @unittest.skipIf(numpy is None, "numpy isn't installed")
-class AgainstNumpy(unittest.TestCase):
-    """Each operation on random arrays, by the program and by numpy."""
+class AgainstNumpy(OneWay):
+    """Each operation on random arrays, and by numpy."""
 
     def agree(self, expr, wanted, source):
-        found = run(expr, **source.request())
+        found = self.ask(expr, **source.request())
         self.assertEqual(found.dims, expr.dims)
         self.assertEqual(found.dims, wanted.shape)
         numpy.testing.assert_array_equal(found.array(), wanted.astype(numpy.int64))
@@ -240,33 +241,15 @@ class AgainstNumpy(unittest.TestCase):
             (where(tensor(left) < right, left, -1), numpy.where(left < right, left, -1)),
             (abs(-tensor(left).sum(0)) * 2, left.sum(0) * 2),
         ):
-            numpy.testing.assert_array_equal(run(expr).array(), wanted.astype(numpy.int64))
+            numpy.testing.assert_array_equal(self.ask(expr).array(), wanted.astype(numpy.int64))
 
     def test_arrays_in_and_out(self):
         array = numpy.arange(24, dtype=numpy.int16).reshape(2, 3, 4)
         for it in (array, numpy.asfortranarray(array), array[:, ::-1], array > 5):
-            numpy.testing.assert_array_equal(numpy.asarray(run(tensor(it))), it.astype(int))
+            found = numpy.asarray(self.ask(tensor(it)))
+            numpy.testing.assert_array_equal(found, it.astype(int))
         self.assertEqual(tensor(array).nested(), array.tolist())
         self.assertEqual(tensor(array.tolist()).values, tensor(array).values)
-
-    def test_arrays_that_are_refused(self):
-        masked = numpy.ma.masked_array([1, 2], mask=[False, True])
-        for array in (
-            masked,
-            numpy.matrix([[1]]),
-            numpy.array([1.0]),
-            numpy.float64(1),
-            numpy.array([1, 2], dtype=object),
-            numpy.array([1j]),
-            numpy.array(["1"]),
-        ):
-            self.assertRaises(TypeError, tensor, array)
-            self.assertRaises(TypeError, lambda it: tensor([1, 2]) + it, array)
-        self.assertRaises(OverflowError, tensor, numpy.array([2**63], dtype=numpy.uint64))
-
-    def test_an_expression_is_no_array(self):
-        with self.assertRaisesRegex(TypeError, r"run\(it\)"):
-            numpy.asarray(tensor([1, 2]) + 1)
 
     def test_broadcasting(self):
         for source in self.each_trial("broadcasting"):
@@ -357,6 +340,8 @@ class AgainstNumpy(unittest.TestCase):
             ):
                 self.agree(expr, wanted, source)
 
+
+each_way(globals(), AgainstNumpy)
 
 if __name__ == "__main__":
     unittest.main()

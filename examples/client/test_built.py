@@ -38,6 +38,12 @@ class Built(unittest.TestCase):
             self.assertRaises(ValueError, tensor, value)
         self.assertEqual(tensor([LEAST, GREATEST]).values, [LEAST, GREATEST])
         self.assertEqual(tensor([True, False]).values, [1, 0])
+        for values in (range(5), range(9, -9, -4), range(LEAST, 2**63, 2**62), range(0)):
+            self.assertEqual(tensor(values).values, list(values))
+        far = range(LEAST, 2**63, 2**64 - 1)
+        self.assertEqual(tensor(far).values, [LEAST, GREATEST])
+        for values in (range(2**63, 2**63 + 2), range(0, 2**64, 2**63)):
+            self.assertRaises(OverflowError, tensor, values)
         for values, dims in (([1, 2, 3], (2, 2)), ([1], [3]), ([], [])):
             self.assertRaises(client.BadTensor, tensor, values, dims)
 

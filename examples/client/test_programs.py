@@ -1,5 +1,4 @@
-"""Tests of the programs in programs/: each gives what its lines for numpy give, by a process a
-request and by a session."""
+"""Tests of the programs in programs/: each gives what its lines for numpy give, in each way."""
 
 import glob
 import importlib.util
@@ -8,7 +7,7 @@ import random
 import unittest
 
 import tensor_client
-from test_asked import LINES, ONE
+from asking import OneWay, each_way
 
 try:
     import numpy
@@ -33,8 +32,8 @@ class Source:
         return numpy.array(values, dtype=numpy.int64).reshape(count, rows, columns)
 
 
-class Ways:
-    """The client's functions, with `run` by a session or by a process a request."""
+class Client:
+    """The client's functions, with `run` in one of the ways."""
 
     def __init__(self, run):
         self.run = run
@@ -53,27 +52,27 @@ def programs():
 
 
 @unittest.skipIf(numpy is None, "numpy isn't installed")
-class Programs(unittest.TestCase):
-    def by(self, run):
+class Programs(OneWay):
+    """Each program on random arrays, and by numpy."""
+
+    def test_programs(self):
         for name, module in programs():
             for trial in range(TRIALS):
                 with self.subTest(program=name, trial=trial):
                     inputs = module.inputs(Source(f"{name} {trial}"))
-                    found = run(module.client(Ways(run), *inputs))
+                    found = self.ask(module.client(Client(self.ask), *inputs), workers=2)
                     wanted = module.numpy(numpy, *inputs)
                     numpy.testing.assert_array_equal(found.array(), wanted.astype(numpy.int64))
 
-    def test_a_process_a_request(self):
-        self.by(lambda expr: tensor_client.run(expr, program=ONE, workers=2))
 
-    @unittest.skipUnless(LINES, "the program of many requests isn't built")
-    def test_a_session(self):
-        with tensor_client.Session(program=LINES, workers=2) as session:
-            self.by(session.run)
+class Twelve(unittest.TestCase):
+    """The programs as files."""
 
     def test_there_are_twelve(self):
         self.assertEqual(len(list(programs())), 12)
 
+
+each_way(globals(), Programs)
 
 if __name__ == "__main__":
     unittest.main()

@@ -1,4 +1,5 @@
-"""A client of the program: builds tensor expressions, has them answered, and gives their values.
+"""Builds tensor expressions, has them answered, by the library in this process or by a program, and
+gives their values.
 
     from tensor_client import run, tensor, where
     x = tensor([[1, 2, 3], [4, 5, 6]])

@@ -2,12 +2,13 @@
 
 from __future__ import annotations
 
-from typing import Any, List, Optional, Sequence, Tuple, Union
+from typing import Any, List, Optional, Sequence, Union
 
 from . import rules
 from .rules import Dims, product
 from .faults import BadTensor
-from .values import numpy as numpy
+from .memory import Held, bytes_of, memory_of, memory_of_array, memory_of_range
+from .spreading import alike
 from .values import (
     LISTS,
     are_bools,
@@ -16,14 +17,14 @@ from .values import (
     flag,
     listed,
     nested,
+    numpy,
     unnested,
     value_of,
     whole,
 )
 from .ways import NumpyWays
 
-SHOWN = 8
-MANY = 1_000_000_000
+SHOWN, MANY = 8, 1_000_000_000
 
 
 class Expr(NumpyWays):
@@ -52,8 +53,11 @@ class Expr(NumpyWays):
     ) -> None:
         self.operation, self.operands, self.arguments = operation, list(operands), list(arguments)
         self.dims, self.truth = dims, truth
-        self.depth: int = 1 + max((it.depth for it in operands), default=0)
-        self.nodes: int = 1 + sum(it.nodes for it in operands)
+        depth, nodes = 0, 1
+        for it in self.operands:
+            depth, nodes = max(depth, it.depth), nodes + it.nodes
+        self.depth: int = 1 + depth
+        self.nodes: int = nodes
 
     def __repr__(self) -> str:
         dims = "dims not known" if self.dims is None else f"dims {self.dims}"
@@ -245,20 +249,38 @@ class Expr(NumpyWays):
 class Tensor(Expr):
     """Dims and values, column-major: an input of an expression, or what one was answered with.
 
+    The values are `held` as a list or in memory, which is `shared` where others may write into it.
+
     >>> tensor([[1, 2], [3, 4]]).values
     [1, 3, 2, 4]
     """
 
-    __slots__ = ("values",)
+    __slots__ = ("held", "shared", "listed")
 
-    def __init__(self, values: List[int], dims: Sequence[int], truth: bool = False) -> None:
-        super().__init__("tensor", [], dims=tuple(dims), truth=truth)
-        self.values = values
+    def __init__(
+        self, values: Held, dims: Sequence[int], truth: bool = False, shared: bool = False
+    ) -> None:
+        super().__init__("tensor", (), dims=tuple(dims), truth=truth)
+        self.held, self.shared = values, shared
+        self.listed: Optional[List[int]] = None
 
     def __repr__(self) -> str:
-        more = f" ({len(self.values):,})" if len(self.values) > SHOWN else ""
-        shown = " ".join(map(str, self.values[:SHOWN])) + (more and " ..")
+        more = f" ({len(self.held):,})" if len(self.held) > SHOWN else ""
+        shown = " ".join(map(str, self.held[:SHOWN])) + (more and " ..")
         return f"<tensor, dims {self.dims}, values {shown}{more}>"
+
+    def __reduce__(self) -> Any:
+        # A view of memory can't be pickled, and its bytes can.
+        return tensor_held, (bytes(bytes_of(self.held)), self.dims, self.truth)
+
+    @property
+    def values(self) -> List[int]:
+        """The values as a list, column-major."""
+        if isinstance(self.held, list):
+            return self.held
+        found = self.listed or self.held.tolist()
+        self.listed = None if self.shared else found
+        return found
 
     def nested(self) -> Any:
         """The values as nested lists, x[i][j] at the index list (i, j); of no dims, the number."""
@@ -268,30 +290,44 @@ class Tensor(Expr):
 
     def item(self) -> int:
         """The value of a tensor that has one."""
-        if len(self.values) != 1:
-            raise ValueError(f"{len(self.values)} values and not one")
-        return self.values[0]
+        if len(self.held) != 1:
+            raise ValueError(f"{len(self.held)} values and not one")
+        return self.held[0]
 
     __int__ = __index__ = item
 
     def __bool__(self) -> bool:
-        if len(self.values) != 1:
+        if len(self.held) != 1:
             raise TypeError("a tensor of other than one value is neither true nor false: all, any")
-        return self.values[0] != 0
+        return self.held[0] != 0
 
     def array(self) -> Any:
-        """The values as an array of numpy, x[i, j] at the index list (i, j)."""
+        """The values as an array of numpy, x[i, j] at the index list (i, j). It may be the tensor's
+        own memory, so that what is written into the array is written into the tensor."""
         if numpy is None:
             raise ImportError("numpy isn't installed: Tensor.nested() gives lists")
-        return numpy.array(self.values, dtype=numpy.int64).reshape(self.shape, order="F")
+        if isinstance(self.held, list) or self.truth:
+            flat = numpy.array(self.held, dtype=numpy.int64)
+        else:
+            self.shared, self.listed = True, None
+            flat = numpy.asarray(self.held).view(numpy.int64)
+        return flat.reshape(self.shape, order="F")
 
     def __array__(self, dtype: Any = None, copy: Any = None) -> Any:
-        return self.array() if dtype is None else self.array().astype(dtype)
+        return self.array().astype(dtype or numpy.int64, copy=bool(copy))
+
+
+def tensor_held(values: bytes, dims: Sequence[int], truth: bool) -> Tensor:
+    """The tensor of these bytes of values: what is unpickled."""
+    return Tensor(memory_of(values), dims, truth)
 
 
 def tensor(values: Any, dims: Optional[Sequence[int]] = None) -> Tensor:
     """A tensor of an array, of nested lists, or of a number; or, where dims are given, of a list
     of values that stands column-major.
+
+    An array of int64 that is column-major (order="F", or of one axis) isn't copied: the tensor, and
+    each expression with it, has the values that stand in the array when it is run.
 
     >>> tensor([1, 4, 2, 5, 3, 6], dims=(2, 3)).nested()
     [[1, 2, 3], [4, 5, 6]]
@@ -307,8 +343,10 @@ def tensor(values: Any, dims: Optional[Sequence[int]] = None) -> Tensor:
         raise TypeError("an expression has no values yet: run(it) gives its tensor")
     if numpy is not None and isinstance(values, (numpy.ndarray, numpy.generic)):
         array = checked_array(numpy.asanyarray(values))
-        rules.legal(array.shape)
-        return Tensor(array.ravel(order="F").tolist(), array.shape, values.dtype.kind == "b")
+        dims, is_truth = rules.legal(array.shape), array.dtype.kind == "b"
+        return Tensor(memory_of_array(array), dims, is_truth, shared=True)
+    if isinstance(values, range):
+        return Tensor(memory_of_range(values), rules.legal([len(values)]))
     lengths, level = unnested(values)
     return Tensor(checked(level), rules.legal(lengths), are_bools(level))
 
@@ -342,29 +380,6 @@ def beside(value: Any, expr: Expr) -> Expr:
     if expr.operands and expr.dims is not None:
         return full(expr.dims, value_of(value))
     return expr.constant(value)
-
-
-def spread(expr: Expr, dims: Dims) -> Expr:
-    """An expression, repeated over dims that it fits by numpy's rule."""
-    if expr.dims is None or expr.dims == dims:
-        return expr
-    own = (1,) * (len(dims) - len(expr.dims)) + expr.dims
-    wide = expr if own == expr.dims else expr.in_dims(own)
-    counts = [dim if have == 1 else 1 for have, dim in zip(own, dims)]
-    if 0 in counts:
-        # One place, repeated no times: none of it is taken.
-        wide = wide.slice([0] * len(dims), [min(it) for it in zip(own, dims)])
-        counts = [max(it, 1) for it in counts]
-    return wide if set(counts) <= {1} else wide.broadcast(counts)
-
-
-def alike(*exprs: Expr) -> List[Expr]:
-    """Expressions, each repeated over the dims that numpy's rule gives for all."""
-    shapes = [it.dims for it in exprs if it.dims is not None]
-    if len(shapes) < len(exprs):
-        return list(exprs)
-    dims = rules.fitted(*shapes)
-    return [spread(it, dims) for it in exprs]
 
 
 def elementwise(operation: str, left: Expr, right: Any, truth: bool = False) -> Expr:

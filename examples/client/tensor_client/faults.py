@@ -26,16 +26,21 @@ class Fault(Exception):
     number: int = 0
     name: str = ""
 
-    def __init__(self, why: str = "") -> None:
+    def __init__(self, why: str = "", place: str = "") -> None:
         super().__init__(why)
-        self.why = why
+        self.why, self.place = why, place
+
+    def tell(self, why: str, place: str = "") -> None:
+        """Says why, and where in the text of the request, as a pointer such as /expr/1."""
+        self.why, self.place = why, place
 
     def __str__(self) -> str:
-        return f"error {self.number} {self.name}" + (f": {self.why}" if self.why else "")
+        where = f" at {self.place}" if self.place else ""
+        return f"error {self.number} {self.name}{where}" + (f": {self.why}" if self.why else "")
 
     def __reduce__(self) -> Tuple[Any, ...]:
         # By number and name: the class of a fault that isn't known here can't be named.
-        return fault_made, (self.number, self.name, self.why)
+        return fault_made, (self.number, self.name, self.why, self.place)
 
 
 class TooLong(Fault):
@@ -109,9 +114,9 @@ class WriteFault(Fault):
 FAULTS: Dict[int, Type[Fault]] = {it.number: it for it in Fault.__subclasses__()}
 
 
-def fault_made(number: int, name: str, why: str = "") -> Fault:
+def fault_made(number: int, name: str, why: str = "", place: str = "") -> Fault:
     """The fault of this number: of its class, where that is known here."""
     known = FAULTS.get(number)
     if known is None or known.name != name:
         known = type(name, (Fault,), {"number": number, "name": name, "__module__": __name__})
-    return known(why)
+    return known(why, place)

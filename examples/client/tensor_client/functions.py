@@ -2,10 +2,10 @@
 
 from __future__ import annotations
 
-from typing import Any, Callable, Dict, List, Sequence, Tuple
+from typing import Any, Callable, List, Sequence, Tuple
 
 from . import rules
-from .expressions import Expr, alike, an_expr, full
+from .expressions import Expr, an_expr, full
 from .faults import ShapeMismatch
 from .values import whole
 from .ways import Axis

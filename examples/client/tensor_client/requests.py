@@ -1,27 +1,35 @@
-"""The text that asks for an expression, and the tensor of an answer's line."""
+"""The text or the frame that asks for an expression, and the tensor of an answer's line."""
 
 from __future__ import annotations
 
 import json
-from typing import Any, Dict, List, Optional, Tuple, Union
+from operator import itemgetter
+from typing import Any, Callable, Dict, Iterable, List, NamedTuple, Optional, Tuple, Union
 
 from .expressions import Expr, Tensor, an_expr
 from .faults import Fault, TooLong, fault_made
+from .memory import Bytes, bytes_of
 from .values import whole
 
-MAX_TEXT = 16_777_216
+# So many bytes a text or a frame's header may have, and so many values a frame.
+MAX_TEXT = MAX_VALUES = 16_777_216
 # What version 1 of the request allows; more is asked for by version 2.
 FIRST_RANK, FIRST_WORKERS = 6, 64
 # The version of a request that has an operation, where that isn't 1.
 VERSIONS = dict.fromkeys("stride pad concat convolve".split(), 2)
+LAST_VERSION = 2
 # So many arrays in one another a text may have, its own object and an argument's two left out.
 DEEPEST = 120
 # Operations whose chains may be grouped in any way: modulo 2**64 the values are the same.
 GROUPED = frozenset("add mul cwise_max cwise_min and or".split())
 
 
-def compact(value: Any) -> str:
-    return json.dumps(value, separators=(",", ":"))
+# The text of a JSON value, without spaces.
+compact: Callable[[Any], str] = json.JSONEncoder(separators=(",", ":")).encode
+
+
+def commas(numbers: Iterable[int]) -> str:
+    return ",".join(map(str, numbers))
 
 
 def version_of(expr: Expr) -> int:
@@ -71,15 +79,45 @@ class Text:
 
     def begun(self, it: Expr, left: List[Union[Expr, str]]) -> str:
         """The text that an expression begins with; what stands behind that is put on the list."""
-        self.version = max(self.version, version_of(it))
+        if self.version < LAST_VERSION:
+            self.version = version_of(it)
         if isinstance(it, Tensor):
             return self.names.setdefault(id(it), (f'"x{len(self.names)}"', it))[0]
         if self.balance and it.operation in GROUPED and len(it.operands) == 2:
             it = balanced(it)
         left.append("".join("," + compact(more) for more in it.arguments) + "]")
         for operand in reversed(it.operands):
-            left += [operand, ","]
+            left += (operand, ",")
         return "[" + compact(it.operation)
+
+
+class Settings(NamedTuple):
+    """What a request says beside its expression: by so many workers, so many places at a time, in
+    this version, which is else the least that has it all."""
+
+    workers: int = 1
+    block: int = 4096
+    version: Optional[int] = None
+
+
+def text_of(expr: Expr) -> Text:
+    """An expression's text, if it isn't too long already."""
+    if expr.nodes > MAX_TEXT:
+        raise TooLong("it was not sent")
+    return Text(expr)
+
+
+def whole_text(found: Text, settings: Settings, inputs: Iterable[str]) -> str:
+    """The text of a request, with its inputs as they are put."""
+    workers, version = whole(settings.workers), settings.version
+    least = max(found.version, 2) if workers > FIRST_WORKERS else found.version
+    text = (
+        f'{{"version":{least if version is None else whole(version)},"workers":{workers},'
+        f'"block":{whole(settings.block)},"inputs":{{{",".join(inputs)}}},"expr":{found.text}}}'
+    )
+    if len(text) > MAX_TEXT:
+        raise TooLong("it was not sent")
+    return text
 
 
 def request(expr: Any, workers: int = 1, block: int = 4096, version: Optional[int] = None) -> str:
@@ -90,22 +128,39 @@ def request(expr: Any, workers: int = 1, block: int = 4096, version: Optional[in
     >>> print(request(tensor(5)))
     {"version":1,"workers":1,"block":4096,"inputs":{"x0":{"dims":[],"data":[5]}},"expr":"x0"}
     """
-    asked = an_expr(expr)
-    if asked.nodes > MAX_TEXT:
-        raise TooLong("it was not sent")
-    found = Text(asked)
-    least = max(found.version, 2) if whole(workers) > FIRST_WORKERS else found.version
+    found = text_of(an_expr(expr))
     inputs = (
-        f'{name}:{{"dims":{compact(it.dims)},"data":[{",".join(map(str, it.values))}]}}'
+        f'{name}:{{"dims":[{commas(it.dims or ())}],"data":[{commas(it.values)}]}}'
         for name, it in found.names.values()
     )
-    text = (
-        f'{{"version":{least if version is None else whole(version)},"workers":{whole(workers)},'
-        f'"block":{whole(block)},"inputs":{{{",".join(inputs)}}},"expr":{found.text}}}'
-    )
-    if len(text) > MAX_TEXT:
+    return whole_text(found, Settings(workers, block, version), inputs)
+
+
+class Framed(NamedTuple):
+    """A request as a frame: the header, how many values stand behind it, and their bytes, tensor by
+    tensor, where they lie."""
+
+    header: bytes
+    size: int
+    parts: List[Bytes]
+
+
+def framed(expr: Expr, settings: Settings) -> Framed:
+    """The frame that asks for an expression: its tensors stand in the order of their names.
+
+    >>> from tensor_client import tensor
+    >>> framed(tensor([5, 7]), Settings()).header
+    b'{"version":1,"workers":1,"block":4096,"inputs":{"x0":{"dims":[2]}},"expr":"x0"}'
+    """
+    found = text_of(expr)
+    named = sorted(found.names.values(), key=itemgetter(0))
+    held = [it.held for _, it in named]
+    size = sum(map(len, held))
+    if size > MAX_VALUES:
         raise TooLong("it was not sent")
-    return text
+    inputs = [f'{name}:{{"dims":[{commas(it.dims or ())}]}}' for name, it in named]
+    header = whole_text(found, settings, inputs).encode()
+    return Framed(header, size, list(map(bytes_of, held)))
 
 
 def fault_of(line: str, why: str = "") -> Optional[Fault]:
@@ -127,3 +182,12 @@ def answer(line: str, why: str = "") -> Tensor:
         raise fault
     found = json.loads(line)
     return Tensor(found["data"], found["dims"])
+
+
+def header_answer(header: bytes, values: memoryview) -> Tensor:
+    """The tensor of an answer's frame. Raises the fault of an error's."""
+    text = header.decode()
+    fault = fault_of(text)
+    if fault:
+        raise fault
+    return Tensor(values, json.loads(text)["dims"])

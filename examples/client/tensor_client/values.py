@@ -31,6 +31,8 @@ def value_of(value: Any) -> int:
 
 def whole(value: Any) -> int:
     """A whole number of the i64 range, as an argument: no truth value, no float."""
+    if type(value) is int and LEAST <= value <= GREATEST:
+        return value
     if is_bool(value):
         raise TypeError("a bool is no number here")
     try:
@@ -73,19 +75,17 @@ def are_bools(values: Sequence[Any]) -> bool:
 
 
 def checked_array(array: Any) -> Any:
-    """An array whose values are whole numbers of the i64 range, truth values as 0 and 1; others
-    are refused, with what to do about them."""
+    """An array whose values are whole numbers of the i64 range, or truth values; others are
+    refused, with what to do about them."""
     if isinstance(array, numpy.ma.MaskedArray):
         raise TypeError("a masked array has places without a value: fill them, with .filled(..)")
     if isinstance(array, numpy.matrix):
         raise TypeError("numpy.matrix means other products by * and **: pass numpy.asarray(it)")
     if array.dtype.kind == "O":
         raise TypeError("an array of objects: pass a list of whole numbers, or .astype(int)")
-    if array.dtype.kind == "b":
-        return array.astype(numpy.int64)
     if array.dtype.kind == "f":
         raise TypeError(f"an array of {array.dtype}: round it, and then .astype(numpy.int64)")
-    if array.dtype.kind not in "iu":
+    if array.dtype.kind not in "biu":
         raise TypeError(f"an array of {array.dtype} holds no whole numbers")
     if array.dtype.kind == "u" and array.size:
         whole(array.max())

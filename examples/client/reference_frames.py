@@ -1,0 +1,142 @@
+#!/usr/bin/env python3
+"""Answers frames as docs/FRAMES.md has them, by the plain reference of tests/fuzzing, which shares
+nothing with the programs: from standard input to standard output, or as the library's functions.
+
+What the client hands over is looked at, as include/tensor.h asks for it: a client that owes a
+pointer or a length ends here, and in the library nobody would notice.
+"""
+
+import ctypes
+import json
+import os
+import struct
+import sys
+
+TOP = os.path.normpath(os.path.join(os.path.dirname(os.path.realpath(__file__)), "..", ".."))
+sys.path.insert(0, os.path.join(TOP, "tests"))
+sys.dont_write_bytecode = True
+
+from fuzzing import reference
+from fuzzing.operations import size
+from fuzzing.rules import FAULTS
+
+SIZES = struct.Struct("<QQ")
+MOST, MOST_PLACES = 16_777_216, 10_000_000
+TOO_LONG, BAD_TENSOR, NO_ROOM = b"error 1 TooLong", b"error 7 BadTensor", -100
+
+
+def numbers_of(data):
+    return list(struct.unpack(f"<{len(data) // 8}q", data))
+
+
+def filled(header, values):
+    """The text that says what a frame does; None where its values aren't its tensors'."""
+    request, begin = json.loads(header), 0
+    for name in sorted(request["inputs"], key=str.encode):
+        it = request["inputs"][name]
+        if it.keys() != {"dims"}:
+            return None
+        end = begin + size(it["dims"])
+        it["data"], begin = values[begin:end], end
+    return json.dumps(request).encode() if begin == len(values) else None
+
+
+def answered(header, values):
+    """The header and the values of the answer to a frame."""
+    if len(header) > MOST or len(values) > MOST:
+        return TOO_LONG, []
+    try:
+        text = filled(header, values)
+    except (ValueError, RecursionError):
+        # No JSON, or nested too deep, with or without values.
+        text = header
+    if text is None:
+        return BAD_TENSOR, []
+    line = reference.answer(text, MOST_PLACES)[0].rstrip(b"\n")
+    if line.startswith(b"error "):
+        return line, []
+    found = json.loads(line)
+    return json.dumps({"dims": found["dims"]}, separators=(",", ":")).encode(), found["data"]
+
+
+def fault_number(header):
+    return int(header.split()[1]) if header.startswith(b"error ") else None
+
+
+class Functions:
+    """The library's functions, called over the same pointers and lengths as the library's own."""
+
+    def __init__(self):
+        pointer, length, number = ctypes.c_void_p, ctypes.c_size_t, ctypes.c_int64
+        evaluate = ctypes.CFUNCTYPE(number, *[pointer, length] * 4)
+        dims = ctypes.CFUNCTYPE(number, pointer, length, ctypes.c_uint64, pointer, length)
+        name = ctypes.CFUNCTYPE(number, ctypes.c_uint32, pointer, length)
+        self.tensor_evaluate = evaluate(self.evaluate)
+        self.tensor_dims = dims(self.dims)
+        self.tensor_fault_name = name(self.fault_name)
+        # What was owed, and how often dims alone were asked for.
+        self.owed, self.asked_dims = [], 0
+
+    def owe(self, *places):
+        """Notes what a caller owes: pointers, aligned, to memory that overlaps nothing."""
+        for place, count, width in places:
+            if not place or place % width:
+                self.owed.append(f"a pointer {place} to {count} of {width} bytes")
+        spans = [range(place, place + count * width) for place, count, width in places if place]
+        for at, it in enumerate(spans):
+            for other in spans[at + 1 :]:
+                if max(it.start, other.start) < min(it.stop, other.stop):
+                    self.owed.append(f"{it} overlaps {other}")
+
+    def evaluate(self, header, length, values, count, out, room, dims, dims_room):
+        self.owe((header, length, 1), (values, count, 8), (out, room, 8), (dims, dims_room, 8))
+        given = numbers_of(ctypes.string_at(values, 8 * count))
+        text, found = answered(ctypes.string_at(header, length), given)
+        if fault_number(text):
+            return -fault_number(text)
+        sizes = json.loads(text)["dims"]
+        if len(found) > room or len(sizes) >= dims_room:
+            return NO_ROOM
+        ctypes.memmove(out, struct.pack(f"<{len(found)}q", *found), 8 * len(found))
+        self.write_dims(dims, sizes)
+        return len(found)
+
+    def dims(self, header, length, count, dims, dims_room):
+        self.asked_dims += 1
+        self.owe((header, length, 1), (dims, dims_room, 8))
+        text, found = answered(ctypes.string_at(header, length), [0] * count)
+        if fault_number(text):
+            return -fault_number(text)
+        self.write_dims(dims, json.loads(text)["dims"])
+        return len(found)
+
+    def write_dims(self, dims, sizes):
+        ranked = struct.pack(f"<{len(sizes) + 1}Q", len(sizes), *sizes)
+        ctypes.memmove(dims, ranked, len(ranked))
+
+    def fault_name(self, number, name, room):
+        self.owe((name, room, 1))
+        text = FAULTS.get(number, "").encode()
+        ctypes.memmove(name, text + b"\0", len(text) + 1)
+        return len(text)
+
+
+def main():
+    """The program of frames."""
+    source, sink = sys.stdin.buffer, sys.stdout.buffer
+    while True:
+        sizes = source.read(SIZES.size)
+        if len(sizes) < SIZES.size:
+            return 1 if sizes else 0
+        length, count = SIZES.unpack(sizes)
+        header, values = source.read(length), source.read(8 * count)
+        if len(header) < length or len(values) < 8 * count:
+            return 1
+        text, found = answered(header, numbers_of(values))
+        sink.write(SIZES.pack(len(text), len(found)) + text)
+        sink.write(struct.pack(f"<{len(found)}q", *found))
+        sink.flush()
+
+
+if __name__ == "__main__":
+    sys.exit(main())

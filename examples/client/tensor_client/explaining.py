@@ -1,0 +1,41 @@
+"""Asks where the fault of a request is, and why it is one, of the program that tells this."""
+
+from __future__ import annotations
+
+import re
+import subprocess
+
+from .expressions import Expr
+from .faults import Fault, NotJson, TooLarge
+from .finding import EXPLAIN, built, environment
+from .requests import Settings, fault_of, request
+
+SECONDS = 10
+# What it says behind the fault: the place, a pointer into the text, and the reason.
+SAID = re.compile(r"at (.*?): (.*)")
+
+
+def explain(fault: Fault, expr: Expr, settings: Settings) -> None:
+    """Gives a fault its place and its reason, where it has no reason yet and the program is found.
+    Whatever goes wrong on the way, the fault stays what it is."""
+    if isinstance(fault, NotJson) and not fault.why:
+        fault.tell(f"it nests {expr.depth} arrays and objects, arguments not counted")
+    path = built(EXPLAIN)
+    # Behind these come want of memory and streams that fail, which no text tells of.
+    if path is None or fault.why or fault.number > TooLarge.number:
+        return
+    try:
+        ended = subprocess.run(
+            [path],
+            input=request(expr, *settings).encode(),
+            capture_output=True,
+            env=environment(),
+            check=False,
+            timeout=SECONDS,
+        )
+    except (Fault, OSError, subprocess.SubprocessError):
+        return
+    line, _, rest = ended.stdout.decode(errors="replace").partition("\n")
+    told, said = fault_of(line), SAID.match(rest)
+    if told and said and told.number == fault.number:
+        fault.tell(said[2], said[1])

@@ -1,0 +1,132 @@
+"""Has expressions answered in this process, by the library, on the thread that calls. Arrays are
+handed over where they lie."""
+
+from __future__ import annotations
+
+import ctypes
+import os
+from typing import Any, Dict, List, Optional
+
+from .expressions import Expr, Tensor
+from .faults import Fault, ProgramFailed, fault_made
+from .finding import LIBRARY_VARIABLE, libraries
+from .memory import all_bytes, memory_for, place_of
+from .requests import Framed, Settings, framed
+from .rules import MOST_ELEMENTS, product
+
+# The C library's settings of memory: their numbers, and those that it gets.
+KEEP, MAP = (-1, 128 << 20), (-3, 32 << 20)
+# As include/tensor.h has them.
+NO_ROOM, DIMS_ROOM, NAME_ROOM = -100, 9, 16
+POINTER, SIZE = ctypes.c_void_p, ctypes.c_size_t
+DIMS, NAME = ctypes.c_uint64 * DIMS_ROOM, ctypes.c_uint8 * NAME_ROOM
+
+
+class Library:
+    """The library, opened, with the three functions that it has."""
+
+    def __init__(self, path: str) -> None:
+        self.path = path
+        try:
+            opened = ctypes.CDLL(path)
+            self.evaluate: Any = opened.tensor_evaluate
+            self.dims: Any = opened.tensor_dims
+            self.fault_name: Any = opened.tensor_fault_name
+        except (OSError, AttributeError) as fault:
+            raise ProgramFailed(f"no library: {fault}") from fault
+        self.evaluate.argtypes = [POINTER, SIZE] * 4
+        self.dims.argtypes = [POINTER, SIZE, ctypes.c_uint64, POINTER, SIZE]
+        self.fault_name.argtypes = [ctypes.c_uint32, POINTER, SIZE]
+        for it in (self.evaluate, self.dims, self.fault_name):
+            it.restype = ctypes.c_int64
+        keep_memory()
+
+    def run(self, expr: Expr, settings: Settings) -> Tensor:
+        """The tensor of an expression's values, or its fault."""
+        asked, found = framed(expr, settings), None
+        if expr.dims is not None:
+            found = self.evaluated(asked, min(product(expr.dims), MOST_ELEMENTS))
+        if found is None:
+            found = self.evaluated(asked, self.size(asked))
+        if found is None:
+            raise ProgramFailed(f"{self.path}: a tensor has more room than it asks for")
+        return found
+
+    def evaluated(self, asked: Framed, room: int) -> Optional[Tensor]:
+        """The tensor of a frame, if it has no more values than there is room for."""
+        header, values = asked.header, all_bytes(asked.parts)
+        out, dims = memory_for(room), DIMS()
+        count = self.evaluate(
+            header,
+            len(header),
+            place_of(values),
+            asked.size,
+            place_of(out),
+            room,
+            dims,
+            DIMS_ROOM,
+        )
+        if count == NO_ROOM:
+            return None
+        if count < 0:
+            raise self.fault(-count)
+        sizes: List[int] = dims[1 : 1 + dims[0]]
+        return Tensor(out if count == room else out[:count], sizes)
+
+    def size(self, asked: Framed) -> int:
+        """How many values the tensor of a frame has; none of them is worked out."""
+        header, dims = asked.header, DIMS()
+        size: int = self.dims(header, len(header), asked.size, dims, DIMS_ROOM)
+        if size < 0:
+            raise self.fault(-size)
+        return size
+
+    def fault(self, number: int) -> Fault:
+        name = NAME()
+        length = self.fault_name(number, name, NAME_ROOM)
+        return fault_made(number, bytes(name[:length]).decode())
+
+
+def keep_memory() -> None:
+    """Has the C library keep what is freed for the next large request, up to a bound, since memory
+    that is new from the system costs more than the work on it. Where somebody has set this, it
+    stands."""
+    if "glibc.malloc" not in os.environ.get("GLIBC_TUNABLES", ""):
+        for setting in (KEEP, MAP):
+            getattr(ctypes.CDLL(None), "mallopt", lambda *_: None)(*setting)
+
+
+OPENED: Dict[str, Library] = {}
+
+
+def library_named(named: Any) -> Library:
+    """The library that is asked for by its way, which has to be there."""
+    found = library_of(named)
+    if found is None:
+        tried = ", ".join(libraries())
+        raise ProgramFailed(f"no library: {LIBRARY_VARIABLE} isn't set, and none of {tried} opens")
+    return found
+
+
+def library_of(named: Any = None) -> Optional[Library]:
+    """The library: as it is named in the call or by the environment, else where one is found. One
+    that is named and can't be opened is a ProgramFailed."""
+    path = os.environ.get(LIBRARY_VARIABLE, "") if named is None else str(os.fspath(named))
+    found = OPENED.get(path)
+    if found is None and path:
+        found = Library(path)
+    if found is None:
+        found = first_library()
+    if found is not None:
+        OPENED[path] = found
+    return found
+
+
+def first_library() -> Optional[Library]:
+    """The first that is found and has the library's functions."""
+    for path in libraries():
+        try:
+            return Library(path)
+        except ProgramFailed:
+            pass
+    return None
