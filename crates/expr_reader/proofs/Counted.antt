@@ -1,7 +1,7 @@
 -- A value has at most one member more than its text has bytes.
 use Rattle.std.proofs.Common.{◌≡◌, ℕ, suc, ◌+◌, ◌≤◌, List, [], ◌∷◌, length, Bool, true, false}
 use Rattle.std.proofs.Common.{Option, Some, None, option_map, option_and_then, Ordering, Less, Equal}
-use Rattle.std.proofs.Common.{Greater, subst, if◌then◌else◌, codes, arith, ℤ, drop}
+use Rattle.std.proofs.Common.{Greater, subst, if◌then◌else◌, codes, arith, ℤ, drop, ap, Ok}
 use Rattle.std.specs.Prelude.{⊤}
 use Rattle.std.specs.Ordering.{nat_cmp, match_ordering}
 use Rattle.std.specs.Cmp.Lexicographic.{slice_cmp}
@@ -15,11 +15,12 @@ use Rattle.serde_json.specs.Events.{members_len}
 use Rattle.serde_json.specs.Find.{get_member, get, as_object}
 use Rattle.serde_json.specs.Read.{number_of, of_json, of_items, of_members, max_depth, read}
 use Rattle.tensor_ops.specs.Contents.{Contents}
-use Rattle.expr_reader.specs.Behind.{tensors_by, naming_by}
+use Rattle.expr_reader.specs.Behind.{tensors_by, place_by, naming_by}
 use Rattle.expr_reader.specs.Counted.{member_count, count_in_items, count_in_members}
 use Rattle.expr_reader.specs.Fields.{Fields, has_members, cons_of, fields_of, reading}
 use Rattle.expr_reader.specs.Frame.{none_left, framed_tensor, framed_tensors}
-use Rattle.expr_reader.specs.Tensors.{Named, tensor_in, tensors_in, names_in}
+use Rattle.expr_reader.specs.Place.{Step}
+use Rattle.expr_reader.specs.Tensors.{Named, tensor_in, tensors_in, names_in, named_by, or_place}
 use Rattle.expr_reader.proofs.Grammar as tree
 use Rattle.expr_reader.proofs.Grammar.{tree_count, Fits, Fits-more, Fits-value}
 use Rattle.expr_reader.proofs.Tokens.{length-tokens}
@@ -200,14 +201,20 @@ AtMost-tensors_by : (left : Option (List ℤ)) (rank : ℕ) (ms : Members)
 AtMost-tensors_by None rank ms = AtMost-tensors_in rank ms
 AtMost-tensors_by (Some values) rank ms = AtMost-framed_tensors rank values ms
 
-pub length-naming_by : (left : Option (List ℤ)) (rank : ℕ) (d : Data) (n : Named) → naming_by left rank d ≡ Some n
+-- what is read is there
+or_place-Ok : (place : Members → List Step) (d : Data) (named : Option Named) (n : Named) → or_place place d named ≡ Ok n → named ≡ Some n
+or_place-Ok place d None n is = (cc)
+or_place-Ok place d (Some m) n is = let same : m ≡ n = cc in ap Some same
+
+pub length-naming_by : (left : Option (List ℤ)) (rank : ℕ) (d : Data) (n : Named) → naming_by left rank d ≡ Ok n
     → length n.tensors ≤ member_count d
-length-naming_by left rank d n is = subst (AtMost tensor_count (member_count d)) is (all d)
+length-naming_by left rank d n is =
+    subst (AtMost tensor_count (member_count d)) (or_place-Ok (place_by left rank) d (named_by (tensors_by left rank) d) n is) (all d)
   where
     tensor_count : Named → ℕ
     tensor_count named = length named.tensors
 
-    all : (d : Data) → AtMost tensor_count (member_count d) (naming_by left rank d)
+    all : (d : Data) → AtMost tensor_count (member_count d) (named_by (tensors_by left rank) d)
     all null = tt
     all (boolean b) = tt
     all (number x) = tt

@@ -22,13 +22,13 @@ use Rattle.tensor_ops.specs.Legal.{are_legal}
 use Rattle.expr_reader.specs.Fields.{Fields, signed_of, whole_of, within, each_of, cons_of, list_in, fields_of}
 use Rattle.expr_reader.specs.Filled.{numbers_of, tensor_of, filled_tensor, filled_members}
 use Rattle.expr_reader.specs.Filled.{with_other, with_inputs, filled_text}
-use Rattle.expr_reader.specs.Frame.{dims_alone, dealt, framed_tensor, framed_tensors, framed_in}
+use Rattle.expr_reader.specs.Frame.{dims_alone, dealt, framed_tensor, framed_tensors, bad_framed, framed_in, frame_inputs}
 use Rattle.expr_reader.specs.Limits.{greatest_block}
-use Rattle.expr_reader.specs.Request.{Naming, profile_in, tree_asked, inputs_asked, block_asked}
+use Rattle.expr_reader.specs.Place.{Step, field, Located, here, at, below, unlocated}
+use Rattle.expr_reader.specs.Request.{Asked, Naming, profile_in, tree_asked, inputs_asked, block_asked}
 use Rattle.expr_reader.specs.Request.{workers_asked, fields_asked, data_asked}
 use Rattle.expr_reader.specs.Steps.{and_then}
-use Rattle.expr_reader.specs.Tensors.{filled, tensor_in, tensors_in, names_in, named_in}
-use Rattle.expr_reader.specs.declared.fault.Fault.{Fault}
+use Rattle.expr_reader.specs.Tensors.{Named, filled, tensor_in, tensors_in, bad_member, names_in, or_place, named_in, inputs_in}
 use Rattle.expr_reader.specs.declared.fault.Fault.TheVariants.{BadVersion, BadWorkers, BadBlock, BadTensor}
 
 -- numbers of the `i64` range are read as they are
@@ -262,74 +262,98 @@ fields_of-with_inputs inputs (object ms) f is =
         (get_member (codes "inputs") ms) (get_member (codes "expr") ms) is
 
 -- what is asked depends on the inputs by what is read of them
-and_then-same : {A B : Type 0} (r : Result A Fault) (f g : A → Result B Fault) → ((x : A) → f x ≡ g x) → and_then r f ≡ and_then r g
+and_then-same : {A B : Type 0} (r : Result A Located) (f g : A → Result B Located)
+    → ((x : A) → unlocated (f x) ≡ unlocated (g x)) → unlocated (and_then r f) ≡ unlocated (and_then r g)
 and_then-same (Ok x) f g same = same x
-and_then-same (Err fault) f g same = refl
+and_then-same (Err found) f g same = refl
 
-fields_asked-same : (read other : Naming) (f : Fields) (inputs : Data) → ((rank : ℕ) → read rank f.inputs ≡ other rank inputs)
-    → fields_asked read f ≡ fields_asked other (record f { inputs = inputs })
+below-same : (i : Step) (read other : Result Named Located) (next : Named → Result Asked Located)
+    → unlocated read ≡ unlocated other → unlocated (and_then (below i read) next) ≡ unlocated (and_then (below i other) next)
+below-same i (Ok n) (Ok m) next is = let same : n ≡ m = cc in ap (λ k. unlocated (next k)) same
+below-same i (Ok n) (Err l) next is = (cc)
+below-same i (Err k) (Ok m) next is = (cc)
+below-same i (Err k) (Err l) next is = let same : k.fault ≡ l.fault = cc in ap Err same
+
+fields_asked-same : (read other : Naming) (f : Fields) (inputs : Data)
+    → ((rank : ℕ) → unlocated (read rank f.inputs) ≡ unlocated (other rank inputs))
+    → unlocated (fields_asked read f) ≡ unlocated (fields_asked other (record f { inputs = inputs }))
 fields_asked-same read other f inputs same =
-    and_then-same (ok_or (profile_in f) BadVersion) (workers_asked read f) (workers_asked other (record f { inputs = inputs }))
-    (λ p. and_then-same (ok_or (within 1 p.workers f.workers) BadWorkers) (block_asked read f p) (block_asked other (record f { inputs = inputs }) p)
-    (λ workers. and_then-same (ok_or (within 1 greatest_block f.block) BadBlock)
+    and_then-same (ok_or (profile_in f) (at (field (codes "version")) BadVersion))
+    (workers_asked read f) (workers_asked other (record f { inputs = inputs }))
+    (λ p. and_then-same (ok_or (within 1 p.workers f.workers) (at (field (codes "workers")) BadWorkers))
+    (block_asked read f p) (block_asked other (record f { inputs = inputs }) p)
+    (λ workers. and_then-same (ok_or (within 1 greatest_block f.block) (at (field (codes "block")) BadBlock))
     (inputs_asked read f p workers) (inputs_asked other (record f { inputs = inputs }) p workers)
-    (λ block. ap (λ named. and_then (ok_or named BadTensor) (tree_asked f p workers block)) (same p.rank))))
+    (λ block. below-same (field (codes "inputs")) (read p.rank f.inputs) (other p.rank inputs)
+    (tree_asked f p workers block) (same p.rank))))
+
+-- the same names and tensors, wherever a fault is
+or_place-same : (place other : Members → List Step) (d e : Data) (named same : Option Named) → named ≡ same
+    → unlocated (or_place place d named) ≡ unlocated (or_place other e same)
+or_place-same place other d e named same is =
+    subst (λ o. unlocated (or_place place d named) ≡ unlocated (or_place other e o)) is (by_names named)
+  where
+    by_names : (o : Option Named) → unlocated (or_place place d o) ≡ unlocated (or_place other e o)
+    by_names None = refl
+    by_names (Some n) = refl
 
 -- a frame is read as its text is
 pub frame-text : (header text : Data) (values : List ℤ) → All (FitsSigned w64) values → filled_text values header ≡ Some text
-    → data_asked (framed_in values) header ≡ data_asked named_in text
+    → unlocated (data_asked (frame_inputs values) header) ≡ unlocated (data_asked inputs_in text)
 frame-text header text values fits is = by_fields (fields_of header) refl is
   where
     by_members : (f : Fields) (ms : Members) (filled_ms : Option Members) → fields_of header ≡ Some f → as_object f.inputs ≡ Some ms
         → filled_members values ms ≡ filled_ms → option_map (λ inputs. with_inputs inputs header) filled_ms ≡ Some text
-        → data_asked (framed_in values) header ≡ data_asked named_in text
+        → unlocated (data_asked (frame_inputs values) header) ≡ unlocated (data_asked inputs_in text)
     by_members f ms None there found all is = (cc)
     by_members f ms (Some inputs) there found all is =
         let same : with_inputs inputs header ≡ text = cc in
-        subst (λ t. data_asked (framed_in values) header ≡ data_asked named_in t) same
+        subst (λ t. unlocated (data_asked (frame_inputs values) header) ≡ unlocated (data_asked inputs_in t)) same
         (rw (there, fields_of-with_inputs inputs header f there)
-        (fields_asked-same (framed_in values) named_in f (object inputs) (λ rank.
+        (fields_asked-same (frame_inputs values) inputs_in f (object inputs) (λ rank.
         let both = same_tensors rank ms values fits inputs all in
-        rw (found, both.tensors, both.names) refl)))
+        let same : framed_in values rank f.inputs ≡ named_in rank (object inputs) = rw (found, both.tensors, both.names) refl in
+        or_place-same (bad_framed rank values) (bad_member rank) f.inputs (object inputs)
+        (framed_in values rank f.inputs) (named_in rank (object inputs)) same)))
 
     by_inputs : (f : Fields) (ms : Option Members) → fields_of header ≡ Some f → as_object f.inputs ≡ ms
         → option_and_then (λ ms. option_map (λ inputs. with_inputs inputs header) (filled_members values ms)) ms ≡ Some text
-        → data_asked (framed_in values) header ≡ data_asked named_in text
+        → unlocated (data_asked (frame_inputs values) header) ≡ unlocated (data_asked inputs_in text)
     by_inputs f None there found is = (cc)
     by_inputs f (Some ms) there found is = by_members f ms (filled_members values ms) there found refl is
 
     by_fields : (f : Option Fields) → fields_of header ≡ f
         → option_and_then (λ f. option_and_then (λ ms. option_map (λ inputs. with_inputs inputs header) (filled_members values ms)) (as_object f.inputs)) f ≡ Some text
-        → data_asked (framed_in values) header ≡ data_asked named_in text
+        → unlocated (data_asked (frame_inputs values) header) ≡ unlocated (data_asked inputs_in text)
     by_fields None there is = (cc)
     by_fields (Some f) there is = by_inputs f (as_object f.inputs) there refl is
 
 -- a frame without a text has no inputs
 abbrev no_inputs : Naming
-no_inputs rank inputs = None
+no_inputs rank inputs = Err (here BadTensor)
 
 pub frame-no_text : (header : Data) (values : List ℤ) → filled_text values header ≡ None
-    → data_asked (framed_in values) header ≡ data_asked no_inputs header
+    → unlocated (data_asked (frame_inputs values) header) ≡ unlocated (data_asked no_inputs header)
 frame-no_text header values is = by_fields (fields_of header) refl is
   where
     unread : (f : Fields) → fields_of header ≡ Some f → ((rank : ℕ) → framed_in values rank f.inputs ≡ None)
-        → data_asked (framed_in values) header ≡ data_asked no_inputs header
-    unread f there none = rw there (fields_asked-same (framed_in values) no_inputs f f.inputs none)
+        → unlocated (data_asked (frame_inputs values) header) ≡ unlocated (data_asked no_inputs header)
+    unread f there none = rw there (fields_asked-same (frame_inputs values) no_inputs f f.inputs (λ rank. rw (none rank) refl))
 
     by_members : (f : Fields) (ms : Members) (filled_ms : Option Members) → fields_of header ≡ Some f → as_object f.inputs ≡ Some ms
         → filled_members values ms ≡ filled_ms → option_map (λ inputs. with_inputs inputs header) filled_ms ≡ None
-        → data_asked (framed_in values) header ≡ data_asked no_inputs header
+        → unlocated (data_asked (frame_inputs values) header) ≡ unlocated (data_asked no_inputs header)
     by_members f ms (Some inputs) there found all is = (cc)
     by_members f ms None there found all is = unread f there (λ rank. rw (found, unfilled-none rank ms values all) refl)
 
     by_inputs : (f : Fields) (ms : Option Members) → fields_of header ≡ Some f → as_object f.inputs ≡ ms
         → option_and_then (λ ms. option_map (λ inputs. with_inputs inputs header) (filled_members values ms)) ms ≡ None
-        → data_asked (framed_in values) header ≡ data_asked no_inputs header
+        → unlocated (data_asked (frame_inputs values) header) ≡ unlocated (data_asked no_inputs header)
     by_inputs f None there found is = unread f there (λ rank. rw found refl)
     by_inputs f (Some ms) there found is = by_members f ms (filled_members values ms) there found refl is
 
     by_fields : (f : Option Fields) → fields_of header ≡ f
         → option_and_then (λ f. option_and_then (λ ms. option_map (λ inputs. with_inputs inputs header) (filled_members values ms)) (as_object f.inputs)) f ≡ None
-        → data_asked (framed_in values) header ≡ data_asked no_inputs header
+        → unlocated (data_asked (frame_inputs values) header) ≡ unlocated (data_asked no_inputs header)
     by_fields None there is = rw there refl
     by_fields (Some f) there is = by_inputs f (as_object f.inputs) there refl is

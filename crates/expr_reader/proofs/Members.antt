@@ -10,8 +10,9 @@ use Rattle.serde_json.specs.Data.{Data, Members, no_members, member}
 use Rattle.serde_json.specs.View.{view, members_view}
 use Rattle.serde_json.specs.declared.value.Value.{Value}
 use Rattle.tensor_ops.specs.Contents.{Contents, HaveRank}
-use Rattle.expr_reader.specs.Behind.{tensor_by, tensors_by, is_end}
+use Rattle.expr_reader.specs.Behind.{tensor_by, tensors_by, place_by, is_end}
 use Rattle.expr_reader.specs.Fields.{cons_of}
+use Rattle.expr_reader.specs.Place.{field}
 use Rattle.expr_reader.specs.Tensors.{names_in}
 use Rattle.expr_reader.proofs.Lists.{after, after-cons_of}
 use Rattle.expr_reader.proofs.Numbers.{position_from-cons, option_or-option_or}
@@ -37,7 +38,31 @@ module _ (left : Option (List ℤ)) (rank : ℕ) where
         by_place None none = rw none refl
         by_place (Some values) none = rw none refl
 
+    -- the place of one that is no tensor
+    pub place_by-member : (tensor : Contents) → tensor_by left rank d ≡ Some tensor
+        → place_by left rank (member name d ms) ≡ place_by (option_map (drop (length tensor.values)) left) rank ms
+    place_by-member = by_place left
+      where
+        by_place : (places : Option (List ℤ)) (tensor : Contents) → tensor_by places rank d ≡ Some tensor
+            → place_by places rank (member name d ms) ≡ place_by (option_map (drop (length tensor.values)) places) rank ms
+        by_place None tensor read = rw read refl
+        by_place (Some values) tensor read = rw read refl
+
+    pub place_by-no_tensor : tensor_by left rank d ≡ None → place_by left rank (member name d ms) ≡ field name ∷ []
+    place_by-no_tensor = by_place left
+      where
+        by_place : (places : Option (List ℤ)) → tensor_by places rank d ≡ None → place_by places rank (member name d ms) ≡ field name ∷ []
+        by_place None none = rw none refl
+        by_place (Some values) none = rw none refl
+
   -- behind the last member
+  pub place_by-end : place_by left rank no_members ≡ []
+  place_by-end = by_place left
+    where
+      by_place : (places : Option (List ℤ)) → place_by places rank no_members ≡ []
+      by_place None = refl
+      by_place (Some values) = refl
+
   pub tensors_by-end : (is_last : Bool) → is_last ≡ is_end left → tensors_by left rank no_members ≡ (if is_last then Some [] else None)
   tensors_by-end is_last is = is_last_by left is
     where
@@ -70,6 +95,19 @@ module _ (rank : ℕ) (rest more : List (String Global × Value)) (name : String
     after-no_tensor none =
         ap (λ entries. after done (tensors_by left rank (members_view entries))) first
         ∙ ap (after done) (tensors_by-no_tensor left rank (string_bytes name) (view value) (members_view more) none)
+
+  module _ (left : Option (List ℤ)) where
+    pub place-turn : (tensor : Contents) → tensor_by left rank (view value) ≡ Some tensor
+        → place_by (option_map (drop (length tensor.values)) left) rank (members_view more) ≡ place_by left rank (members_view rest)
+    place-turn tensor read =
+        sym (ap (λ entries. place_by left rank (members_view entries)) first
+        ∙ place_by-member left rank (string_bytes name) (view value) (members_view more) tensor read)
+
+    pub place-no_tensor : tensor_by left rank (view value) ≡ None
+        → place_by left rank (members_view rest) ≡ field (string_bytes name) ∷ []
+    place-no_tensor none =
+        ap (λ entries. place_by left rank (members_view entries)) first
+        ∙ place_by-no_tensor left rank (string_bytes name) (view value) (members_view more) none
 
   pub number-turn : (old new : Option ℕ) (n : ℕ) (q : List ℕ)
       → new ≡ option_or old (if bytes_eq q (string_bytes name) then Some n else None)

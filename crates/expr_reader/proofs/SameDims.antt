@@ -3,8 +3,8 @@ use Rattle.std.proofs.Common.{◌≡◌, ℕ, ℤ, zero, suc, ◌+◌, ◌-◌, 
 use Rattle.std.proofs.Common.{Option, Some, None, ok_or, option_map, option_and_then, take, drop, Result, Ok, Err}
 use Rattle.std.proofs.Common.{refl, ap, sym, ◌∙◌, if◌then◌else◌, leb, arith}
 use Rattle.std.proofs.lemmas.List.{length-take, length-drop}
+use Rattle.std.specs.Prelude.{⊤, nat_lt, codes}
 use Rattle.std.specs.Option.{option_map_or}
-use Rattle.std.specs.Prelude.{⊤, nat_lt, ◌||◌}
 use Rattle.std.specs.Result.{result_map_both}
 use Rattle.serde_json.specs.Data.{Data, null, boolean, number, string, array, object, Items}
 use Rattle.serde_json.specs.Data.{no_items, item, Members, no_members, member}
@@ -15,20 +15,20 @@ use Rattle.tensor_ops.specs.Index.{size_of}
 use Rattle.tensor_ops.specs.Result.{unary_dims, binary_dims, ternary_dims, dims_of}
 use Rattle.tensor_ops.specs.Shaped.{with_one, with_two, with_three}
 use Rattle.tensor_ops.specs.Term.{Term, input, unary, binary, ternary}
-use Rattle.expr_reader.specs.Arguments.{Form, Arguments, arguments_in}
+use Rattle.expr_reader.specs.Arguments.{Form, Arguments, arguments_at}
 use Rattle.expr_reader.specs.Faults.{text_fault}
-use Rattle.expr_reader.specs.Fields.{Fields, fields_of, reading, within}
-use Rattle.expr_reader.specs.Frame.{dims_alone, dealt, none_left, framed_tensors, framed_in, request_of_frame}
-use Rattle.expr_reader.specs.Limits.{greatest_block, most_bytes, most_values}
+use Rattle.expr_reader.specs.Fields.{Fields, fields_of, within}
+use Rattle.expr_reader.specs.Frame.{dims_alone, dealt, none_left, framed_tensors, bad_framed, frame_inputs, request_of_frame}
+use Rattle.expr_reader.specs.Limits.{greatest_block, most_values}
 use Rattle.expr_reader.specs.Node.{Tree, within_limit, operation_at, checked, made, node_at, applied, tree_at}
+use Rattle.expr_reader.specs.Place.{Step, field, index, Located, here, at, below, unlocated}
 use Rattle.expr_reader.specs.Profile.{Profile}
 use Rattle.expr_reader.specs.Request.{Asked, profile_in, tree_asked, inputs_asked, block_asked, workers_asked}
-use Rattle.expr_reader.specs.Request.{fields_asked, data_asked, bytes_asked}
+use Rattle.expr_reader.specs.Request.{fields_asked, data_asked, data_of, text_asked}
 use Rattle.expr_reader.specs.Steps.{and_then}
 use Rattle.expr_reader.specs.Table.{Operation, one, two, three, arity_of}
-use Rattle.expr_reader.specs.Tensors.{Named, dims_in, names_in, given}
-use Rattle.expr_reader.specs.declared.fault.Fault.{Fault}
-use Rattle.expr_reader.specs.declared.fault.Fault.TheVariants.{NotJson, BadField, BadVersion, BadWorkers, BadBlock, BadTensor, BadArgument, UnknownOp, BadArity, TooLong}
+use Rattle.expr_reader.specs.Tensors.{Named, dims_in, names_in, given, or_place}
+use Rattle.expr_reader.specs.declared.fault.Fault.TheVariants.{BadField, BadVersion, BadWorkers, BadBlock, BadTensor, BadArity, TooLong}
 use Rattle.expr_reader.specs.Alike.{HaveSameDims, AskAlike}
 
 module _ (ts us : List Contents) (same : HaveSameDims ts us) (rank : ℕ) where
@@ -44,13 +44,13 @@ module _ (ts us : List Contents) (same : HaveSameDims ts us) (rank : ℕ) where
       ∙ ap (λ e. with_three (ternary_dims o) (dims_of rank a us) e (dims_of rank c ts)) (dims_of-same b)
       ∙ ap (λ f. with_three (ternary_dims o) (dims_of rank a us) (dims_of rank b us) f) (dims_of-same c)
 
-and_then-same : {A B : Type 0} (found other : Result A Fault) (f g : A → Result B Fault) → found ≡ other
+and_then-same : {A B : Type 0} (found other : Result A Located) (f g : A → Result B Located) → found ≡ other
     → ((x : A) → f x ≡ g x) → and_then found f ≡ and_then other g
 and_then-same {A = A} {B = B} found other f g is same = ap (λ r. and_then r f) is ∙ by_case other
   where
-    by_case : (r : Result A Fault) → and_then r f ≡ and_then r g
+    by_case : (r : Result A Located) → and_then r f ≡ and_then r g
     by_case (Ok x) = same x
-    by_case (Err fault) = refl
+    by_case (Err found) = refl
 
 -- a tree over names of tensors of the same dims
 module _ (profile : Profile) (names : List (List ℕ)) (ts us : List Contents) (same : HaveSameDims ts us) where
@@ -60,17 +60,13 @@ module _ (profile : Profile) (names : List (List ℕ)) (ts us : List Contents) (
   abbrev second : Named
   second = record { names = names; tensors = us }
 
-  made-same : (fs : List Form) (items : Items) (make : Arguments fs → Term) (end : ℕ)
-      → made (given profile.rank first) fs items make end ≡ made (given profile.rank second) fs items make end
-  made-same fs items make end =
-      and_then-same (ok_or (arguments_in fs items) BadArgument) (ok_or (arguments_in fs items) BadArgument)
+  made-same : (fs : List Form) (i : ℕ) (items : Items) (make : Arguments fs → Term) (end : ℕ)
+      → made (given profile.rank first) fs i items make end ≡ made (given profile.rank second) fs i items make end
+  made-same fs i items make end =
+      and_then-same (arguments_at i fs items) (arguments_at i fs items)
       (λ a. checked (given profile.rank first) (make a) end) (λ a. checked (given profile.rank second) (make a) end) refl
-      (λ a. ap (result_map_both (λ dims. record { term = make a; end = end }) text_fault) (dims_of-same ts us same profile.rank (make a)))
-
-  option_map_or-same : (f g : Operation → Result Tree Fault) → ((o : Operation) → f o ≡ g o) → (o : Option Operation)
-      → option_map_or f o (Err UnknownOp) ≡ option_map_or g o (Err UnknownOp)
-  option_map_or-same f g alike None = refl
-  option_map_or-same f g alike (Some o) = alike o
+      (λ a. ap (result_map_both (λ dims. record { term = make a; end = end }) (λ fault. here (text_fault fault)))
+      (dims_of-same ts us same profile.rank (make a)))
 
   mutual
     node_at-same : (n : ℕ) (d : Data) → node_at profile first n d ≡ node_at profile second n d
@@ -81,35 +77,36 @@ module _ (profile : Profile) (names : List (List ℕ)) (ts us : List Contents) (
     node_at-same n (string name) = refl
     node_at-same n (array no_items) = refl
     node_at-same n (array (item head rest)) =
-        option_map_or-same (λ o. if items_len rest == arity_of o then applied profile first n o rest else Err BadArity)
-        (λ o. if items_len rest == arity_of o then applied profile second n o rest else Err BadArity)
-        (λ o. ap (λ r. if items_len rest == arity_of o then r else Err BadArity) (applied-same n o rest)) (operation_at profile head)
+        and_then-same (operation_at profile head) (operation_at profile head)
+        (λ o. if items_len rest == arity_of o then applied profile first n o rest else Err (here BadArity))
+        (λ o. if items_len rest == arity_of o then applied profile second n o rest else Err (here BadArity)) refl
+        (λ o. ap (λ r. if items_len rest == arity_of o then r else Err (here BadArity)) (applied-same n o rest))
 
     applied-same : (n : ℕ) (o : Operation) (rest : Items) → applied profile first n o rest ≡ applied profile second n o rest
     applied-same n (one forms make) no_items = refl
     applied-same n (one forms make) (item a rest) =
-        and_then-same (tree_at profile first (n + 1) a) (tree_at profile second (n + 1) a) _ _
-        (ap (within_limit (n + 1)) (node_at-same (n + 1) a))
-        (λ x. made-same forms rest (λ args. unary (make args) x.term) x.end)
+        and_then-same (below (index 1) (tree_at profile first (n + 1) a)) (below (index 1) (tree_at profile second (n + 1) a)) _ _
+        (ap (λ r. below (index 1) (within_limit (n + 1) r)) (node_at-same (n + 1) a))
+        (λ x. made-same forms 2 rest (λ args. unary (make args) x.term) x.end)
     applied-same n (two forms make) no_items = refl
     applied-same n (two forms make) (item a no_items) = refl
     applied-same n (two forms make) (item a (item b rest)) =
-        and_then-same (tree_at profile first (n + 1) a) (tree_at profile second (n + 1) a) _ _
-        (ap (within_limit (n + 1)) (node_at-same (n + 1) a))
-        (λ x. and_then-same (tree_at profile first x.end b) (tree_at profile second x.end b) _ _
-        (ap (within_limit x.end) (node_at-same x.end b))
-        (λ y. made-same forms rest (λ args. binary (make args) x.term y.term) y.end))
+        and_then-same (below (index 1) (tree_at profile first (n + 1) a)) (below (index 1) (tree_at profile second (n + 1) a)) _ _
+        (ap (λ r. below (index 1) (within_limit (n + 1) r)) (node_at-same (n + 1) a))
+        (λ x. and_then-same (below (index 2) (tree_at profile first x.end b)) (below (index 2) (tree_at profile second x.end b)) _ _
+        (ap (λ r. below (index 2) (within_limit x.end r)) (node_at-same x.end b))
+        (λ y. made-same forms 3 rest (λ args. binary (make args) x.term y.term) y.end))
     applied-same n (three forms make) no_items = refl
     applied-same n (three forms make) (item a no_items) = refl
     applied-same n (three forms make) (item a (item b no_items)) = refl
     applied-same n (three forms make) (item a (item b (item c rest))) =
-        and_then-same (tree_at profile first (n + 1) a) (tree_at profile second (n + 1) a) _ _
-        (ap (within_limit (n + 1)) (node_at-same (n + 1) a))
-        (λ x. and_then-same (tree_at profile first x.end b) (tree_at profile second x.end b) _ _
-        (ap (within_limit x.end) (node_at-same x.end b))
-        (λ y. and_then-same (tree_at profile first y.end c) (tree_at profile second y.end c) _ _
-        (ap (within_limit y.end) (node_at-same y.end c))
-        (λ z. made-same forms rest (λ args. ternary (make args) x.term y.term z.term) z.end)))
+        and_then-same (below (index 1) (tree_at profile first (n + 1) a)) (below (index 1) (tree_at profile second (n + 1) a)) _ _
+        (ap (λ r. below (index 1) (within_limit (n + 1) r)) (node_at-same (n + 1) a))
+        (λ x. and_then-same (below (index 2) (tree_at profile first x.end b)) (below (index 2) (tree_at profile second x.end b)) _ _
+        (ap (λ r. below (index 2) (within_limit x.end r)) (node_at-same x.end b))
+        (λ y. and_then-same (below (index 3) (tree_at profile first y.end c)) (below (index 3) (tree_at profile second y.end c)) _ _
+        (ap (λ r. below (index 3) (within_limit y.end r)) (node_at-same y.end c))
+        (λ z. made-same forms 4 rest (λ args. ternary (make args) x.term y.term z.term) z.end)))
 
   tree_at-same : (n : ℕ) (d : Data) → tree_at profile first n d ≡ tree_at profile second n d
   tree_at-same n d = ap (within_limit n) (node_at-same n d)
@@ -177,62 +174,74 @@ module _ (rank : ℕ) where
       by_dims alike (Some dims) = by_sizes alike (dims_in rank dims)
 
 -- a fault, or what is asked alike where something was found
-AskAlike-and_then : {A : Type 0} (found : Result A Fault) (f g : A → Result Asked Fault) → ((x : A) → AskAlike (f x) (g x))
-    → AskAlike (and_then found f) (and_then found g)
+AskAlike-and_then : {A : Type 0} (found : Result A Located) (f g : A → Result Asked Located)
+    → ((x : A) → AskAlike (unlocated (f x)) (unlocated (g x))) → AskAlike (unlocated (and_then found f)) (unlocated (and_then found g))
 AskAlike-and_then (Ok x) f g alike = alike x
-AskAlike-and_then (Err fault) f g alike = refl
+AskAlike-and_then (Err found) f g alike = refl
 
 module _ (f : Fields) (profile : Profile) (workers block : ℕ) (names : List (List ℕ)) where
   AskAlike-tree_asked : (ts us : List Contents) → HaveSameDims ts us
-      → AskAlike (tree_asked f profile workers block (record { names = names; tensors = ts }))
-      (tree_asked f profile workers block (record { names = names; tensors = us }))
+      → AskAlike (unlocated (tree_asked f profile workers block (record { names = names; tensors = ts })))
+      (unlocated (tree_asked f profile workers block (record { names = names; tensors = us })))
   AskAlike-tree_asked ts us same =
       rw (tree_at-same profile names ts us same 0 f.expr)
-      (AskAlike-and_then (tree_at profile (record { names = names; tensors = us }) 0 f.expr) _ _
+      (AskAlike-and_then (below (field (codes "expr")) (tree_at profile (record { names = names; tensors = us }) 0 f.expr)) _ _
       (λ tree. record { workers = refl; block = refl; rank = refl; term = refl; inputs = same }))
 
-  AskAlike-named : (ts us : Option (List Contents)) → AreAlike ts us
-      → AskAlike (and_then (ok_or (option_map (λ ts. record { names = names; tensors = ts }) ts) BadTensor) (tree_asked f profile workers block))
-      (and_then (ok_or (option_map (λ us. record { names = names; tensors = us }) us) BadTensor) (tree_asked f profile workers block))
-  AskAlike-named None None alike = refl
-  AskAlike-named None (Some us) alike = absurd alike
-  AskAlike-named (Some ts) None alike = absurd alike
-  AskAlike-named (Some ts) (Some us) alike = AskAlike-tree_asked ts us alike
+  -- where there are none, the places may be others
+  AskAlike-named : (p q : List Step) (ts us : Option (List Contents)) → AreAlike ts us
+      → AskAlike (unlocated (and_then (below (field (codes "inputs"))
+      (ok_or (option_map (λ ts. record { names = names; tensors = ts }) ts) (record { fault = BadTensor; place = p })))
+      (tree_asked f profile workers block)))
+      (unlocated (and_then (below (field (codes "inputs"))
+      (ok_or (option_map (λ us. record { names = names; tensors = us }) us) (record { fault = BadTensor; place = q })))
+      (tree_asked f profile workers block)))
+  AskAlike-named p q None None alike = refl
+  AskAlike-named p q None (Some us) alike = absurd alike
+  AskAlike-named p q (Some ts) None alike = absurd alike
+  AskAlike-named p q (Some ts) (Some us) alike = AskAlike-tree_asked ts us alike
 
 module _ (vs ws : List ℤ) (long : length vs ≡ length ws) where
   AskAlike-inputs : (f : Fields) (profile : Profile) (workers block : ℕ)
-      → AskAlike (inputs_asked (framed_in vs) f profile workers block) (inputs_asked (framed_in ws) f profile workers block)
-  AskAlike-inputs f profile workers block = by_members (as_object f.inputs)
+      → AskAlike (unlocated (inputs_asked (frame_inputs vs) f profile workers block))
+      (unlocated (inputs_asked (frame_inputs ws) f profile workers block))
+  AskAlike-inputs f profile workers block =
+      by_members (as_object f.inputs) (option_map_or (bad_framed profile.rank vs) (as_object f.inputs) [])
+      (option_map_or (bad_framed profile.rank ws) (as_object f.inputs) [])
     where
-      named : List ℤ → Option Members → Option Named
-      named values ms =
-          option_and_then (λ ms. option_map (λ ts. record { names = names_in ms; tensors = ts }) (framed_tensors profile.rank values ms)) ms
+      read : List ℤ → List Step → Option Members → Result Named Located
+      read values place ms =
+          ok_or (option_and_then (λ ms. option_map (λ ts. record { names = names_in ms; tensors = ts }) (framed_tensors profile.rank values ms)) ms)
+          (record { fault = BadTensor; place = place })
 
-      by_members : (ms : Option Members)
-          → AskAlike (and_then (ok_or (named vs ms) BadTensor) (tree_asked f profile workers block))
-          (and_then (ok_or (named ws ms) BadTensor) (tree_asked f profile workers block))
-      by_members None = refl
-      by_members (Some ms) =
-          AskAlike-named f profile workers block (names_in ms) (framed_tensors profile.rank vs ms) (framed_tensors profile.rank ws ms)
+      by_members : (ms : Option Members) (p q : List Step)
+          → AskAlike (unlocated (and_then (below (field (codes "inputs")) (read vs p ms)) (tree_asked f profile workers block)))
+          (unlocated (and_then (below (field (codes "inputs")) (read ws q ms)) (tree_asked f profile workers block)))
+      by_members None p q = refl
+      by_members (Some ms) p q =
+          AskAlike-named f profile workers block (names_in ms) p q (framed_tensors profile.rank vs ms) (framed_tensors profile.rank ws ms)
           (AreAlike-framed_tensors profile.rank ms vs ws long)
 
-  AskAlike-fields : (f : Fields) → AskAlike (fields_asked (framed_in vs) f) (fields_asked (framed_in ws) f)
+  AskAlike-fields : (f : Fields) → AskAlike (unlocated (fields_asked (frame_inputs vs) f)) (unlocated (fields_asked (frame_inputs ws) f))
   AskAlike-fields f =
-      AskAlike-and_then (ok_or (profile_in f) BadVersion) (workers_asked (framed_in vs) f) (workers_asked (framed_in ws) f)
-      (λ p. AskAlike-and_then (ok_or (within 1 p.workers f.workers) BadWorkers) (block_asked (framed_in vs) f p) (block_asked (framed_in ws) f p)
-      (λ workers. AskAlike-and_then (ok_or (within 1 greatest_block f.block) BadBlock)
-      (inputs_asked (framed_in vs) f p workers) (inputs_asked (framed_in ws) f p workers)
+      AskAlike-and_then (ok_or (profile_in f) (at (field (codes "version")) BadVersion))
+      (workers_asked (frame_inputs vs) f) (workers_asked (frame_inputs ws) f)
+      (λ p. AskAlike-and_then (ok_or (within 1 p.workers f.workers) (at (field (codes "workers")) BadWorkers))
+      (block_asked (frame_inputs vs) f p) (block_asked (frame_inputs ws) f p)
+      (λ workers. AskAlike-and_then (ok_or (within 1 greatest_block f.block) (at (field (codes "block")) BadBlock))
+      (inputs_asked (frame_inputs vs) f p workers) (inputs_asked (frame_inputs ws) f p workers)
       (λ block. AskAlike-inputs f p workers block)))
 
-  AskAlike-bytes : (header : List ℕ) → AskAlike (bytes_asked (framed_in vs) header) (bytes_asked (framed_in ws) header)
-  AskAlike-bytes header =
-      AskAlike-and_then (ok_or (reading header) NotJson) (data_asked (framed_in vs)) (data_asked (framed_in ws))
-      (λ d. AskAlike-and_then (ok_or (fields_of d) BadField) (fields_asked (framed_in vs)) (fields_asked (framed_in ws)) AskAlike-fields)
+  AskAlike-text : (header : List ℕ) → AskAlike (unlocated (text_asked (frame_inputs vs) header)) (unlocated (text_asked (frame_inputs ws) header))
+  AskAlike-text header =
+      AskAlike-and_then (data_of header) (data_asked (frame_inputs vs)) (data_asked (frame_inputs ws))
+      (λ d. AskAlike-and_then (ok_or (fields_of d) (here BadField)) (fields_asked (frame_inputs vs)) (fields_asked (frame_inputs ws)) AskAlike-fields)
 
   pub AskAlike-frame : (header : List ℕ) → AskAlike (request_of_frame header vs) (request_of_frame header ws)
-  AskAlike-frame header = rw long (by_length (nat_lt most_bytes (length header) || nat_lt most_values (length ws)))
+  AskAlike-frame header = rw long (by_length (nat_lt most_values (length ws)))
     where
       by_length : (is_long : Bool)
-          → AskAlike (if is_long then Err TooLong else bytes_asked (framed_in vs) header) (if is_long then Err TooLong else bytes_asked (framed_in ws) header)
+          → AskAlike (unlocated (if is_long then Err (here TooLong) else text_asked (frame_inputs vs) header))
+          (unlocated (if is_long then Err (here TooLong) else text_asked (frame_inputs ws) header))
       by_length true = refl
-      by_length false = AskAlike-bytes header
+      by_length false = AskAlike-text header

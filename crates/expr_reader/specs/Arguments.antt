@@ -1,11 +1,13 @@
 -- The arguments of operations: their forms, and what stands in a text for one of each.
-use Rattle.std.specs.Prelude.{ℕ, ℤ, Bool, List, [], ◌∷◌, Option, Some, None}
-use Rattle.std.specs.Prelude.{option_and_then}
-use Rattle.std.specs.Option.{option_zip}
+use Rattle.std.specs.Prelude.{ℕ, ℤ, ◌+◌, Bool, List, [], ◌∷◌, Option, Some, None}
+use Rattle.std.specs.Prelude.{Result, Ok, Err, ok_or, option_and_then}
 use Rattle.serde_json.specs.Data.{Data, Items, no_items, item}
 use Rattle.serde_json.specs.Find.{as_bool}
 use Rattle.expr_reader.specs.Fields.{within, signed_of, list_in}
 use Rattle.expr_reader.specs.Limits.{greatest_size}
+use Rattle.expr_reader.specs.Place.{Located, index, at}
+use Rattle.expr_reader.specs.Steps.{and_then, map_found}
+use Rattle.expr_reader.specs.declared.fault.Fault.TheVariants.{BadArgument}
 
 -- the forms: a whole number from 0 up, a list of these, a list of pairs of these, a list of truth
 -- values, and a whole number of the `i64` range
@@ -52,9 +54,12 @@ abbrev pub Arguments : List Form → Type 0
 Arguments [] = Unit {0}
 Arguments (f ∷ fs) = Argument f × Arguments fs
 
--- the arguments that items are, where there is one of each form and no more
-abbrev pub arguments_in : (fs : List Form) → Items → Option (Arguments fs)
-arguments_in [] no_items = Some tt
-arguments_in [] (item d ds) = None
-arguments_in (f ∷ fs) no_items = None
-arguments_in (f ∷ fs) (item d ds) = option_zip (argument_in f d) (arguments_in fs ds)
+-- the arguments that the items of an array are from an index on, or the first that is none of its
+-- form; there is one of each form, and no more
+abbrev pub arguments_at : ℕ → (fs : List Form) → Items → Result (Arguments fs) Located
+arguments_at i [] no_items = Ok tt
+arguments_at i [] (item d ds) = Err (at (index i) BadArgument)
+arguments_at i (f ∷ fs) no_items = Err (at (index i) BadArgument)
+arguments_at i (f ∷ fs) (item d ds) =
+    and_then (ok_or (argument_in f d) (at (index i) BadArgument)) (λ x.
+    map_found (λ xs. (x, xs)) (arguments_at (i + 1) fs ds))

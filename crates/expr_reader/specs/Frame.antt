@@ -1,16 +1,18 @@
 -- What a frame asks for: a header, which is a text in which each tensor is its dims alone, and the
 -- tensors' values behind it, those of one tensor after those of another, in the order of the names.
-use Rattle.std.specs.Prelude.{ℕ, ℤ, ◌||◌, nat_lt, nat_le, List, [], ◌∷◌, length, take, drop, codes}
+use Rattle.std.specs.Prelude.{ℕ, ℤ, nat_lt, nat_le, List, [], ◌∷◌, length, take, drop, codes}
 use Rattle.std.specs.Prelude.{Option, Some, None, option_map, option_and_then, Result, Err}
 use Rattle.std.specs.Prelude.{if◌then◌else◌}
+use Rattle.std.specs.Option.{option_map_or}
 use Rattle.serde_json.specs.Data.{Data, Members, no_members, member}
 use Rattle.serde_json.specs.Find.{get}
 use Rattle.tensor_ops.specs.Index.{size_of}
 use Rattle.tensor_ops.specs.Contents.{Contents}
 use Rattle.expr_reader.specs.Fields.{has_members}
-use Rattle.expr_reader.specs.Limits.{most_bytes, most_values}
-use Rattle.expr_reader.specs.Request.{Asked, bytes_asked}
-use Rattle.expr_reader.specs.Tensors.{Named, dims_in, named_by}
+use Rattle.expr_reader.specs.Limits.{most_values}
+use Rattle.expr_reader.specs.Place.{Step, field, Located, here, unlocated}
+use Rattle.expr_reader.specs.Request.{Asked, text_asked}
+use Rattle.expr_reader.specs.Tensors.{Named, dims_in, named_by, or_place}
 use Rattle.expr_reader.specs.declared.fault.Fault.{Fault}
 use Rattle.expr_reader.specs.declared.fault.Fault.TheVariants.{TooLong}
 
@@ -42,11 +44,22 @@ framed_tensors rank values (member name d ms) =
     option_and_then (λ t. option_map (λ ts. t ∷ ts)
     (framed_tensors rank (drop (length t.values) values) ms)) (framed_tensor rank values d)
 
+-- the place of the first member that is no tensor
+abbrev pub bad_framed : ℕ → List ℤ → Members → List Step
+bad_framed rank values no_members = []
+bad_framed rank values (member name d ms) =
+    option_map_or (λ t. bad_framed rank (drop (length t.values) values) ms)
+    (framed_tensor rank values d) (field name ∷ [])
+
 abbrev pub framed_in : List ℤ → ℕ → Data → Option Named
 framed_in values rank d = named_by (framed_tensors rank values) d
+
+-- the inputs of a frame, where ranks end there, or their fault
+abbrev pub frame_inputs : List ℤ → ℕ → Data → Result Named Located
+frame_inputs values rank d = or_place (bad_framed rank values) d (framed_in values rank d)
 
 -- the request of a frame, or its first fault
 abbrev pub request_of_frame : List ℕ → List ℤ → Result Asked Fault
 request_of_frame header values =
-    if nat_lt most_bytes (length header) || nat_lt most_values (length values) then Err TooLong
-    else bytes_asked (framed_in values) header
+    unlocated (if nat_lt most_values (length values) then Err (here TooLong)
+    else text_asked (frame_inputs values) header)

@@ -15,7 +15,9 @@ pub mod Fields
 pub mod Filled
 pub mod Frame
 pub mod Limits
+pub mod Located
 pub mod Node
+pub mod Place
 pub mod Profile
 pub mod Request
 pub mod Steps

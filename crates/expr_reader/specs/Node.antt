@@ -1,9 +1,9 @@
--- The tree of an expression: the term that it names, or its first fault on a walk over it. At a
--- node the walk looks at its number, its operation, how many elements stand after it, its operands
--- from the left and each wholly, its arguments, and its own checks, in this order.
-use Rattle.std.specs.Prelude.{ℕ, ◌+◌, ◌==◌, nat_le, List, Result, Err, Option}
+-- The tree of an expression: the term that it names, or the first fault on a walk over it and where
+-- it is. At a node the walk looks at its number, its operation, how many elements stand after it,
+-- its operands from the left and each wholly, its arguments, and its own checks, in this order. A
+-- node's elements count from its operation's name, which has the index 0.
+use Rattle.std.specs.Prelude.{ℕ, ◌+◌, ◌==◌, nat_le, List, Result, Err}
 use Rattle.std.specs.Prelude.{ok_or, option_map, option_and_then, if◌then◌else◌}
-use Rattle.std.specs.Option.{option_map_or}
 use Rattle.std.specs.Result.{result_map_both}
 use Rattle.serde_json.specs.Data.{Data, null, boolean, number, string, array, object, Items}
 use Rattle.serde_json.specs.Data.{no_items, item}
@@ -12,16 +12,16 @@ use Rattle.serde_json.specs.Find.{as_str}
 use Rattle.tensor_ops.specs.Contents.{Given}
 use Rattle.tensor_ops.specs.Result.{dims_of}
 use Rattle.tensor_ops.specs.Term.{Term, input, unary, binary, ternary}
-use Rattle.expr_reader.specs.Arguments.{Form, Arguments, arguments_in}
+use Rattle.expr_reader.specs.Arguments.{Form, Arguments, arguments_at}
 use Rattle.expr_reader.specs.Faults.{text_fault}
 use Rattle.expr_reader.specs.Limits.{most_nodes}
+use Rattle.expr_reader.specs.Place.{Located, index, here, at, below}
 use Rattle.expr_reader.specs.Profile.{Profile, operation_named}
 use Rattle.expr_reader.specs.Steps.{and_then}
 use Rattle.expr_reader.specs.Table.{Operation, one, two, three, arity_of}
 use Rattle.expr_reader.specs.Tensors.{Named, given, number_of}
-use Rattle.expr_reader.specs.declared.fault.Fault.{Fault}
 use Rattle.expr_reader.specs.declared.fault.Fault.TheVariants.{UnknownInput, UnknownOp, BadArity}
-use Rattle.expr_reader.specs.declared.fault.Fault.TheVariants.{BadArgument, TooLarge}
+use Rattle.expr_reader.specs.declared.fault.Fault.TheVariants.{TooLarge}
 
 -- a tree that was read: its term, and how many nodes of the text stand up to its end
 pub record Tree : Type 0 where
@@ -29,63 +29,65 @@ pub record Tree : Type 0 where
   pub end : ℕ
 
 -- what is found of a node behind n others, where it is not the 1,001st
-abbrev pub within_limit : ℕ → Result Tree Fault → Result Tree Fault
-within_limit n found = if nat_le most_nodes n then Err TooLarge else found
+abbrev pub within_limit : ℕ → Result Tree Located → Result Tree Located
+within_limit n found = if nat_le most_nodes n then Err (here TooLarge) else found
 
--- the operation that an element names
-abbrev pub operation_at : Profile → Data → Option Operation
+-- the operation that the first of a node's elements names
+abbrev pub operation_at : Profile → Data → Result Operation Located
 operation_at profile head =
-    option_and_then (λ name. operation_named name profile.operations) (as_str head)
+    ok_or (option_and_then (λ name. operation_named name profile.operations) (as_str head))
+    (at (index 0) UnknownOp)
 
 -- a name, up to this end: the input of its number
-abbrev pub input_at : Named → List ℕ → ℕ → Result Tree Fault
+abbrev pub input_at : Named → List ℕ → ℕ → Result Tree Located
 input_at named name end =
     ok_or (option_map (λ k. record { term = input k; end = end }) (number_of named.names name))
-    UnknownInput
+    (here UnknownInput)
 
 -- a term whose operands have result dims, up to this end, or the first of its own faults
-abbrev pub checked : Given → Term → ℕ → Result Tree Fault
+abbrev pub checked : Given → Term → ℕ → Result Tree Located
 checked inputs t end =
-    result_map_both (λ dims. record { term = t; end = end }) text_fault
+    result_map_both (λ dims. record { term = t; end = end }) (λ fault. here (text_fault fault))
     (dims_of inputs.rank t inputs.tensors)
 
--- what arguments of these forms make, up to this end
-abbrev pub made : Given → (fs : List Form) → Items → (Arguments fs → Term) → ℕ
-    → Result Tree Fault
-made inputs fs items make end =
-    and_then (ok_or (arguments_in fs items) BadArgument) (λ a. checked inputs (make a) end)
+-- what arguments of these forms make, the first of which has this index, up to this end
+abbrev pub made : Given → (fs : List Form) → ℕ → Items → (Arguments fs → Term) → ℕ
+    → Result Tree Located
+made inputs fs first items make end =
+    and_then (arguments_at first fs items) (λ a. checked inputs (make a) end)
 
 module _ (profile : Profile) (named : Named) where
   abbrev mutual
     -- a node behind n others: a name, or an operation by its name
-    pub node_at : ℕ → Data → Result Tree Fault
-    node_at n null = Err UnknownOp
-    node_at n (boolean b) = Err UnknownOp
-    node_at n (number x) = Err UnknownOp
-    node_at n (object ms) = Err UnknownOp
+    pub node_at : ℕ → Data → Result Tree Located
+    node_at n null = Err (here UnknownOp)
+    node_at n (boolean b) = Err (here UnknownOp)
+    node_at n (number x) = Err (here UnknownOp)
+    node_at n (object ms) = Err (here UnknownOp)
     node_at n (string name) = input_at named name (n + 1)
-    node_at n (array no_items) = Err UnknownOp
+    node_at n (array no_items) = Err (here UnknownOp)
     node_at n (array (item head rest)) =
-        option_map_or (λ o. if items_len rest == arity_of o then applied n o rest else Err BadArity)
-        (operation_at profile head) (Err UnknownOp)
+        and_then (operation_at profile head) (λ o.
+        if items_len rest == arity_of o then applied n o rest else Err (here BadArity))
 
     -- its operands from the left, each wholly, then its arguments, and then its own checks
-    pub applied : ℕ → Operation → Items → Result Tree Fault
+    pub applied : ℕ → Operation → Items → Result Tree Located
     applied n (one forms make) (item a rest) =
-        and_then (within_limit (n + 1) (node_at (n + 1) a)) (λ x.
-        made (given profile.rank named) forms rest (λ args. unary (make args) x.term) x.end)
+        and_then (below (index 1) (within_limit (n + 1) (node_at (n + 1) a))) (λ x.
+        made (given profile.rank named) forms 2 rest (λ args. unary (make args) x.term) x.end)
     applied n (two forms make) (item a (item b rest)) =
-        and_then (within_limit (n + 1) (node_at (n + 1) a)) (λ x.
-        and_then (within_limit x.end (node_at x.end b)) (λ y.
-        made (given profile.rank named) forms rest (λ args. binary (make args) x.term y.term) y.end))
+        and_then (below (index 1) (within_limit (n + 1) (node_at (n + 1) a))) (λ x.
+        and_then (below (index 2) (within_limit x.end (node_at x.end b))) (λ y.
+        made (given profile.rank named) forms 3 rest
+        (λ args. binary (make args) x.term y.term) y.end))
     applied n (three forms make) (item a (item b (item c rest))) =
-        and_then (within_limit (n + 1) (node_at (n + 1) a)) (λ x.
-        and_then (within_limit x.end (node_at x.end b)) (λ y.
-        and_then (within_limit y.end (node_at y.end c)) (λ z.
-        made (given profile.rank named) forms rest
+        and_then (below (index 1) (within_limit (n + 1) (node_at (n + 1) a))) (λ x.
+        and_then (below (index 2) (within_limit x.end (node_at x.end b))) (λ y.
+        and_then (below (index 3) (within_limit y.end (node_at y.end c))) (λ z.
+        made (given profile.rank named) forms 4 rest
         (λ args. ternary (make args) x.term y.term z.term) z.end)))
-    applied n o rest = Err BadArity
+    applied n o rest = Err (here BadArity)
 
   -- a tree behind n nodes
-  abbrev pub tree_at : ℕ → Data → Result Tree Fault
+  abbrev pub tree_at : ℕ → Data → Result Tree Located
   tree_at n d = within_limit n (node_at n d)

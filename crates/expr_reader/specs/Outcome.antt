@@ -1,5 +1,7 @@
 -- What a part of the text reads as.
-use Rattle.std.specs.Prelude.{◌≡◌, ◌⊎◌, Option, Some, None, Result, MatchResult}
+use Rattle.std.specs.Prelude.{◌≡◌, ◌⊎◌, ℕ, List, Option, Some, None}
+use Rattle.std.specs.Prelude.{Result, Ok, Err, MatchResult}
+use Rattle.expr_reader.specs.Place.{Step, Located, way_of}
 use Rattle.expr_reader.specs.declared.fault.Fault.{Fault}
 use Rattle.expr_reader.specs.declared.fault.Fault.TheVariants.{NoMemory}
 
@@ -8,3 +10,15 @@ abbrev pub IsReadOr : {A B : Type 0} → Fault → (A → B) → Option B → Re
 IsReadOr fault shows there r =
     MatchResult r (λ x. there ≡ Some (shows x))
     (λ e. (e ≡ NoMemory) ⊎ ((e ≡ fault) × (there ≡ None)))
+
+-- what is said, as `shows` sees it, or the fault that is said, at this place, or want of memory
+abbrev pub IsToldAt : {A B : Type 0} → (A → B) → Result B Located → List Step → Result A Fault
+    → Type 0
+IsToldAt shows says place r =
+    MatchResult r (λ x. says ≡ Ok (shows x))
+    (λ e. (e ≡ NoMemory) ⊎ (says ≡ Err (record { fault = e; place = place })))
+
+-- the same, with the way to the place
+abbrev pub IsReadAt : {A B : Type 0} → (A → B) → Result B Located → List ℕ → Result A Fault
+    → Type 0
+IsReadAt shows says indices r = IsToldAt shows says (way_of indices) r

@@ -1,5 +1,5 @@
--- What a text asks for, or its first fault.
-use Rattle.std.specs.Prelude.{ℕ, List, length, nat_lt, Option, Result, Ok, Err, ok_or}
+-- What a text asks for, or its first fault and where it is.
+use Rattle.std.specs.Prelude.{ℕ, List, length, codes, nat_lt, Option, Result, Ok, Err, ok_or}
 use Rattle.std.specs.Prelude.{option_and_then, if◌then◌else◌}
 use Rattle.serde_json.specs.Data.{Data}
 use Rattle.tensor_ops.specs.Contents.{Contents}
@@ -7,13 +7,13 @@ use Rattle.tensor_ops.specs.Term.{Term}
 use Rattle.expr_reader.specs.Fields.{Fields, fields_of, reading, whole_of, within}
 use Rattle.expr_reader.specs.Limits.{most_bytes, greatest_block}
 use Rattle.expr_reader.specs.Node.{tree_at}
+use Rattle.expr_reader.specs.Place.{field, Located, here, at, below, unlocated}
 use Rattle.expr_reader.specs.Profile.{Profile, profile_of}
 use Rattle.expr_reader.specs.Steps.{and_then}
-use Rattle.expr_reader.specs.Tensors.{Named, named_in}
+use Rattle.expr_reader.specs.Tensors.{Named, inputs_in}
 use Rattle.expr_reader.specs.declared.fault.Fault.{Fault}
 use Rattle.expr_reader.specs.declared.fault.Fault.TheVariants.{TooLong, NotJson, BadField}
 use Rattle.expr_reader.specs.declared.fault.Fault.TheVariants.{BadVersion, BadWorkers, BadBlock}
-use Rattle.expr_reader.specs.declared.fault.Fault.TheVariants.{BadTensor}
 
 -- what a text asks for; results have at most this rank
 pub record Asked : Type 0 where
@@ -28,9 +28,9 @@ abbrev pub profile_in : Fields → Option Profile
 profile_in f = option_and_then profile_of (whole_of f.version)
 
 -- what the tree asks for, over inputs
-abbrev pub tree_asked : Fields → Profile → ℕ → ℕ → Named → Result Asked Fault
+abbrev pub tree_asked : Fields → Profile → ℕ → ℕ → Named → Result Asked Located
 tree_asked f p workers block named =
-    and_then (tree_at p named 0 f.expr) (λ tree. Ok (record {
+    and_then (below (field (codes "expr")) (tree_at p named 0 f.expr)) (λ tree. Ok (record {
       workers = workers;
       block = block;
       inputs = named.tensors;
@@ -38,34 +38,53 @@ tree_asked f p workers block named =
       term = tree.term;
     }))
 
--- what inputs are read as, where ranks end there: names and tensors
+-- what inputs are read as, where ranks end there: names and tensors, or their fault
 abbrev pub Naming : Type 0
-Naming = ℕ → Data → Option Named
+Naming = ℕ → Data → Result Named Located
 
 module _ (named : Naming) where
   -- each field is looked at where those before it have no fault
-  abbrev pub inputs_asked : Fields → Profile → ℕ → ℕ → Result Asked Fault
+  abbrev pub inputs_asked : Fields → Profile → ℕ → ℕ → Result Asked Located
   inputs_asked f p workers block =
-      and_then (ok_or (named p.rank f.inputs) BadTensor) (tree_asked f p workers block)
+      and_then (below (field (codes "inputs")) (named p.rank f.inputs))
+      (tree_asked f p workers block)
 
-  abbrev pub block_asked : Fields → Profile → ℕ → Result Asked Fault
+  abbrev pub block_asked : Fields → Profile → ℕ → Result Asked Located
   block_asked f p workers =
-      and_then (ok_or (within 1 greatest_block f.block) BadBlock) (inputs_asked f p workers)
+      and_then (ok_or (within 1 greatest_block f.block) (at (field (codes "block")) BadBlock))
+      (inputs_asked f p workers)
 
-  abbrev pub workers_asked : Fields → Profile → Result Asked Fault
+  abbrev pub workers_asked : Fields → Profile → Result Asked Located
   workers_asked f p =
-      and_then (ok_or (within 1 p.workers f.workers) BadWorkers) (block_asked f p)
+      and_then (ok_or (within 1 p.workers f.workers) (at (field (codes "workers")) BadWorkers))
+      (block_asked f p)
 
-  abbrev pub fields_asked : Fields → Result Asked Fault
-  fields_asked f = and_then (ok_or (profile_in f) BadVersion) (workers_asked f)
+  abbrev pub fields_asked : Fields → Result Asked Located
+  fields_asked f =
+      and_then (ok_or (profile_in f) (at (field (codes "version")) BadVersion)) (workers_asked f)
 
-  abbrev pub data_asked : Data → Result Asked Fault
-  data_asked d = and_then (ok_or (fields_of d) BadField) fields_asked
+  abbrev pub data_asked : Data → Result Asked Located
+  data_asked d = and_then (ok_or (fields_of d) (here BadField)) fields_asked
 
-  abbrev pub bytes_asked : List ℕ → Result Asked Fault
-  bytes_asked text = and_then (ok_or (reading text) NotJson) data_asked
+-- what data asks for with another expression in the place of its own
+abbrev pub part_asked : Data → Data → Result Asked Located
+part_asked d expr =
+    and_then (ok_or (fields_of d) (here BadField))
+    (λ f. fields_asked inputs_in (record f { expr = expr }))
+
+-- the data of a text, where it is not too long and has a reading
+abbrev pub data_of : List ℕ → Result Data Located
+data_of text =
+    if nat_lt most_bytes (length text) then Err (here TooLong)
+    else ok_or (reading text) (here NotJson)
+
+abbrev pub text_asked : Naming → List ℕ → Result Asked Located
+text_asked named text = and_then (data_of text) (data_asked named)
+
+-- the request of a text, or its first fault and where it is
+abbrev pub request_at : List ℕ → Result Asked Located
+request_at text = text_asked inputs_in text
 
 -- the request of a text, or its first fault
 abbrev pub request_of : List ℕ → Result Asked Fault
-request_of text =
-    if nat_lt most_bytes (length text) then Err TooLong else bytes_asked named_in text
+request_of text = unlocated (request_at text)

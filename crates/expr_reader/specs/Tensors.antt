@@ -1,7 +1,8 @@
 -- The inputs of a request: names and tensors.
 use Rattle.std.specs.Prelude.{ℕ, ℤ, ◌==◌, length, List, [], ◌∷◌, codes, Option, Some, None}
-use Rattle.std.specs.Prelude.{option_map, option_and_then, if◌then◌else◌}
+use Rattle.std.specs.Prelude.{option_map, option_and_then, if◌then◌else◌, Result, ok_or}
 use Rattle.std.specs.List.{position_from}
+use Rattle.std.specs.Option.{option_map_or}
 use Rattle.std.specs.Str.{bytes_eq}
 use Rattle.serde_json.specs.Data.{Data, Members, no_members, member}
 use Rattle.serde_json.specs.Find.{as_object}
@@ -10,6 +11,8 @@ use Rattle.tensor_ops.specs.Legal.{are_legal}
 use Rattle.tensor_ops.specs.Contents.{Contents, Given}
 use Rattle.expr_reader.specs.Fields.{has_members, with_member, whole_of, signed_of}
 use Rattle.expr_reader.specs.Fields.{list_in, cons_of}
+use Rattle.expr_reader.specs.Place.{Step, field, Located}
+use Rattle.expr_reader.specs.declared.fault.Fault.TheVariants.{BadTensor}
 
 -- a list of whole numbers that are legal dims
 abbrev pub dims_in : ℕ → Data → Option (List ℕ)
@@ -45,6 +48,12 @@ abbrev pub names_in : Members → List (List ℕ)
 names_in no_members = []
 names_in (member name d ms) = name ∷ names_in ms
 
+-- the place of the first member that is no tensor
+abbrev pub bad_member : ℕ → Members → List Step
+bad_member rank no_members = []
+bad_member rank (member name d ms) =
+    option_map_or (λ t. bad_member rank ms) (tensor_in rank d) (field name ∷ [])
+
 -- names and their tensors, each at the same number
 pub record Named : Type 0 where
   pub names : List (List ℕ)
@@ -60,8 +69,17 @@ named_by read d =
     option_and_then (λ ms. option_map (λ tensors. record { names = names_in ms; tensors = tensors })
     (read ms)) (as_object d)
 
+-- these, or that there are none: the place is in the object, or all that is no object
+abbrev pub or_place : (Members → List Step) → Data → Option Named → Result Named Located
+or_place place d named =
+    ok_or named (record { fault = BadTensor; place = option_map_or place (as_object d) [] })
+
 abbrev pub named_in : ℕ → Data → Option Named
 named_in rank d = named_by (tensors_in rank) d
+
+-- the inputs of a text, where ranks end there, or their fault
+abbrev pub inputs_in : ℕ → Data → Result Named Located
+inputs_in rank d = or_place (bad_member rank) d (named_in rank d)
 
 -- the number of a name
 abbrev pub number_of : List (List ℕ) → List ℕ → Option ℕ

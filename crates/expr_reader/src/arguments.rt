@@ -1,105 +1,160 @@
 //! The arguments of operations.
 
-ghost use Rattle.std.specs.Prelude.{◌≡◌, length, option_map};
+ghost use Rattle.std.specs.Prelude.{◌≡◌, ◌≤◌, [], length, ok_or, OnOk};
 ghost use Rattle.serde_json.specs.View.{view, items_view};
 ghost use Rattle.tensor_ops.specs.Term.{unary, binary};
 ghost use Rattle.tensor_ops.specs.Tree.{term_of};
-ghost use Rattle.expr_reader.specs.Arguments.{arguments_in};
-ghost use Rattle.expr_reader.specs.Outcome.{IsReadOr};
+ghost use Rattle.expr_reader.specs.Arguments.{arguments_at};
+ghost use Rattle.expr_reader.specs.Fields.{list_in};
+ghost use Rattle.expr_reader.specs.Outcome.{IsReadAt};
+ghost use Rattle.expr_reader.specs.Place.{index, at};
+ghost use Rattle.expr_reader.specs.Steps.{map_found};
 ghost use Rattle.expr_reader.specs.Version.{forms_of, unary_of, forms_of_two, binary_of};
 
 use crate::fault::Fault;
-use crate::items::{read_item, read_list};
+use crate::items::{Item, read_list};
 use crate::operation::{Binary, Unary};
+use crate::place::Indices;
 use serde_json::Value;
 use std::alloc::Global;
 use tensor_ops::Expr;
 
-/// An operation on one operand, with the arguments behind it.
+/// An operation on one operand, with the arguments behind it: the elements from index 2 on.
 pub(crate) fn with_arguments(
     alloc: Global,
     operation: Unary,
     operand: Box<Expr>,
     arguments: &[Value],
+    way: &mut Indices,
 ) -> Result<Expr, Fault>
-    requires { length arguments.now ≡ length (forms_of operation) }
-    ensures { IsReadOr Fault.BadArgument term_of
-        (option_map (λ a. unary (unary_of operation a) (term_of operand.value))
-        (arguments_in (forms_of operation) (items_view arguments.now))) result }
+    requires arguments { length arguments.now ≡ length (forms_of operation) }
+    requires start { way.old.items ≡ [] }
+    ensures expr { IsReadAt term_of
+        (map_found (λ a. unary (unary_of operation a) (term_of operand.value))
+        (arguments_at 2 (forms_of operation) (items_view arguments.now)))
+        way.new.items result }
+    ensures kept { OnOk result (way.new.items ≡ []) }
+    ensures short { length way.new.items ≤ 1 }
 {
     match operation {
         Unary::Each(scalar) => Ok(Expr::each(scalar, operand)),
         Unary::Constant => {
-            let value = read_item(&arguments[0], Fault::BadArgument)?;
+            let value = item_at(&arguments[0], 2, way)?;
             Ok(Expr::Constant(operand, value))
         }
         Unary::Broadcast => {
-            let counts = read_list(alloc, &arguments[0], Fault::BadArgument)?;
+            let counts = list_at(alloc, &arguments[0], 2, way)?;
             Ok(Expr::Broadcast(operand, counts))
         }
         Unary::Slice => {
-            let offsets = read_list(alloc, &arguments[0], Fault::BadArgument)?;
-            let extents = read_list(alloc, &arguments[1], Fault::BadArgument)?;
+            let offsets = list_at(alloc, &arguments[0], 2, way)?;
+            let extents = list_at(alloc, &arguments[1], 3, way)?;
             Ok(Expr::Slice(operand, offsets, extents))
         }
         Unary::Shuffle => {
-            let order = read_list(alloc, &arguments[0], Fault::BadArgument)?;
+            let order = list_at(alloc, &arguments[0], 2, way)?;
             Ok(Expr::Shuffle(operand, order))
         }
         Unary::Reshape => {
-            let sizes = read_list(alloc, &arguments[0], Fault::BadArgument)?;
+            let sizes = list_at(alloc, &arguments[0], 2, way)?;
             Ok(Expr::Reshape(operand, sizes))
         }
         Unary::Chip => {
-            let offset = read_item(&arguments[0], Fault::BadArgument)?;
-            let axis = read_item(&arguments[1], Fault::BadArgument)?;
+            let offset = item_at(&arguments[0], 2, way)?;
+            let axis = item_at(&arguments[1], 3, way)?;
             Ok(Expr::Chip(operand, offset, axis))
         }
         Unary::Reverse => {
-            let flags = read_list(alloc, &arguments[0], Fault::BadArgument)?;
+            let flags = list_at(alloc, &arguments[0], 2, way)?;
             Ok(Expr::Reverse(operand, flags))
         }
         Unary::Stride => {
-            let steps = read_list(alloc, &arguments[0], Fault::BadArgument)?;
+            let steps = list_at(alloc, &arguments[0], 2, way)?;
             Ok(Expr::Stride(operand, steps))
         }
         Unary::Pad => {
-            let pairs = read_list(alloc, &arguments[0], Fault::BadArgument)?;
+            let pairs = list_at(alloc, &arguments[0], 2, way)?;
             Ok(Expr::Pad(operand, pairs))
         }
         Unary::Reduce(reducer) => {
-            let axes = read_list(alloc, &arguments[0], Fault::BadArgument)?;
+            let axes = list_at(alloc, &arguments[0], 2, way)?;
             Ok(Expr::reduction(reducer, operand, axes))
         }
     }
 }
 
-/// An operation on two operands, with the arguments behind them.
+/// An operation on two operands, with the arguments behind them: the elements from index 3 on.
 pub(crate) fn both_with_arguments(
     alloc: Global,
     operation: Binary,
     left: Box<Expr>,
     right: Box<Expr>,
     arguments: &[Value],
+    way: &mut Indices,
 ) -> Result<Expr, Fault>
-    requires { length arguments.now ≡ length (forms_of_two operation) }
-    ensures { IsReadOr Fault.BadArgument term_of
-        (option_map (λ a. binary (binary_of operation a) (term_of left.value) (term_of right.value))
-        (arguments_in (forms_of_two operation) (items_view arguments.now))) result }
+    requires arguments { length arguments.now ≡ length (forms_of_two operation) }
+    requires start { way.old.items ≡ [] }
+    ensures expr { IsReadAt term_of
+        (map_found (λ a. binary (binary_of operation a) (term_of left.value) (term_of right.value))
+        (arguments_at 3 (forms_of_two operation) (items_view arguments.now)))
+        way.new.items result }
+    ensures kept { OnOk result (way.new.items ≡ []) }
+    ensures short { length way.new.items ≤ 1 }
 {
     match operation {
         Binary::Pairwise(scalar) => Ok(Expr::pairwise(scalar, left, right)),
         Binary::Concat => {
-            let axis = read_item(&arguments[0], Fault::BadArgument)?;
+            let axis = item_at(&arguments[0], 3, way)?;
             Ok(Expr::Concat(left, right, axis))
         }
         Binary::Contract => {
-            let pairs = read_list(alloc, &arguments[0], Fault::BadArgument)?;
+            let pairs = list_at(alloc, &arguments[0], 3, way)?;
             Ok(Expr::Contract(left, right, pairs))
         }
         Binary::Convolve => {
-            let axes = read_list(alloc, &arguments[0], Fault::BadArgument)?;
+            let axes = list_at(alloc, &arguments[0], 3, way)?;
             Ok(Expr::Convolve(left, right, axes))
+        }
+    }
+}
+
+/// An argument that is one item, at this index among the elements.
+fn item_at<T: Item>(argument: &Value, position: u8, way: &mut Indices) -> Result<T, Fault>
+    requires { way.old.items ≡ [] }
+    ensures item { IsReadAt (λ item. item)
+        (ok_or (T.item_in (view argument.now)) (at (index position) Fault.BadArgument))
+        way.new.items result }
+    ensures kept { OnOk result (way.new.items ≡ []) }
+    ensures short { length way.new.items ≤ 1 }
+{
+    match T::of(argument) {
+        Some(item) => Ok(item),
+        None => {
+            way.push(position);
+            Err(Fault::BadArgument)
+        }
+    }
+}
+
+/// An argument that is a list of items, at this index among the elements.
+fn list_at<T: Item>(
+    alloc: Global,
+    argument: &Value,
+    position: u8,
+    way: &mut Indices,
+) -> Result<Vec<T>, Fault>
+    requires { way.old.items ≡ [] }
+    ensures items { IsReadAt (λ items. items.items)
+        (ok_or (list_in T.item_in (view argument.now)) (at (index position) Fault.BadArgument))
+        way.new.items result }
+    ensures kept { OnOk result (way.new.items ≡ []) }
+    ensures short { length way.new.items ≤ 1 }
+{
+    match read_list(alloc, argument, Fault::BadArgument) {
+        Ok(items) => Ok(items),
+        Err(fault) => {
+            way.push(position);
+            Err(fault)
         }
     }
 }

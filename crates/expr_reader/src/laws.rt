@@ -1,21 +1,25 @@
 //! What a frame has to do with a text.
 
-ghost use Rattle.std.specs.Prelude.{◌≡◌, ℕ, ℤ, List, length, Some, None, FitsSigned};
+ghost use Rattle.std.specs.Prelude.{◌≡◌, ℕ, ℤ, List, length, Some, None, Err, FitsSigned};
 ghost use Rattle.std.specs.Int.{w64};
 ghost use Rattle.std.specs.List.{All};
 ghost use Rattle.serde_json.specs.Data.{Data};
 ghost use Rattle.expr_reader.specs.Alike.{AskAlike};
 ghost use Rattle.expr_reader.specs.Filled.{filled_text};
-ghost use Rattle.expr_reader.specs.Frame.{framed_in, request_of_frame};
+ghost use Rattle.expr_reader.specs.Frame.{frame_inputs, request_of_frame};
+ghost use Rattle.expr_reader.specs.Place.{here, unlocated};
 ghost use Rattle.expr_reader.specs.Request.{data_asked};
-ghost use Rattle.expr_reader.specs.Tensors.{named_in};
+ghost use Rattle.expr_reader.specs.Tensors.{inputs_in};
+
+use crate::fault::Fault;
 
 /// A frame asks for what the text does that has each tensor's values in its `data`, and it has the
 /// same fault.
 pub fn frames_mean_texts()
     ensures { (header text : Data) (values : List ℤ) → All (FitsSigned w64) values
         → filled_text values header ≡ Some text
-        → data_asked (framed_in values) header ≡ data_asked named_in text }
+        → unlocated (data_asked (frame_inputs values) header)
+        ≡ unlocated (data_asked inputs_in text) }
 {}
 
 /// Where there is no such text, since the header isn't a request's or the values are more or fewer
@@ -23,7 +27,8 @@ pub fn frames_mean_texts()
 /// or one that comes before it.
 pub fn unfilled_headers_have_faults()
     ensures { (header : Data) (values : List ℤ) → filled_text values header ≡ None
-        → data_asked (framed_in values) header ≡ data_asked (λ rank inputs. None) header }
+        → unlocated (data_asked (frame_inputs values) header)
+        ≡ unlocated (data_asked (λ rank inputs. Err (here Fault.BadTensor)) header) }
 {}
 
 /// The values of a frame decide nothing but the values of its inputs: with others, of the same

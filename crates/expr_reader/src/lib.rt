@@ -1,6 +1,6 @@
 //! Request texts: one JSON value (RFC 8259) that names tensors and an expression over them. A text
-//! is read in one pass, and answered by its request or by its first fault. The tensors' values may
-//! also stand behind the text, as numbers: the two are a frame.
+//! is read in one pass, and answered by its request or by its first fault, which has a place in it.
+//! The tensors' values may also stand behind the text, as numbers: the two are a frame.
 #![tactic(auto)]
 
 mod arguments;
@@ -11,6 +11,7 @@ mod laws;
 mod named;
 mod node;
 mod operation;
+mod place;
 mod request;
 mod tensors;
 mod text;
@@ -19,9 +20,10 @@ mod version;
 
 pub use fault::Fault;
 pub use laws::{frames_ask_alike, frames_mean_texts, unfilled_headers_have_faults};
-pub use request::Request;
+pub use place::{Indices, Located, MAX_DEPTH, Place};
+pub use request::{Parsed, Request};
 pub use tensor_ops::{Dims, Expr, Inputs, Tensor};
-pub use text::{read_frame, read_request};
+pub use text::{locate, parse_request, read_frame, read_part, read_request};
 
 /// The most bytes of a text.
 pub const MAX_TEXT: usize = 16_777_216;

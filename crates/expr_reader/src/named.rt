@@ -1,18 +1,21 @@
 //! The inputs of a request, by name and by number.
 
-ghost use Rattle.std.specs.Prelude.{◌≡◌, ◌+◌, ◌≤◌, ◌⊎◌, ℕ, List, length, MatchResult, Some, None};
-ghost use Rattle.std.specs.Prelude.{OnOk, IfErr, if◌then◌else◌};
+ghost use Rattle.std.specs.Prelude.{◌≡◌, ◌+◌, ◌≤◌, ◌⊎◌, ℕ, List, length, MatchResult, Some, None, Ok, Err};
+ghost use Rattle.std.specs.Prelude.{OnOk, IfErr, if◌then◌else◌, ◌∷◌, codes};
 ghost use Rattle.std.specs.Option.{option_or};
 ghost use Rattle.std.specs.Str.{bytes_eq};
 ghost use Rattle.serde_json.specs.View.{view, members_view};
-ghost use Rattle.expr_reader.specs.Behind.{behind, tensors_by, naming_by};
+ghost use Rattle.expr_reader.specs.Behind.{behind, tensors_by, place_by, naming_by};
 ghost use Rattle.expr_reader.specs.Counted.{member_count};
 ghost use Rattle.expr_reader.specs.Limits.{most_bytes};
+ghost use Rattle.expr_reader.specs.Located.{steps_under};
 ghost use Rattle.expr_reader.specs.Numbers.{number_in};
+ghost use Rattle.expr_reader.specs.Place.{field, below};
 ghost use Rattle.expr_reader.specs.Shown.{IsNamed};
 ghost use Rattle.expr_reader.specs.Tensors.{Named, names_in, number_of};
 
 use crate::fault::Fault;
+use crate::place::Place;
 use crate::values::Values;
 use serde_json::{Map, Value};
 use std::alloc::Global;
@@ -34,17 +37,23 @@ impl<'v> NamedInputs<'v> {
         value: &'v Value,
         rank: u32,
         values: Values<'_>,
+        place: &mut Place<'v>,
     ) -> Result<NamedInputs<'v>, Fault>
         requires rank { (rank ≡ 6) ⊎ (rank ≡ 8) }
         requires few { member_count (view value.now) ≤ most_bytes + 1 }
         ensures { MatchResult result
-            (λ found. (n : Named) × (naming_by (behind values.entry) rank (view value.now) ≡ Some n)
+            (λ found. (n : Named) × (naming_by (behind values.entry) rank (view value.now) ≡ Ok n)
             × IsNamed found rank n)
-            (λ fault. (fault ≡ Fault.NoMemory) ⊎ ((fault ≡ Fault.BadTensor)
-            × (naming_by (behind values.entry) rank (view value.now) ≡ None))) }
+            (λ fault. (fault ≡ Fault.NoMemory)
+            ⊎ (below (field (codes "inputs"))
+            (naming_by (behind values.entry) rank (view value.now))
+            ≡ Err (record { fault = fault; place = steps_under place.new }))) }
     {
-        let members = value.as_object().ok_or(Fault::BadTensor)?;
-        read_members(alloc, members, rank, values)
+        let Some(members) = value.as_object() else {
+            *place = Place::Field("inputs");
+            return Err(Fault::BadTensor);
+        };
+        read_members(alloc, members, rank, values, place)
     }
 
     /// The number of a name.
@@ -63,6 +72,7 @@ fn read_members<'v>(
     members: &'v Map<String, Value>,
     rank: u32,
     values: Values<'_>,
+    place: &mut Place<'v>,
 ) -> Result<NamedInputs<'v>, Fault>
     requires rank { (rank ≡ 6) ⊎ (rank ≡ 8) }
     requires few { length members.now.entries ≤ most_bytes + 1 }
@@ -71,13 +81,21 @@ fn read_members<'v>(
         × (tensors_by (behind values.entry) rank (members_view members.now.entries) ≡ Some n.tensors)
         × (n.names ≡ names_in (members_view members.now.entries)) × IsNamed found rank n)
         (λ fault. (fault ≡ Fault.NoMemory) ⊎ ((fault ≡ Fault.BadTensor)
-        × (tensors_by (behind values.entry) rank (members_view members.now.entries) ≡ None))) }
+        × (tensors_by (behind values.entry) rank (members_view members.now.entries) ≡ None)
+        × (steps_under place.new ≡ field (codes "inputs")
+        ∷ place_by (behind values.entry) rank (members_view members.now.entries)))) }
 {
     let mut numbers = BTreeMap::new(alloc);
     let mut tensors = Vec::new(alloc);
     let mut left = values;
     for (name, value) in members {
-        let tensor = left.first_tensor(alloc, value, rank as usize)?;
+        let tensor = match left.first_tensor(alloc, value, rank as usize) {
+            Ok(tensor) => tensor,
+            Err(fault) => {
+                *place = Place::Input(name.as_str());
+                return Err(fault);
+            }
+        };
         left = left.without(&tensor);
         let number = tensors.len() as u32;
         put_first(&mut numbers, name.as_str(), number)?;
@@ -86,6 +104,7 @@ fn read_members<'v>(
         };
     }
     if !left.is_end() {
+        *place = Place::Field("inputs");
         return Err(Fault::BadTensor);
     }
     let inputs = Inputs::with_rank(tensors, rank);

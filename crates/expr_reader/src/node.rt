@@ -1,13 +1,16 @@
 //! The tree of an expression, read on one walk.
 
-ghost use Rattle.std.specs.Prelude.{◌≡◌, ℕ, Ok, length, map, IsTrue, MatchResult, option_map};
-ghost use Rattle.std.specs.Prelude.{option_and_then};
-ghost use Rattle.serde_json.specs.Find.{get_item};
+ghost use Rattle.std.specs.Prelude.{◌≡◌, ◌+◌, ◌-◌, ◌<◌, ◌≤◌, ℕ, [], length, map, IsTrue, Ok};
+ghost use Rattle.std.specs.Prelude.{Result, MatchResult, IfOk, OnOk, OnErr};
 ghost use Rattle.serde_json.specs.View.{view, items_view};
+ghost use Rattle.tensor_ops.specs.Contents.{Given};
 ghost use Rattle.tensor_ops.specs.Result.{operand_dims};
 ghost use Rattle.tensor_ops.specs.Term.{has_inputs, unary, binary, ternary, select};
 ghost use Rattle.tensor_ops.specs.Tree.{term_of};
-ghost use Rattle.expr_reader.specs.Node.{operation_at, input_at, made, checked, tree_at};
+ghost use Rattle.expr_reader.specs.Limits.{most_nodes};
+ghost use Rattle.expr_reader.specs.Node.{Tree, operation_at, input_at, made, checked, tree_at};
+ghost use Rattle.expr_reader.specs.Outcome.{IsReadAt};
+ghost use Rattle.expr_reader.specs.Place.{Located, index, below};
 ghost use Rattle.expr_reader.specs.Shown.{IsNamed};
 ghost use Rattle.expr_reader.specs.Tensors.{Named, given};
 ghost use Rattle.expr_reader.specs.Version.{profile_under, operation_under, forms_of, unary_of};
@@ -19,6 +22,7 @@ use crate::arguments::{both_with_arguments, with_arguments};
 use crate::fault::Fault;
 use crate::named::NamedInputs;
 use crate::operation::{Binary, Operation, Unary};
+use crate::place::Indices;
 use crate::version::Version;
 use serde_json::Value;
 use std::alloc::Global;
@@ -34,18 +38,23 @@ pub(crate) struct Subtree {
 
 /// The expression of a tree that has `before` nodes of the text before it. A node is looked at
 /// before its operands, these from the left and each wholly, and then come its arguments and its
-/// own checks.
+/// own checks. The way to a fault is made only where there is one, from its end up.
 pub(crate) fn read_node(
     alloc: Global,
     version: Version,
     named: &NamedInputs<'_>,
     value: &Value,
     before: u64,
+    way: &mut Indices,
 ) -> Result<Subtree, Fault>
-    requires { (n : Named) × IsNamed named.now (profile_under version).rank n }
-    ensures { (n : Named) → IsNamed named.now (profile_under version).rank n
+    requires named { (n : Named) × IsNamed named.now (profile_under version).rank n }
+    requires start { way.old.items ≡ [] }
+    ensures tree { (n : Named) → IsNamed named.now (profile_under version).rank n
         → IsFound (given (profile_under version).rank n)
-        (tree_at (profile_under version) n before (view value.now)) result }
+        (tree_at (profile_under version) n before (view value.now)) way.new.items result }
+    ensures end { IfOk result (λ tree. before < tree.end) }
+    ensures kept { OnOk result (way.new.items ≡ []) }
+    ensures short { length way.new.items ≤ most_nodes - before }
 {
     if before >= MAX_NODES {
         return Err(Fault::TooLarge);
@@ -53,24 +62,29 @@ pub(crate) fn read_node(
     match value {
         Value::String(name) => read_name(named, name.as_str(), before + 1),
         Value::Array(list) => {
-            let Some(operation) = operation_of(version, list) else {
+            let Some(head) = list.first() else {
                 return Err(Fault::UnknownOp);
             };
+            let operation = operation_of(version, head, way)?;
             if list.len() != 1 + operation.arity() {
                 return Err(Fault::BadArity);
             }
-            let first = read_node(alloc, version, named, &list[1], before + 1)?;
+            let first = read_node(alloc, version, named, &list[1], before + 1, way);
+            let first = behind(1, first, way)?;
             match operation {
                 Operation::One(unary) => {
-                    read_unary(alloc, &named.inputs, unary, first, &list[2..])
+                    read_unary(alloc, &named.inputs, unary, first, &list[2..], way)
                 }
                 Operation::Two(binary) => {
-                    let second = read_node(alloc, version, named, &list[2], first.end)?;
-                    read_binary(alloc, &named.inputs, binary, first, second, &list[3..])
+                    let second = read_node(alloc, version, named, &list[2], first.end, way);
+                    let second = behind(2, second, way)?;
+                    read_binary(alloc, &named.inputs, binary, first, second, &list[3..], way)
                 }
                 Operation::Select => {
-                    let second = read_node(alloc, version, named, &list[2], first.end)?;
-                    let third = read_node(alloc, version, named, &list[3], second.end)?;
+                    let second = read_node(alloc, version, named, &list[2], first.end, way);
+                    let second = behind(2, second, way)?;
+                    let third = read_node(alloc, version, named, &list[3], second.end, way);
+                    let third = behind(3, third, way)?;
                     read_ternary(alloc, &named.inputs, first, second, third)
                 }
             }
@@ -79,11 +93,32 @@ pub(crate) fn read_node(
     }
 }
 
+/// What was found at this index among the elements of a node: the way to its fault has that step
+/// before those that it has.
+fn behind(position: u8, found: Result<Subtree, Fault>, way: &mut Indices) -> Result<Subtree, Fault>
+    requires room { OnErr found (length way.old.items < most_nodes) }
+    ensures same { result ≡ found }
+    ensures found { (inputs : Given) (says : Result Tree Located)
+        → IsFound inputs says way.old.items found
+        → IsFound inputs (below (index position) says) way.new.items result }
+    ensures kept { OnOk result (way.new.items ≡ way.old.items) }
+    ensures longer { length way.new.items ≤ length way.old.items + 1 }
+{
+    match found {
+        Ok(tree) => Ok(tree),
+        Err(fault) => {
+            way.push(position);
+            Err(fault)
+        }
+    }
+}
+
 /// The input of a name, which is a node up to this end.
 fn read_name(named: &NamedInputs<'_>, name: &str, end: u64) -> Result<Subtree, Fault>
     requires { (rank : ℕ) × (n : Named) × IsNamed named.now rank n }
-    ensures { (rank : ℕ) (n : Named) → IsNamed named.now rank n
-        → IsFound (given rank n) (input_at n name.now end) result }
+    ensures tree { (rank : ℕ) (n : Named) → IsNamed named.now rank n
+        → IsFound (given rank n) (input_at n name.now end) [] result }
+    ensures end { IfOk result (λ tree. tree.end ≡ end) }
 {
     let Some(number) = named.number(name) else {
         return Err(Fault::UnknownInput);
@@ -95,14 +130,21 @@ fn read_name(named: &NamedInputs<'_>, name: &str, end: u64) -> Result<Subtree, F
     })
 }
 
-/// The operation that the first element names.
-fn operation_of(version: Version, list: &Vec<Value>) -> Option<Operation>
-    ensures { option_map operation_under result
-        ≡ option_and_then (operation_at (profile_under version))
-        (get_item 0 (items_view list.now.items)) }
+/// The operation that the first of a node's elements names.
+fn operation_of(version: Version, head: &Value, way: &mut Indices) -> Result<Operation, Fault>
+    requires { way.old.items ≡ [] }
+    ensures operation { IsReadAt operation_under
+        (operation_at (profile_under version) (view head.now)) way.new.items result }
+    ensures kept { OnOk result (way.new.items ≡ []) }
+    ensures short { length way.new.items ≤ 1 }
 {
-    let name = list.first()?.as_str()?;
-    version.operation(name)
+    if let Some(name) = head.as_str()
+        && let Some(operation) = version.operation(name)
+    {
+        return Ok(operation);
+    }
+    way.push(0);
+    Err(Fault::UnknownOp)
 }
 
 /// The operation on an operand that was read, where its arguments and its checks have no fault.
@@ -112,15 +154,21 @@ fn read_unary(
     operation: Unary,
     operand: Subtree,
     arguments: &[Value],
+    way: &mut Indices,
 ) -> Result<Subtree, Fault>
     requires arguments { length arguments.now ≡ length (forms_of operation) }
     requires operand { IsShaped inputs.now operand }
-    ensures { IsFound inputs.now
-        (made inputs.now (forms_of operation) (items_view arguments.now)
-        (λ a. unary (unary_of operation a) (term_of operand.expr)) operand.end) result }
+    requires start { way.old.items ≡ [] }
+    ensures tree { IsFound inputs.now
+        (made inputs.now (forms_of operation) 2 (items_view arguments.now)
+        (λ a. unary (unary_of operation a) (term_of operand.expr)) operand.end)
+        way.new.items result }
+    ensures end { IfOk result (λ tree. tree.end ≡ operand.end) }
+    ensures kept { OnOk result (way.new.items ≡ []) }
+    ensures short { length way.new.items ≤ 1 }
 {
     let first = boxed(alloc, operand.expr)?;
-    let expr = with_arguments(alloc, operation, first, arguments)?;
+    let expr = with_arguments(alloc, operation, first, arguments, way)?;
     checked(inputs, expr, &[operand.dims], operand.end)
 }
 
@@ -132,18 +180,23 @@ fn read_binary(
     left: Subtree,
     right: Subtree,
     arguments: &[Value],
+    way: &mut Indices,
 ) -> Result<Subtree, Fault>
     requires arguments { length arguments.now ≡ length (forms_of_two operation) }
     requires left { IsShaped inputs.now left }
     requires right { IsShaped inputs.now right }
-    ensures { IsFound inputs.now
-        (made inputs.now (forms_of_two operation) (items_view arguments.now)
+    requires start { way.old.items ≡ [] }
+    ensures tree { IsFound inputs.now
+        (made inputs.now (forms_of_two operation) 3 (items_view arguments.now)
         (λ a. binary (binary_of operation a) (term_of left.expr) (term_of right.expr)) right.end)
-        result }
+        way.new.items result }
+    ensures end { IfOk result (λ tree. tree.end ≡ right.end) }
+    ensures kept { OnOk result (way.new.items ≡ []) }
+    ensures short { length way.new.items ≤ 1 }
 {
     let first = boxed(alloc, left.expr)?;
     let second = boxed(alloc, right.expr)?;
-    let expr = both_with_arguments(alloc, operation, first, second, arguments)?;
+    let expr = both_with_arguments(alloc, operation, first, second, arguments, way)?;
     checked(inputs, expr, &[left.dims, right.dims], right.end)
 }
 
@@ -158,10 +211,11 @@ fn read_ternary(
     requires choice { IsShaped inputs.now choice }
     requires left { IsShaped inputs.now left }
     requires right { IsShaped inputs.now right }
-    ensures { IsFound inputs.now
+    ensures tree { IsFound inputs.now
         (checked inputs.now
         (ternary select (term_of choice.expr) (term_of left.expr) (term_of right.expr))
-        right.end) result }
+        right.end) [] result }
+    ensures end { IfOk result (λ tree. tree.end ≡ right.end) }
 {
     let first = boxed(alloc, choice.expr)?;
     let second = boxed(alloc, left.expr)?;
@@ -190,7 +244,8 @@ fn checked(inputs: &Inputs, expr: Expr, operands: &[Dims], end: u64) -> Result<S
     requires inputs { IsTrue (has_inputs (term_of expr) (length inputs.now.tensors)) }
     requires operands { operand_dims inputs.now.rank (term_of expr) inputs.now.tensors
         ≡ map Ok operands.now }
-    ensures { IsFound inputs.now (checked inputs.now (term_of expr) end) result }
+    ensures tree { IsFound inputs.now (checked inputs.now (term_of expr) end) [] result }
+    ensures end { IfOk result (λ tree. tree.end ≡ end) }
 {
     let dims = expr.dims_over(inputs.rank_limit() as usize, inputs, operands)?;
     Ok(Subtree { expr, dims, end })

@@ -1,12 +1,23 @@
-//! The request that a text names.
+//! The value of a text, and the request that it names.
 
 ghost use Rattle.std.specs.Prelude.{◌+◌, ◌^◌, ◌<◌, ◌≤◌, IsTrue, IsOk, length};
+ghost use Rattle.serde_json.specs.View.{view};
 ghost use Rattle.tensor_ops.specs.Result.{dims_of};
 ghost use Rattle.tensor_ops.specs.Term.{has_inputs, nodes_of};
 ghost use Rattle.tensor_ops.specs.Tree.{term_of};
-ghost use Rattle.expr_reader.specs.Limits.{most_workers};
+ghost use Rattle.expr_reader.specs.Counted.{member_count};
+ghost use Rattle.expr_reader.specs.Limits.{most_bytes, most_workers};
 
+use serde_json::Value;
 use tensor_ops::{Expr, Inputs};
+
+/// The JSON value of a text that is not too long.
+#[derive(Drop)]
+pub struct Parsed {
+    /// The value.
+    pub value: Value,
+    pub ghost few: { member_count (view value) ≤ most_bytes + 1 },
+}
 
 /// What a text asks for: an expression over inputs, and how to spread its work. The workers and the
 /// block change nothing in the answer.

@@ -1,25 +1,35 @@
-//! From the bytes of a text to its request, and from those of a header and its values.
+//! From the bytes of a text to its request, or to its fault and where that is; and from those of a
+//! header and its values.
 
-ghost use Rattle.std.specs.Prelude.{◌≡◌, ◌+◌, ◌<◌, ◌≤◌, ◌⊎◌, Ok, Err, MatchResult, option_map};
-ghost use Rattle.std.specs.Prelude.{length, IsErrOf};
+ghost use Rattle.std.specs.Prelude.{◌≡◌, ◌+◌, ◌<◌, ◌≤◌, ◌⊎◌, [], Ok, Err, IsOk, MatchResult, MatchOption};
+ghost use Rattle.std.specs.Prelude.{length, IsErrOf, option_map, codes};
 ghost use Rattle.serde_json.specs.View.{view};
 ghost use Rattle.expr_reader.specs.Asked.{asked_under};
 ghost use Rattle.expr_reader.specs.Behind.{behind, naming_by};
 ghost use Rattle.expr_reader.specs.Counted.{member_count};
 ghost use Rattle.expr_reader.specs.Frame.{request_of_frame};
 ghost use Rattle.expr_reader.specs.Limits.{most_bytes, most_values};
-ghost use Rattle.expr_reader.specs.Request.{profile_in, fields_asked, bytes_asked, request_of};
-ghost use Rattle.expr_reader.specs.Shown.{fields_under};
+ghost use Rattle.expr_reader.specs.Located.{steps_under, located_under};
+ghost use Rattle.expr_reader.specs.Node.{tree_at};
+ghost use Rattle.expr_reader.specs.Outcome.{IsToldAt};
+ghost use Rattle.expr_reader.specs.Place.{field, here, below, unlocated};
+ghost use Rattle.expr_reader.specs.Request.{profile_in, fields_asked, data_asked, part_asked};
+ghost use Rattle.expr_reader.specs.Request.{data_of, request_of};
+ghost use Rattle.expr_reader.specs.Shown.{fields_under, IsNamed};
+ghost use Rattle.expr_reader.specs.Tensors.{Named, inputs_in, given};
 ghost use Rattle.expr_reader.specs.Version.{profile_under};
+ghost use Rattle.expr_reader.specs.Walked.{IsShaped, tree_under};
 
 use crate::fault::Fault;
 use crate::fields::{Fields, parse, within};
 use crate::named::NamedInputs;
-use crate::node::read_node;
-use crate::request::Request;
+use crate::node::{Subtree, read_node};
+use crate::place::{Indices, Located, Place};
+use crate::request::{Parsed, Request};
 use crate::values::Values;
 use crate::version::Version;
 use crate::{MAX_BLOCK, MAX_TEXT, MAX_VALUES};
+use serde_json::Value;
 use std::alloc::Global;
 
 /// Reads a request text, in one pass over its JSON value (RFC 8259). Want of memory is answered
@@ -36,10 +46,9 @@ pub fn read_request(alloc: Global, text: &[u8]) -> Result<Request, Fault>
         (λ fault. (fault ≡ Fault.NoMemory) ⊎ (request_of text.now ≡ Err fault)) }
     ensures too_long { most_bytes < length text.now → IsErrOf result Fault.TooLong }
 {
-    if text.len() > MAX_TEXT {
-        return Err(Fault::TooLong);
-    }
-    read_text(alloc, text, Values::InText)
+    let parsed = parse_request(alloc, text)?;
+    let mut place = Place::Whole;
+    read_value(alloc, &parsed.value, Values::InText, &mut place)
 }
 
 /// Reads a frame: a header, which is a request text in which each tensor is an object of `dims`
@@ -57,53 +66,134 @@ pub fn read_frame(alloc: Global, header: &[u8], values: &[i64]) -> Result<Reques
     ensures long_header { most_bytes < length header.now → IsErrOf result Fault.TooLong }
     ensures many_values { most_values < length values.now → IsErrOf result Fault.TooLong }
 {
-    if header.len() > MAX_TEXT || values.len() > MAX_VALUES {
+    if values.len() > MAX_VALUES {
         return Err(Fault::TooLong);
     }
-    read_text(alloc, header, Values::Behind(values))
+    let parsed = parse_request(alloc, header)?;
+    let mut place = Place::Whole;
+    read_value(alloc, &parsed.value, Values::Behind(values), &mut place)
 }
 
-/// The request of a text that is not too long.
-fn read_text(alloc: Global, text: &[u8], values: Values<'_>) -> Result<Request, Fault>
-    requires { length text.now ≤ most_bytes }
-    ensures { MatchResult result
-        (λ request. bytes_asked (naming_by (behind values.entry)) text.now ≡ Ok (asked_under request))
-        (λ fault. (fault ≡ Fault.NoMemory)
-        ⊎ (bytes_asked (naming_by (behind values.entry)) text.now ≡ Err fault)) }
+/// The JSON value of a text. A fault of it is one of the whole text.
+pub fn parse_request(alloc: Global, text: &[u8]) -> Result<Parsed, Fault>
+    ensures value { MatchResult result
+        (λ parsed. data_of text.now ≡ Ok (view parsed.value))
+        (λ fault. (fault ≡ Fault.NoMemory) ⊎ (data_of text.now ≡ Err (here fault))) }
+    ensures too_long { most_bytes < length text.now → IsErrOf result Fault.TooLong }
 {
+    if text.len() > MAX_TEXT {
+        return Err(Fault::TooLong);
+    }
     let value = parse(alloc, text)?;
-    let Some(fields) = Fields::of(&value) else {
+    Ok(Parsed { value })
+}
+
+/// The fault of a request, and where it is. A text's is that which [`read_request`] answers: the
+/// walk is the same.
+pub fn locate(alloc: Global, parsed: &Parsed) -> Option<Located<'_>>
+    ensures { MatchOption result (IsOk (data_asked inputs_in (view parsed.now.value)))
+        (λ found. (found.fault ≡ Fault.NoMemory)
+        ⊎ (data_asked inputs_in (view parsed.now.value) ≡ Err (located_under found))) }
+{
+    let mut place = Place::Whole;
+    match read_value(alloc, &parsed.value, Values::InText, &mut place) {
+        Ok(_) => None,
+        Err(fault) => Some(Located { fault, place }),
+    }
+}
+
+/// What a request asks for with another expression in the place of its own.
+pub fn read_part(alloc: Global, parsed: &Parsed, expr: &Value) -> Result<Request, Fault>
+    ensures { MatchResult result
+        (λ request. part_asked (view parsed.now.value) (view expr.now) ≡ Ok (asked_under request))
+        (λ fault. (fault ≡ Fault.NoMemory)
+        ⊎ (unlocated (part_asked (view parsed.now.value) (view expr.now)) ≡ Err fault)) }
+{
+    let Some(fields) = Fields::of(&parsed.value) else {
         return Err(Fault::BadField);
     };
-    read_fields(alloc, &fields, values)
+    let fields = Fields { expr, ..fields };
+    let mut place = Place::Whole;
+    read_fields(alloc, &fields, Values::InText, &mut place)
+}
+
+/// The request of a value.
+fn read_value<'v>(
+    alloc: Global,
+    value: &'v Value,
+    values: Values<'_>,
+    place: &mut Place<'v>,
+) -> Result<Request, Fault>
+    requires few { member_count (view value.now) ≤ most_bytes + 1 }
+    requires start { steps_under place.old ≡ [] }
+    ensures { IsToldAt asked_under
+        (data_asked (naming_by (behind values.entry)) (view value.now)) (steps_under place.new) result }
+{
+    let Some(fields) = Fields::of(value) else {
+        return Err(Fault::BadField);
+    };
+    read_fields(alloc, &fields, values, place)
 }
 
 /// The request of fields.
-fn read_fields(alloc: Global, fields: &Fields<'_>, values: Values<'_>) -> Result<Request, Fault>
+fn read_fields<'v>(
+    alloc: Global,
+    fields: &Fields<'v>,
+    values: Values<'_>,
+    place: &mut Place<'v>,
+) -> Result<Request, Fault>
     requires { member_count (view fields.now.inputs.now) ≤ most_bytes + 1 }
-    ensures { MatchResult result
-        (λ request. fields_asked (naming_by (behind values.entry)) (fields_under fields.now)
-        ≡ Ok (asked_under request))
-        (λ fault. (fault ≡ Fault.NoMemory)
-        ⊎ (fields_asked (naming_by (behind values.entry)) (fields_under fields.now) ≡ Err fault)) }
+    ensures { IsToldAt asked_under
+        (fields_asked (naming_by (behind values.entry)) (fields_under fields.now))
+        (steps_under place.new) result }
 {
     let Some(version) = version_of(fields) else {
+        *place = Place::Field("version");
         return Err(Fault::BadVersion);
     };
     let Some(workers) = within(fields.workers, 1, version.workers()) else {
+        *place = Place::Field("workers");
         return Err(Fault::BadWorkers);
     };
     let Some(block) = within(fields.block, 1, MAX_BLOCK) else {
+        *place = Place::Field("block");
         return Err(Fault::BadBlock);
     };
-    let named = NamedInputs::read(alloc, fields.inputs, version.rank(), values)?;
-    let tree = read_node(alloc, version, &named, fields.expr, 0)?;
+    let named = NamedInputs::read(alloc, fields.inputs, version.rank(), values, place)?;
+    let tree = read_tree(alloc, version, &named, fields.expr, place)?;
     Ok(Request {
         workers: workers as u32,
         block,
         inputs: named.inputs,
         expr: tree.expr,
     })
+}
+
+/// The expression of a request.
+fn read_tree(
+    alloc: Global,
+    version: Version,
+    named: &NamedInputs<'_>,
+    expr: &Value,
+    place: &mut Place<'_>,
+) -> Result<Subtree, Fault>
+    requires { (n : Named) × IsNamed named.now (profile_under version).rank n }
+    ensures { (n : Named) → IsNamed named.now (profile_under version).rank n
+        → MatchResult result
+        (λ tree. (tree_at (profile_under version) n 0 (view expr.now) ≡ Ok (tree_under tree))
+        × IsShaped (given (profile_under version).rank n) tree)
+        (λ fault. (fault ≡ Fault.NoMemory)
+        ⊎ (below (field (codes "expr")) (tree_at (profile_under version) n 0 (view expr.now))
+        ≡ Err (record { fault = fault; place = steps_under place.new }))) }
+{
+    let mut way = Indices::new();
+    match read_node(alloc, version, named, expr, 0, &mut way) {
+        Ok(tree) => Ok(tree),
+        Err(fault) => {
+            *place = Place::Node(way);
+            Err(fault)
+        }
+    }
 }
 
 /// The version that the fields name.

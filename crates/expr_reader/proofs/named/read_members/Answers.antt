@@ -8,7 +8,7 @@ use Rattle.serde_json.specs.View.{members_view}
 use Rattle.expr_reader.specs.Behind.{behind}
 use Rattle.expr_reader.specs.Numbers.{number_in}
 use Rattle.expr_reader.specs.Tensors.{names_in}
-use Rattle.expr_reader.proofs.Members.{length-turn, after-turn, number-turn, length-names_in, HaveRank-append, tensors_by-end}
+use Rattle.expr_reader.proofs.Members.{length-turn, after-turn, after-no_tensor, place-turn, place-no_tensor, place_by-end, number-turn, length-names_in, HaveRank-append, tensors_by-end}
 use Rattle.expr_reader.proofs.Numbers.{option_or-None}
 use Rattle.expr_reader.proofs.named.read_members.Goals as goal
 
@@ -16,23 +16,25 @@ pub loop-name-preserved : goal.loop-name-preserved
 loop-name-preserved c =
     let first = c.in-Some.ensures.steps in
     let done = c.loop-name.tensors.items in
-    let items : c.push.new.self.items ≡ done ++ c.in_ok-tensor.tensor ∷ [] = c.in-Ok.ensures.items in
+    let items : c.push.new.self.items ≡ done ++ c.in-Ok.tensor ∷ [] = c.in-Ok-push.ensures.items in
     let count : c.len-number.result ≡ length done = omega (arith, c.loop-name.tensors.ok.0) in
     let long : length c.push.new.self.items ≡ length done + 1 =
-    omega (arith, c.in-Ok.ensures.len, c.push.new.self.ok.0, c.loop-name.tensors.ok.0) in
+    omega (arith, c.in-Ok-push.ensures.len, c.push.new.self.ok.0, c.loop-name.tensors.ok.0) in
     let put = λ (q : List ℕ).
     let at : number_in c.put_first.new.numbers q
     ≡ option_or (number_in c.loop-name.numbers q) (if bytes_eq q (string_bytes c.in-Some.name.now) then Some (length done) else None) =
-    rw (← c.as_str.ensures.value, ← count) (c.in_ok-put_first.ensures.ok q) in at in (
+    rw (← c.as_str-in-loop-name.ensures.value, ← count) (c.in_ok-put_first.ensures.ok q) in at in (
       tt,
       tt,
-      rw (items, length-turn c.args.rank _ _ _ _ first done c.in_ok-tensor.tensor) c.loop-name.invariant.2,
-      rw items (HaveRank-append c.args.rank done c.in_ok-tensor.tensor c.loop-name.invariant.3 c.in_ok-tensor.ensures.rank),
-      rw (items, c.without-left.ensures, after-turn c.args.rank _ _ _ _ first (behind c.loop-name.left) done c.in_ok-tensor.tensor c.in_ok-tensor.ensures.tensor)
+      rw (items, length-turn c.args.rank _ _ _ _ first done c.in-Ok.tensor) c.loop-name.invariant.2,
+      rw items (HaveRank-append c.args.rank done c.in-Ok.tensor c.loop-name.invariant.3 c.in-Ok.ensures.rank),
+      rw (items, c.without-left.ensures, after-turn c.args.rank _ _ _ _ first (behind c.loop-name.left) done c.in-Ok.tensor c.in-Ok.ensures.tensor)
           c.loop-name.invariant.4,
+      rw (c.without-left.ensures, place-turn c.args.rank _ _ _ _ first (behind c.loop-name.left) c.in-Ok.tensor c.in-Ok.ensures.tensor)
+          c.loop-name.invariant.5,
       λ q. rw long
           (number-turn c.args.rank _ _ _ _ first (number_in c.loop-name.numbers q) (number_in c.put_first.new.numbers q) (length done) q (put q)
-          ∙ c.loop-name.invariant.5 q),
+          ∙ c.loop-name.invariant.6 q),
     )
 
 pub returns : goal.returns
@@ -52,6 +54,6 @@ returns c =
         inputs = ap (λ ts. record { tensors = ts; rank = c.with_rank-inputs.result.rank }) c.with_rank-inputs.ensures.tensors
             ∙ ap (λ r. record { tensors = c.loop-name.tensors.items; rank = r }) c.with_rank-inputs.ensures.limit;
         aligned = length-names_in c.args.members.now.entries ∙ omega (arith, count);
-        numbers = λ q. sym (option_or-None (number_in c.loop-name.numbers q)) ∙ rw end at (c.loop-name.invariant.5 q);
+        numbers = λ q. sym (option_or-None (number_in c.loop-name.numbers q)) ∙ rw end at (c.loop-name.invariant.6 q);
       },
     )

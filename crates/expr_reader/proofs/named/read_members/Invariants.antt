@@ -1,4 +1,5 @@
--- The tensors and numbers so far, before those of the rest, are those of all members. None of the
+-- The tensors and numbers so far, before those of the rest, are those of all members; the first that
+-- is no tensor is one of the rest. None of the
 -- tensors has a higher rank.
 use Rattle.std.proofs.Common.{◌≡◌, ◌+◌, ℕ, List, length}
 use Rattle.std.specs.List.{position_from}
@@ -6,7 +7,7 @@ use Rattle.std.specs.Option.{option_or}
 use Rattle.std.specs.Str.{bytes_eq}
 use Rattle.serde_json.specs.View.{members_view}
 use Rattle.tensor_ops.specs.Contents.{HaveRank}
-use Rattle.expr_reader.specs.Behind.{behind, tensors_by}
+use Rattle.expr_reader.specs.Behind.{behind, tensors_by, place_by}
 use Rattle.expr_reader.specs.Numbers.{number_in}
 use Rattle.expr_reader.specs.Tensors.{names_in, number_of}
 use Rattle.expr_reader.proofs.Lists.{after}
@@ -20,6 +21,8 @@ invariant-loop-name l =
     × HaveRank l.rank l.tensors.items
     × (after l.tensors.items (tensors_by (behind l.left) l.rank (members_view l.name-iterator))
     ≡ tensors_by (behind l.fn.values) l.rank (members_view l.fn.members.entries))
+    × (place_by (behind l.left) l.rank (members_view l.name-iterator)
+    ≡ place_by (behind l.fn.values) l.rank (members_view l.fn.members.entries))
     × ((name : List ℕ) → option_or (number_in l.numbers name)
     (position_from (λ other. bytes_eq name other) (length l.tensors.items) (names_in (members_view l.name-iterator)))
     ≡ number_of (names_in (members_view l.fn.members.entries)) name)

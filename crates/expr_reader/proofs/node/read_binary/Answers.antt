@@ -2,29 +2,32 @@ use Rattle.std.proofs.Common.{refl, length}
 use Rattle.serde_json.specs.View.{items_view}
 use Rattle.tensor_ops.specs.Term.{binary}
 use Rattle.tensor_ops.specs.Tree.{term_of}
-use Rattle.expr_reader.specs.Arguments.{arguments_in}
+use Rattle.expr_reader.specs.Arguments.{arguments_at}
 use Rattle.expr_reader.specs.Version.{forms_of_two, binary_of}
 use Rattle.expr_reader.proofs.Walk.{made-found, made-binary}
 use Rattle.expr_reader.proofs.node.read_binary.Goals as goal
 
 pub checked-requires-clause-inputs : goal.checked-requires-clause-inputs
 checked-requires-clause-inputs c =
-    let read = rw (c.in_ok-first.ensures, c.in_ok-second.ensures) at c.in_ok-expr.ensures in
+    let read = rw (c.in_ok-first.ensures, c.in_ok-second.ensures) at c.in_ok-expr.ensures.expr in
     let both = made-binary (binary_of c.args.operation) (term_of c.args.left.expr) (term_of c.args.right.expr) (term_of c.in_ok-expr.expr)
-    (arguments_in (forms_of_two c.args.operation) (items_view c.args.arguments.now)) read in
+    (arguments_at 3 (forms_of_two c.args.operation) (items_view c.args.arguments.now)) read in
     rw (both.1 (length c.args.inputs.now.tensors)) (rw (c.requires.left.inputs_known, c.requires.right.inputs_known) refl)
 
 pub checked-requires-clause-operands : goal.checked-requires-clause-operands
 checked-requires-clause-operands c =
-    let read = rw (c.in_ok-first.ensures, c.in_ok-second.ensures) at c.in_ok-expr.ensures in
+    let read = rw (c.in_ok-first.ensures, c.in_ok-second.ensures) at c.in_ok-expr.ensures.expr in
     let both = made-binary (binary_of c.args.operation) (term_of c.args.left.expr) (term_of c.args.right.expr) (term_of c.in_ok-expr.expr)
-    (arguments_in (forms_of_two c.args.operation) (items_view c.args.arguments.now)) read in
+    (arguments_at 3 (forms_of_two c.args.operation) (items_view c.args.arguments.now)) read in
     rw (both.0 c.args.inputs.now.rank c.args.inputs.now.tensors, c.requires.left.dims_known, c.requires.right.dims_known) refl
 
-pub returns : goal.returns
-returns c =
-    let read = rw (c.in_ok-first.ensures, c.in_ok-second.ensures) at c.in_ok-expr.ensures in
-    rw (made-found c.args.inputs.now (forms_of_two c.args.operation) (items_view c.args.arguments.now)
-    (λ a. binary (binary_of c.args.operation a) (term_of c.args.left.expr) (term_of c.args.right.expr))
-    c.args.right.end (term_of c.in_ok-expr.expr) read)
-    c.checked.ensures
+pub returns-clause-tree : goal.returns-clause-tree
+returns-clause-tree c =
+    let read = rw (c.in_ok-first.ensures, c.in_ok-second.ensures) at c.in_ok-expr.ensures.expr in
+    rw (
+      made-found c.args.inputs.now (forms_of_two c.args.operation) 3 (items_view c.args.arguments.now)
+          (λ a. binary (binary_of c.args.operation a) (term_of c.args.left.expr) (term_of c.args.right.expr))
+          c.args.right.end (term_of c.in_ok-expr.expr) read,
+      c.in_ok-expr.ensures.kept,
+    )
+    c.checked.ensures.tree

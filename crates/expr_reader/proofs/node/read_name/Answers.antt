@@ -12,8 +12,8 @@ get-requires c =
     number_of-below n.names c.args.name.now c.in-Some.number (sym (c.in-Some.ensures rank n named)) in
     rw named.inputs (omega (arith, below, named.aligned))
 
-pub returns : goal.returns
-returns c = λ rank n named.
+pub returns-clause-tree : goal.returns-clause-tree
+returns-clause-tree c = λ rank n named.
     let below : c.in-Some.number < length n.names =
     number_of-below n.names c.args.name.now c.in-Some.number (sym (c.in-Some.ensures rank n named)) in (
       rw (← c.in-Some.ensures rank n named) refl,
@@ -23,5 +23,5 @@ returns c = λ rank n named.
       },
     )
 
-pub returns-in_default : goal.returns-in_default
-returns-in_default c = λ rank n named. inr (rw (← c.number.ensures rank n named, c.in_default.is) refl)
+pub returns-in_default-clause-tree : goal.returns-in_default-clause-tree
+returns-in_default-clause-tree c = λ rank n named. inr (rw (← c.number.ensures rank n named, c.in_default.is) refl)

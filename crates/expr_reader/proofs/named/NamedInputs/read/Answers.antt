@@ -6,6 +6,6 @@ use Rattle.expr_reader.proofs.named.NamedInputs.read.Goals as goal
 
 pub read_members-requires-clause-few : goal.read_members-requires-clause-few
 read_members-requires-clause-few c =
-    let found = rw c.in_ok-members.ensures.ok_part at c.as_object.ensures in
-    let entries = c.in_ok-members.members.now.entries in
+    let found = c.in-Some.ensures in
+    let entries = c.in-Some.members.now.entries in
     omega (arith, members_len-as_object (view c.args.value.now) (members_view entries) (sym found), members_len-members_view entries, c.requires.few)

@@ -1,0 +1,200 @@
+//! Why a movement, a pad or a reshape of an operand fails.
+
+use crate::sizes::{places, sizes_in, why_axes, why_illegal};
+use serde_json::Value;
+use std::alloc::{AllocError, Global};
+
+/// That an argument has not an item for each dimension, where that is so.
+fn why_count(
+    alloc: Global,
+    name: &str,
+    count: usize,
+    dims: &[u64],
+) -> Result<Option<String>, AllocError> {
+    if count == dims.len() {
+        return Ok(None);
+    }
+    let reason = format!(in alloc;
+        "{name} has an item for each dimension of {dims:?}, {} in all, and this has {count}",
+        dims.len()
+    )?;
+    Ok(Some(reason))
+}
+
+/// The same of an argument that is a list.
+pub(crate) fn why_lengths(
+    alloc: Global,
+    name: &str,
+    argument: &Value,
+    dims: &[u64],
+) -> Result<Option<String>, AllocError> {
+    match argument.as_array() {
+        Some(list) => why_count(alloc, name, list.len(), dims),
+        None => Ok(None),
+    }
+}
+
+/// That an item of an argument is 0, where that is so.
+fn why_zero(alloc: Global, name: &str, sizes: &[u64]) -> Result<Option<String>, AllocError> {
+    match sizes.iter().position(|size| *size == 0) {
+        Some(index) => {
+            let reason = format!(in alloc;
+                "each item of {name} is at least 1, and that at index {index} is 0"
+            )?;
+            Ok(Some(reason))
+        }
+        None => Ok(None),
+    }
+}
+
+/// Why counts are none of these dims.
+pub(crate) fn why_broadcast(
+    alloc: Global,
+    version: u64,
+    counts: &[u64],
+    dims: &[u64],
+) -> Result<Option<String>, AllocError> {
+    if let Some(reason) = why_count(alloc, "COUNTS", counts.len(), dims)? {
+        return Ok(Some(reason));
+    }
+    if let Some(reason) = why_zero(alloc, "COUNTS", counts)? {
+        return Ok(Some(reason));
+    }
+    let mut sizes = Vec::new(alloc);
+    for (count, size) in counts.iter().zip(dims.iter()) {
+        sizes.push(count.saturating_mul(*size))?;
+    }
+    why_illegal(alloc, version, sizes.as_slice())
+}
+
+/// Why sizes are none that these dims can have.
+pub(crate) fn why_reshape(
+    alloc: Global,
+    version: u64,
+    sizes: &[u64],
+    dims: &[u64],
+) -> Result<Option<String>, AllocError> {
+    if let Some(reason) = why_illegal(alloc, version, sizes)? {
+        return Ok(Some(reason));
+    }
+    let reason = format!(in alloc;
+        "SIZES {sizes:?} have {} places, and the dims {dims:?} of the operand {}",
+        places(sizes),
+        places(dims)
+    )?;
+    Ok(Some(reason))
+}
+
+/// Why an order is none of the axes of these dims.
+pub(crate) fn why_order(
+    alloc: Global,
+    order: &[u64],
+    dims: &[u64],
+) -> Result<Option<String>, AllocError> {
+    match why_count(alloc, "ORDER", order.len(), dims)? {
+        Some(reason) => Ok(Some(reason)),
+        None => why_axes(alloc, "ORDER", order, dims),
+    }
+}
+
+/// Why steps are none of these dims.
+pub(crate) fn why_steps(
+    alloc: Global,
+    steps: &[u64],
+    dims: &[u64],
+) -> Result<Option<String>, AllocError> {
+    match why_count(alloc, "STEPS", steps.len(), dims)? {
+        Some(reason) => Ok(Some(reason)),
+        None => why_zero(alloc, "STEPS", steps),
+    }
+}
+
+/// Why an offset and an axis are none of these dims.
+pub(crate) fn why_chip(
+    alloc: Global,
+    arguments: &[Value],
+    dims: &[u64],
+) -> Result<Option<String>, AllocError> {
+    let [offset, axis] = arguments else {
+        return Ok(None);
+    };
+    let (Some(offset), Some(axis)) = (offset.as_u64(), axis.as_u64()) else {
+        return Ok(None);
+    };
+    let reason = match dims.get(axis as usize) {
+        Some(size) => format!(in alloc;
+            "OFFSET is below the dimension {size} of AXIS {axis}, and this is {offset}"
+        )?,
+        None => format!(in alloc; "AXIS {axis} is no axis of the dims {dims:?}")?,
+    };
+    Ok(Some(reason))
+}
+
+/// Why offsets and extents are none of these dims.
+pub(crate) fn why_slice(
+    alloc: Global,
+    arguments: &[Value],
+    dims: &[u64],
+) -> Result<Option<String>, AllocError> {
+    let [offsets, extents] = arguments else {
+        return Ok(None);
+    };
+    let (Some(offsets), Some(extents)) = (sizes_in(alloc, offsets)?, sizes_in(alloc, extents)?)
+    else {
+        return Ok(None);
+    };
+    if let Some(reason) = why_count(alloc, "OFFSETS", offsets.len(), dims)? {
+        return Ok(Some(reason));
+    }
+    if let Some(reason) = why_count(alloc, "EXTENTS", extents.len(), dims)? {
+        return Ok(Some(reason));
+    }
+    why_outside(alloc, offsets.as_slice(), extents.as_slice(), dims)
+}
+
+/// The first axis along which an offset and an extent go past the dimension.
+fn why_outside(
+    alloc: Global,
+    offsets: &[u64],
+    extents: &[u64],
+    dims: &[u64],
+) -> Result<Option<String>, AllocError> {
+    for (axis, ((offset, extent), size)) in offsets
+        .iter()
+        .zip(extents.iter())
+        .zip(dims.iter())
+        .enumerate()
+    {
+        if offset.saturating_add(*extent) > *size {
+            let reason = format!(in alloc;
+                "the offset {offset} and the extent {extent} go past the dimension {size} of axis {axis}"
+            )?;
+            return Ok(Some(reason));
+        }
+    }
+    Ok(None)
+}
+
+/// Why pairs are none of these dims.
+pub(crate) fn why_pad(
+    alloc: Global,
+    version: u64,
+    argument: &Value,
+    dims: &[u64],
+) -> Result<Option<String>, AllocError> {
+    let Some(list) = argument.as_array() else {
+        return Ok(None);
+    };
+    if let Some(reason) = why_count(alloc, "PAIRS", list.len(), dims)? {
+        return Ok(Some(reason));
+    }
+    let mut sizes = Vec::new(alloc);
+    for (pair, size) in list.iter().zip(dims.iter()) {
+        let mut padded = *size;
+        if let Some(pair) = sizes_in(alloc, pair)? {
+            padded = padded.saturating_add(crate::sizes::total(pair.as_slice()));
+        }
+        sizes.push(padded)?;
+    }
+    why_illegal(alloc, version, sizes.as_slice())
+}

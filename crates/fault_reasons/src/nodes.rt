@@ -1,0 +1,183 @@
+//! Why a node is no expression.
+
+use crate::found::{found, quoted};
+use crate::operations::{Form, Operation, known_operation};
+use serde_json::Value;
+use std::alloc::{AllocError, Global};
+
+/// How many names are repeated at most.
+const MOST_NAMES: usize = 5;
+
+/// Why a name is no input's.
+pub(crate) fn why_input(
+    alloc: Global,
+    inputs: Option<&Value>,
+    value: &Value,
+) -> Result<String, AllocError> {
+    let name = quoted(alloc, value.as_str().unwrap_or(""))?;
+    let names = names(alloc, inputs)?;
+    format!(in alloc; "no input is named {name}: {names}")
+}
+
+/// The names that inputs have, or the first ones.
+fn names(alloc: Global, inputs: Option<&Value>) -> Result<String, AllocError> {
+    let Some(members) = inputs.and_then(Value::as_object) else {
+        return format!(in alloc; "there are none");
+    };
+    if members.is_empty() {
+        return format!(in alloc; "there are none");
+    }
+    let mut names = String::from_str(alloc, "the inputs are")?;
+    let mut shown = 0usize;
+    for (name, _) in members {
+        if shown >= MOST_NAMES {
+            names.push_str(" and others")?;
+            break;
+        }
+        names.push_str(if shown == 0 { " " } else { ", " })?;
+        names.push_str(quoted(alloc, name.as_str())?.as_str())?;
+        shown = shown.saturating_add(1);
+    }
+    Ok(names)
+}
+
+/// Why the first element of a node is no operation of a version.
+pub(crate) fn why_operation(
+    alloc: Global,
+    version: u64,
+    value: &Value,
+) -> Result<String, AllocError> {
+    let Some(name) = value.as_str() else {
+        let what = found(alloc, value)?;
+        return format!(in alloc;
+            "a node begins with the name of its operation, and not with {what}"
+        );
+    };
+    let shown = quoted(alloc, name)?;
+    if known_operation(name).is_some() {
+        return format!(in alloc;
+            "{shown} is an operation of version 2, and this is a text of version {version}"
+        );
+    }
+    match near(name) {
+        Some(near) => {
+            format!(in alloc; "no operation of version {version} is named {shown}: {near}")
+        }
+        None => format!(in alloc; "no operation of version {version} is named {shown}"),
+    }
+}
+
+/// What somebody may mean who writes a name that is no operation's.
+fn near(name: &str) -> Option<&'static str> {
+    match name {
+        "max" => Some("\"maximum\" is over axes, and \"cwise_max\" of two tensors"),
+        "min" => Some("\"minimum\" is over axes, and \"cwise_min\" of two tensors"),
+        "const" | "fill" => Some("\"constant\" has one value at each place"),
+        "matmul" | "dot" => Some("\"contract\" sums products over pairs of axes"),
+        "transpose" | "permute" => Some("\"shuffle\" puts the axes into an order"),
+        "product" => Some("\"prod\" is over axes, and \"mul\" of two tensors"),
+        _ => None,
+    }
+}
+
+/// Why a value is no node.
+pub(crate) fn why_node(alloc: Global, value: &Value) -> Result<String, AllocError> {
+    let what = found(alloc, value)?;
+    if value.is_number() {
+        return format!(in alloc;
+            "a number is no expression: [\"constant\",x,{what}] has it at each place of x"
+        );
+    }
+    format!(in alloc;
+        "an expression is an input's name or a list that begins with an operation's, and not {what}"
+    )
+}
+
+/// Why a node has too few or too many elements.
+pub(crate) fn why_arity(alloc: Global, value: &Value) -> Result<String, AllocError> {
+    let Some((name, operation, count)) = node(value) else {
+        return why_node(alloc, value);
+    };
+    let takes = takes(alloc, &operation)?;
+    let elements = if count == 1 {
+        "element stands"
+    } else {
+        "elements stand"
+    };
+    format!(in alloc; "\"{name}\" takes {takes}, and {count} {elements} behind it")
+}
+
+/// The name of a node's operation, what it takes, and how many elements stand behind it.
+fn node(value: &Value) -> Option<(&str, Operation, usize)> {
+    let elements = value.as_array()?;
+    let name = elements.first()?.as_str()?;
+    Some((name, known_operation(name)?, elements.len() - 1))
+}
+
+/// What an operation takes.
+fn takes(alloc: Global, operation: &Operation) -> Result<String, AllocError> {
+    let operands = match operation.operands {
+        1 => "an operand",
+        2 => "two operands",
+        _ => "three operands",
+    };
+    match (operation.first, operation.second) {
+        (Some(first), Some(second)) => {
+            format!(in alloc; "{operands} and then {} and {}", first.name, second.name)
+        }
+        (Some(first), None) => format!(in alloc; "{operands} and then {}", first.name),
+        (None, _) => format!(in alloc; "{operands}"),
+    }
+}
+
+/// Why an element of a node is no argument.
+pub(crate) fn why_argument(
+    alloc: Global,
+    node_value: &Value,
+    index: usize,
+    value: &Value,
+) -> Result<String, AllocError> {
+    let Some((name, operation, _)) = node(node_value) else {
+        return why_node(alloc, node_value);
+    };
+    let Some(argument) = operation.argument(index) else {
+        return why_arity(alloc, node_value);
+    };
+    let form = argument.form.words();
+    let what = wrong(alloc, argument.form, value)?;
+    format!(in alloc; "{} of \"{name}\" is {form}, and {what}", argument.name)
+}
+
+/// What is wrong with a value of a form: all of it, or one of its items.
+fn wrong(alloc: Global, form: Form, value: &Value) -> Result<String, AllocError> {
+    if let Some(list) = value.as_array() {
+        for (index, item) in list.iter().enumerate() {
+            if !is_item(form, item) {
+                let what = found(alloc, item)?;
+                return format!(in alloc; "the item at index {index} of this one is {what}");
+            }
+        }
+    }
+    let what = found(alloc, value)?;
+    format!(in alloc; "this is {what}")
+}
+
+/// Whether a value is an item of an argument of this form.
+fn is_item(form: Form, item: &Value) -> bool {
+    match form {
+        Form::Size | Form::Value => true,
+        Form::Sizes => is_size(item),
+        Form::Flags => item.is_boolean(),
+        Form::Pairs => match item.as_array() {
+            Some(pair) => pair.len() == 2 && is_size(&pair[0]) && is_size(&pair[1]),
+            None => false,
+        },
+    }
+}
+
+fn is_size(value: &Value) -> bool {
+    match value.as_u64() {
+        Some(size) => size <= 9_223_372_036_854_775_807,
+        None => false,
+    }
+}

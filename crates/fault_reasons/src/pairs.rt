@@ -1,0 +1,179 @@
+//! Why a concatenation, a contraction or a convolution of two operands fails.
+
+use crate::sizes::{places, sizes_in, why_axes, why_illegal};
+use serde_json::Value;
+use std::alloc::{AllocError, Global};
+
+/// The most products that a convolution is worked out from.
+const MOST_PRODUCTS: u64 = 1_073_741_824;
+
+/// Why two operands can't stand one behind the other along an axis.
+pub(crate) fn why_concat(
+    alloc: Global,
+    version: u64,
+    axis: &Value,
+    first: &[u64],
+    second: &[u64],
+) -> Result<Option<String>, AllocError> {
+    let Some(axis) = axis.as_u64() else {
+        return Ok(None);
+    };
+    if first.len() != second.len() {
+        let reason = format!(in alloc;
+            "both operands have as many dims, and these have {first:?} and {second:?}"
+        )?;
+        return Ok(Some(reason));
+    }
+    if axis >= first.len() as u64 {
+        let reason = format!(in alloc; "AXIS {axis} is no axis of the dims {first:?}")?;
+        return Ok(Some(reason));
+    }
+    let axis = axis as usize;
+    if let Some(other) = differs_at(axis, first, second) {
+        let reason = format!(in alloc;
+            "the dims {first:?} and {second:?} are to be the same but at axis {axis}, and differ at axis {other}"
+        )?;
+        return Ok(Some(reason));
+    }
+    let joined = joined(alloc, axis, first, second)?;
+    why_illegal(alloc, version, joined.as_slice())
+}
+
+/// The first axis but one at which dims differ.
+fn differs_at(axis: usize, first: &[u64], second: &[u64]) -> Option<usize> {
+    for (index, (size, other)) in first.iter().zip(second.iter()).enumerate() {
+        if index != axis && size != other {
+            return Some(index);
+        }
+    }
+    None
+}
+
+/// The first dims, with the second one's on top at an axis.
+fn joined(
+    alloc: Global,
+    axis: usize,
+    first: &[u64],
+    second: &[u64],
+) -> Result<Vec<u64>, AllocError> {
+    let mut sizes = Vec::new(alloc);
+    for (index, (size, more)) in first.iter().zip(second.iter()).enumerate() {
+        let on_top = if index == axis { *more } else { 0 };
+        sizes.push(size.saturating_add(on_top))?;
+    }
+    Ok(sizes)
+}
+
+/// Why pairs of axes don't join two operands.
+pub(crate) fn why_contract(
+    alloc: Global,
+    version: u64,
+    argument: &Value,
+    first: &[u64],
+    second: &[u64],
+) -> Result<Option<String>, AllocError> {
+    let Some(pairs) = pairs_in(alloc, argument)? else {
+        return Ok(None);
+    };
+    let (firsts, seconds) = (pairs.0.as_slice(), pairs.1.as_slice());
+    let reason = why_axes(alloc, "the first of each of PAIRS", firsts, first)?;
+    if reason.is_some() {
+        return Ok(reason);
+    }
+    let reason = why_axes(alloc, "the second of each of PAIRS", seconds, second)?;
+    if reason.is_some() {
+        return Ok(reason);
+    }
+    for (left, right) in firsts.iter().zip(seconds.iter()) {
+        let (size, other) = (first.get(*left as usize), second.get(*right as usize));
+        if size != other {
+            let (size, other) = (size.copied().unwrap_or(0), other.copied().unwrap_or(0));
+            let reason = format!(in alloc;
+                "axis {left} of the first operand has the dimension {size}, and axis {right} of the second {other}"
+            )?;
+            return Ok(Some(reason));
+        }
+    }
+    let mut outer = Vec::new(alloc);
+    push_others(firsts, first, &mut outer)?;
+    push_others(seconds, second, &mut outer)?;
+    why_illegal(alloc, version, outer.as_slice())
+}
+
+/// The first and the second number of each pair.
+fn pairs_in(alloc: Global, argument: &Value) -> Result<Option<(Vec<u64>, Vec<u64>)>, AllocError> {
+    let Some(list) = argument.as_array() else {
+        return Ok(None);
+    };
+    let mut firsts = Vec::new(alloc);
+    let mut seconds = Vec::new(alloc);
+    for pair in list {
+        let (Some(first), Some(second)) = (
+            pair.get(0usize).and_then(Value::as_u64),
+            pair.get(1usize).and_then(Value::as_u64),
+        ) else {
+            return Ok(None);
+        };
+        firsts.push(first)?;
+        seconds.push(second)?;
+    }
+    Ok(Some((firsts, seconds)))
+}
+
+/// The dims that aren't at one of these axes.
+fn push_others(axes: &[u64], dims: &[u64], others: &mut Vec<u64>) -> Result<(), AllocError> {
+    for (axis, size) in dims.iter().enumerate() {
+        if !axes.contains(&(axis as u64)) {
+            others.push(*size)?;
+        }
+    }
+    Ok(())
+}
+
+/// Why a kernel doesn't lie along these axes.
+pub(crate) fn why_convolve(
+    alloc: Global,
+    argument: &Value,
+    dims: &[u64],
+    kernel: &[u64],
+) -> Result<Option<String>, AllocError> {
+    let Some(axes) = sizes_in(alloc, argument)? else {
+        return Ok(None);
+    };
+    let axes = axes.as_slice();
+    let reason = why_axes(alloc, "AXES", axes, dims)?;
+    if reason.is_some() {
+        return Ok(reason);
+    }
+    if kernel.len() != axes.len() {
+        let reason = format!(in alloc;
+            "the kernel has a dimension for each of AXES, {} in all, and has the dims {kernel:?}",
+            axes.len()
+        )?;
+        return Ok(Some(reason));
+    }
+    let mut slid = Vec::from_slice(alloc, dims)?;
+    for (axis, size) in axes.iter().zip(kernel.iter()) {
+        let along = dims.get(*axis as usize).copied().unwrap_or(0);
+        if *size == 0 || *size > along {
+            let reason = format!(in alloc;
+                "along axis {axis} the kernel has the dimension {size}, and the operand {along}"
+            )?;
+            return Ok(Some(reason));
+        }
+        if let Some(place) = slid.get_mut(*axis as usize) {
+            *place = (along - *size).saturating_add(1);
+        }
+    }
+    why_many(alloc, slid.as_slice(), kernel)
+}
+
+/// That a convolution has too many products, as it has where nothing else is wrong.
+fn why_many(alloc: Global, slid: &[u64], kernel: &[u64]) -> Result<Option<String>, AllocError> {
+    let (result, each) = (places(slid), places(kernel));
+    let reason = format!(in alloc;
+        "{result} places of {each} products each are {} products, and at most {MOST_PRODUCTS}",
+        result.saturating_mul(each)
+    )?;
+    Ok(Some(reason))
+}

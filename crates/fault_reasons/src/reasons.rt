@@ -1,0 +1,91 @@
+//! Why a fault is one: what stands at its place, and what should.
+
+use crate::fields::{why_block, why_fields, why_version, why_workers};
+use crate::nodes::{why_argument, why_arity, why_input, why_node, why_operation};
+use crate::operations::known_operation;
+use crate::places::{above, value_at};
+use crate::shapes::{Call, why_shapes};
+use crate::tensors::{why_inputs, why_tensor};
+use expr_reader::{Fault, Located, Parsed, Place, read_part};
+use serde_json::Value;
+use std::alloc::{AllocError, Global};
+
+/// Why there is this fault.
+pub(crate) fn why(
+    alloc: Global,
+    parsed: &Parsed,
+    located: &Located<'_>,
+) -> Result<String, AllocError> {
+    let root = &parsed.value;
+    let version = root.get("version").and_then(Value::as_u64).unwrap_or(1);
+    let Some(value) = value_at(root, &located.place) else {
+        return format!(in alloc; "{}", located.fault);
+    };
+    match located.fault {
+        Fault::BadField => why_fields(alloc, value),
+        Fault::BadVersion => why_version(alloc, value),
+        Fault::BadWorkers => why_workers(alloc, version, value),
+        Fault::BadBlock => why_block(alloc, value),
+        Fault::BadTensor => match located.place {
+            Place::Input(_) => why_tensor(alloc, version, value),
+            _ => why_inputs(alloc, value),
+        },
+        Fault::UnknownInput => why_input(alloc, root.get("inputs"), value),
+        Fault::BadArity => why_arity(alloc, value),
+        Fault::UnknownOp | Fault::BadArgument => why_element(alloc, version, root, located, value),
+        Fault::ShapeMismatch | Fault::OutOfRange => why_checks(alloc, parsed, version, value),
+        Fault::TooLarge => why_large(alloc, parsed, version, value),
+        fault => format!(in alloc; "{fault}"),
+    }
+}
+
+/// Why an element of a node is no operation or no argument, or why a value is no node.
+fn why_element(
+    alloc: Global,
+    version: u64,
+    root: &Value,
+    located: &Located<'_>,
+    value: &Value,
+) -> Result<String, AllocError> {
+    match (located.fault, above(root, &located.place)) {
+        (Fault::UnknownOp, Some((_, 0))) => why_operation(alloc, version, value),
+        (Fault::BadArgument, Some((node, index))) => why_argument(alloc, node, index, value),
+        _ => why_node(alloc, value),
+    }
+}
+
+/// Why the own checks of a node fail.
+fn why_checks(
+    alloc: Global,
+    parsed: &Parsed,
+    version: u64,
+    node: &Value,
+) -> Result<String, AllocError> {
+    let Some([head, elements @ ..]) = node.as_array().map(Vec::as_slice) else {
+        return why_node(alloc, node);
+    };
+    let name = head.as_str().unwrap_or("");
+    let Some(operation) = known_operation(name) else {
+        return why_node(alloc, node);
+    };
+    let (operands, arguments) = elements.split_at(operation.operands.min(elements.len()));
+    let call = Call {
+        version,
+        name,
+        arguments,
+    };
+    why_shapes(alloc, parsed, call, operands)
+}
+
+/// Why a node is too large: by its own checks, or since there are too many before it.
+fn why_large(
+    alloc: Global,
+    parsed: &Parsed,
+    version: u64,
+    node: &Value,
+) -> Result<String, AllocError> {
+    match read_part(alloc, parsed, node) {
+        Err(Fault::TooLarge) => why_checks(alloc, parsed, version, node),
+        _ => format!(in alloc; "this is the 1001st node, and an expression has at most 1000"),
+    }
+}

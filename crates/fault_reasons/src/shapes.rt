@@ -1,0 +1,115 @@
+//! Why an operation's own checks fail.
+
+use crate::movements::{
+    why_broadcast, why_chip, why_lengths, why_order, why_pad, why_reshape, why_slice, why_steps,
+};
+use crate::pairs::{why_concat, why_contract, why_convolve};
+use crate::sizes::{sizes_in, why_axes};
+use expr_reader::{Dims, Parsed, read_part};
+use serde_json::Value;
+use std::alloc::{AllocError, Global};
+
+/// A node whose operands have result dims: the name of its operation, and the arguments.
+#[derive(Clone, Copy)]
+pub(crate) struct Call<'v> {
+    pub(crate) version: u64,
+    pub(crate) name: &'v str,
+    pub(crate) arguments: &'v [Value],
+}
+
+/// Why the own checks of a node fail, whose operands have none.
+pub(crate) fn why_shapes(
+    alloc: Global,
+    parsed: &Parsed,
+    call: Call<'_>,
+    operands: &[Value],
+) -> Result<String, AllocError> {
+    let mut dims = Vec::new(alloc);
+    for operand in operands {
+        match dims_of(alloc, parsed, operand) {
+            Some(of_one) => dims.push(of_one)?,
+            None => return general(alloc, call),
+        }
+    }
+    let reason = match dims.as_slice() {
+        [first] => why_one(alloc, call, first.as_slice())?,
+        [first, second] => why_two(alloc, call, first.as_slice(), second.as_slice())?,
+        [first, second, third] => Some(format!(in alloc;
+            "the operands of \"{}\" have the dims {:?}, {:?} and {:?}, which are to be the same",
+            call.name,
+            first.as_slice(),
+            second.as_slice(),
+            third.as_slice()
+        )?),
+        _ => None,
+    };
+    match reason {
+        Some(reason) => Ok(reason),
+        None => general(alloc, call),
+    }
+}
+
+/// What is said where there is no memory to find out more.
+fn general(alloc: Global, call: Call<'_>) -> Result<String, AllocError> {
+    format!(in alloc; "the dims of the operands don't fit \"{}\"", call.name)
+}
+
+/// The result dims of an operand.
+fn dims_of(alloc: Global, parsed: &Parsed, operand: &Value) -> Option<Dims> {
+    let request = read_part(alloc, parsed, operand).ok()?;
+    request.expr.dims(&request.inputs).ok()
+}
+
+/// Why an operation on one operand fails, if it is known.
+fn why_one(alloc: Global, call: Call<'_>, dims: &[u64]) -> Result<Option<String>, AllocError> {
+    let Some(argument) = call.arguments.first() else {
+        return Ok(None);
+    };
+    match call.name {
+        "reverse" => why_lengths(alloc, "FLAGS", argument, dims),
+        "pad" => why_pad(alloc, call.version, argument, dims),
+        "chip" => why_chip(alloc, call.arguments, dims),
+        "slice" => why_slice(alloc, call.arguments, dims),
+        _ => match sizes_in(alloc, argument)? {
+            Some(sizes) => why_sizes(alloc, call, sizes.as_slice(), dims),
+            None => Ok(None),
+        },
+    }
+}
+
+/// The same where its argument is a list of sizes.
+fn why_sizes(
+    alloc: Global,
+    call: Call<'_>,
+    sizes: &[u64],
+    dims: &[u64],
+) -> Result<Option<String>, AllocError> {
+    match call.name {
+        "broadcast" => why_broadcast(alloc, call.version, sizes, dims),
+        "reshape" => why_reshape(alloc, call.version, sizes, dims),
+        "shuffle" => why_order(alloc, sizes, dims),
+        "stride" => why_steps(alloc, sizes, dims),
+        _ => why_axes(alloc, "AXES", sizes, dims),
+    }
+}
+
+/// Why an operation on two operands fails, if it is known.
+fn why_two(
+    alloc: Global,
+    call: Call<'_>,
+    first: &[u64],
+    second: &[u64],
+) -> Result<Option<String>, AllocError> {
+    let Some(argument) = call.arguments.first() else {
+        let reason = format!(in alloc;
+            "the operands of \"{}\" have the dims {first:?} and {second:?}, which are to be the same",
+            call.name
+        )?;
+        return Ok(Some(reason));
+    };
+    match call.name {
+        "concat" => why_concat(alloc, call.version, argument, first, second),
+        "contract" => why_contract(alloc, call.version, argument, first, second),
+        _ => why_convolve(alloc, argument, first, second),
+    }
+}

@@ -1,0 +1,101 @@
+//! Sizes: whether they are legal dims, and lists of them that a text has.
+
+use serde_json::Value;
+use std::alloc::{AllocError, Global};
+
+/// The most places of a tensor.
+const MOST_PLACES: u64 = 1_048_576;
+
+/// The highest rank of a version.
+fn highest_rank(version: u64) -> usize {
+    if version == 1 { 6 } else { 8 }
+}
+
+/// The product of sizes, a 0 counted as 1, or the greatest number of 64 bits where it is past that.
+pub(crate) fn product(sizes: &[u64]) -> u64 {
+    let mut product = 1u64;
+    for size in sizes {
+        product = product.saturating_mul((*size).max(1));
+    }
+    product
+}
+
+/// How many places dims have, or the greatest number of 64 bits where they are more.
+pub(crate) fn places(sizes: &[u64]) -> u64 {
+    let mut product = 1u64;
+    for size in sizes {
+        product = product.saturating_mul(*size);
+    }
+    product
+}
+
+/// Why sizes are no legal dims in a version, if they aren't.
+pub(crate) fn why_illegal(
+    alloc: Global,
+    version: u64,
+    sizes: &[u64],
+) -> Result<Option<String>, AllocError> {
+    let most = highest_rank(version);
+    if sizes.len() > most {
+        let reason = format!(in alloc;
+            "dims of rank {} are past the highest rank of version {version}, {most}",
+            sizes.len()
+        )?;
+        return Ok(Some(reason));
+    }
+    let product = product(sizes);
+    if product > MOST_PLACES {
+        let most = if product == u64::MAX { "at least " } else { "" };
+        let reason = format!(in alloc;
+            "the product of the dims {sizes:?} is {most}{product}, and at most {MOST_PLACES}"
+        )?;
+        return Ok(Some(reason));
+    }
+    Ok(None)
+}
+
+/// The sizes of a list, if it is one.
+pub(crate) fn sizes_in(alloc: Global, value: &Value) -> Result<Option<Vec<u64>>, AllocError> {
+    let Some(list) = value.as_array() else {
+        return Ok(None);
+    };
+    let mut sizes = Vec::new(alloc);
+    for size in list {
+        match size.as_u64() {
+            Some(number) => sizes.push(number)?,
+            None => return Ok(None),
+        }
+    }
+    Ok(Some(sizes))
+}
+
+/// The sum of sizes, or the greatest number of 64 bits where it is past that.
+pub(crate) fn total(sizes: &[u64]) -> u64 {
+    let mut total = 0u64;
+    for size in sizes {
+        total = total.saturating_add(*size);
+    }
+    total
+}
+
+/// Why axes aren't each one of these dims' and none twice, if they aren't.
+pub(crate) fn why_axes(
+    alloc: Global,
+    name: &str,
+    axes: &[u64],
+    dims: &[u64],
+) -> Result<Option<String>, AllocError> {
+    for (index, axis) in axes.iter().enumerate() {
+        if *axis >= dims.len() as u64 {
+            let reason = format!(in alloc;
+                "{name} is an axis of the dims {dims:?}, and at index {index} this has {axis}"
+            )?;
+            return Ok(Some(reason));
+        }
+        if axes[..index].contains(axis) {
+            let reason = format!(in alloc; "{name} has no axis twice, and this has {axis} twice")?;
+            return Ok(Some(reason));
+        }
+    }
+    Ok(None)
+}

@@ -1,0 +1,80 @@
+//! Why an input is no tensor.
+
+use crate::found::found;
+use crate::sizes::why_illegal;
+use serde_json::Value;
+use std::alloc::{AllocError, Global};
+
+/// Why the inputs as a whole are none.
+pub(crate) fn why_inputs(alloc: Global, value: &Value) -> Result<String, AllocError> {
+    let what = found(alloc, value)?;
+    format!(in alloc; "the inputs are an object of tensors, and this is {what}")
+}
+
+/// Why a value is no tensor of a version.
+pub(crate) fn why_tensor(alloc: Global, version: u64, value: &Value) -> Result<String, AllocError> {
+    let Some(members) = value.as_object() else {
+        let what = found(alloc, value)?;
+        return format!(in alloc; "a tensor is an object of dims and data, and this is {what}");
+    };
+    let Some(dims) = value.get("dims") else {
+        return format!(in alloc; "the tensor has no dims");
+    };
+    let Some(data) = value.get("data") else {
+        return format!(in alloc; "the tensor has no data");
+    };
+    if members.len() != 2 {
+        return format!(in alloc;
+            "a tensor has dims and data alone, and this one has {} members",
+            members.len()
+        );
+    }
+    match why_dims(alloc, version, dims)? {
+        Some(reason) => Ok(reason),
+        None => why_data(alloc, dims, data),
+    }
+}
+
+/// Why a value is no dims of a tensor of a version, if it isn't.
+fn why_dims(alloc: Global, version: u64, value: &Value) -> Result<Option<String>, AllocError> {
+    let Some(list) = value.as_array() else {
+        let what = found(alloc, value)?;
+        let reason = format!(in alloc;
+            "the dims are a list of whole numbers from 0 up, and these are {what}"
+        )?;
+        return Ok(Some(reason));
+    };
+    let mut sizes = Vec::new(alloc);
+    for size in list {
+        let Some(number) = size.as_u64() else {
+            let what = found(alloc, size)?;
+            let reason = format!(in alloc;
+                "the dims are whole numbers from 0 up, and one of these is {what}"
+            )?;
+            return Ok(Some(reason));
+        };
+        sizes.push(number)?;
+    }
+    why_illegal(alloc, version, sizes.as_slice())
+}
+
+/// Why a value is no data of a tensor of these dims, which are legal.
+fn why_data(alloc: Global, dims: &Value, value: &Value) -> Result<String, AllocError> {
+    let Some(list) = value.as_array() else {
+        let what = found(alloc, value)?;
+        return format!(in alloc; "the data are a list of whole numbers, and these are {what}");
+    };
+    for (index, number) in list.iter().enumerate() {
+        if number.as_i64().is_none() {
+            let what = found(alloc, number)?;
+            return format!(in alloc;
+                "the data are whole numbers of the range of 64 bits, and that at index {index} is {what}"
+            );
+        }
+    }
+    let dims = dims.to_string(alloc)?;
+    format!(in alloc;
+        "there are as many data as the dims {dims} have places, and these are {}",
+        list.len()
+    )
+}

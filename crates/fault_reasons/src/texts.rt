@@ -1,0 +1,52 @@
+//! Why a text can't be read at all.
+
+use expr_reader::Fault;
+use serde_json::Value;
+use std::alloc::{AllocError, Global};
+
+/// Why a text is too long or no JSON.
+pub(crate) fn why_text(alloc: Global, fault: Fault, text: &[u8]) -> Result<String, AllocError> {
+    match fault {
+        Fault::TooLong => format!(in alloc;
+            "a text has at most {} bytes, and this has {}",
+            expr_reader::MAX_TEXT,
+            text.len()
+        ),
+        Fault::NotJson => why_json(alloc, text),
+        _ => format!(in alloc; "{fault}"),
+    }
+}
+
+/// Why a text is no JSON, and where.
+fn why_json(alloc: Global, text: &[u8]) -> Result<String, AllocError> {
+    match str::from_utf8(text) {
+        Ok(text) => match Value::from_str(alloc, text) {
+            Ok(_) => format!(in alloc; "it is no JSON"),
+            Err(error) => {
+                let byte = if error.is_eof() {
+                    text.len()
+                } else {
+                    byte_at(text.as_bytes(), error.line(), error.column())
+                };
+                format!(in alloc; "{error} (byte {byte})")
+            }
+        },
+        Err(error) => format!(in alloc; "byte {} begins no UTF-8", error.valid_up_to()),
+    }
+}
+
+/// How many bytes stand before a column of a line, both counted from 1.
+fn byte_at(text: &[u8], line: usize, column: usize) -> usize {
+    let mut lines = 1usize;
+    for (index, byte) in text.iter().enumerate() {
+        if lines == line {
+            return index
+                .saturating_add(column.saturating_sub(1))
+                .min(text.len());
+        }
+        if *byte == b'\n' {
+            lines = lines.saturating_add(1);
+        }
+    }
+    text.len()
+}

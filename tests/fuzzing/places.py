@@ -1,0 +1,89 @@
+"""Where the fault of a request text is, found by a walk of its own over the rules of docs/REQUEST.md.
+
+Nothing here is shared with the program, and of the reference that works out answers only how JSON
+is read, the forms of arguments, and what each operation says of dims.
+"""
+
+from .operations import OPERATIONS_OF
+from .reference import is_tensor, parse
+from .rules import FIELDS, FORMS, MOST_BLOCK, MOST_NODES, VERSIONS, Fault, is_whole
+
+
+class Place(Exception):
+    """A fault, and the steps to its place from the root."""
+
+    def __init__(self, number, steps):
+        super().__init__(number, steps)
+        self.number, self.steps = number, steps
+
+
+def pointer(steps):
+    """Steps as a JSON pointer (RFC 6901)."""
+    return "".join(f"/{escaped(it)}" for it in steps)
+
+
+def escaped(step):
+    return str(step).replace("~", "~0").replace("/", "~1")
+
+
+class Tree:
+    """A walk over an expression that knows where it is."""
+
+    def __init__(self, version, inputs):
+        self.version, self.inputs, self.left = version, inputs, MOST_NODES
+
+    def dims(self, tree, steps):
+        """The result dims of what stands at these steps, or the place of its first fault."""
+        if self.left == 0:
+            raise Place(14, steps)
+        self.left -= 1
+        if isinstance(tree, str):
+            if tree not in self.inputs:
+                raise Place(8, steps)
+            return self.inputs[tree]["dims"]
+        if not isinstance(tree, list) or tree == []:
+            raise Place(9, steps)
+        known = OPERATIONS_OF[self.version.number]
+        if not isinstance(tree[0], str) or tree[0] not in known:
+            raise Place(9, [*steps, 0])
+        operands, forms, dims_of, _ = known[tree[0]]
+        if len(tree) - 1 != operands + len(forms):
+            raise Place(10, steps)
+        below = [self.dims(tree[at], [*steps, at]) for at in range(1, operands + 1)]
+        for at, form in enumerate(forms, operands + 1):
+            if not FORMS[form](tree[at]):
+                raise Place(11, [*steps, at])
+        try:
+            return dims_of(self.version, *below, *tree[operands + 1 :])
+        except Fault as fault:
+            raise Place(fault.number, steps) from None
+
+
+def look(fields):
+    """Looks at the value of a text, up to its first fault."""
+    if not isinstance(fields, dict) or fields.keys() != FIELDS:
+        raise Place(3, [])
+    if not is_whole(fields["version"], min(VERSIONS), max(VERSIONS)):
+        raise Place(4, ["version"])
+    version, inputs = VERSIONS[fields["version"]], fields["inputs"]
+    if not is_whole(fields["workers"], 1, version.most_workers):
+        raise Place(5, ["workers"])
+    if not is_whole(fields["block"], 1, MOST_BLOCK):
+        raise Place(6, ["block"])
+    if not isinstance(inputs, dict):
+        raise Place(7, ["inputs"])
+    for name in sorted(inputs, key=str.encode):
+        if not is_tensor(version, inputs[name]):
+            raise Place(7, ["inputs", name])
+    Tree(version, inputs).dims(fields["expr"], ["expr"])
+
+
+def place(text):
+    """The number of a text's fault and the pointer to it, or None."""
+    try:
+        look(parse(text))
+    except Fault as fault:
+        return fault.number, ""
+    except Place as found:
+        return found.number, pointer(found.steps)
+    return None
