@@ -3,7 +3,7 @@
 #![tactic(auto)]
 
 ghost use Rattle.std.specs.Prelude.{◌≡◌, ◌≤◌, [], Some, length, take, drop, IfOk};
-ghost use Rattle.tensor_runner.specs.History.{History};
+ghost use Rattle.tensor_runner.specs.History.{History, OwesNothing};
 ghost use Rattle.tensor_runner.specs.Lines.{lines_of, AnswersLines};
 
 use std::alloc::Global;
@@ -35,6 +35,8 @@ impl Client for Recorded {
       taken = take r.taken r.lines.items;
       written = r.answers.items;
     }) };
+
+    ghost owes_nothing = { λ h. OwesNothing h };
 
     ghost read_failures = { λ r. 0 };
 

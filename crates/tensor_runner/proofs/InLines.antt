@@ -99,6 +99,11 @@ InLine-stops a b c h k old kept i same = record {
   no_feed = InLine-plain a b h k old kept i;
 }
 
+-- and so what follows from it
+pub IfSome-follows : {A : Type 0} (P Q : A → Type 0) (o : Option A) → ((x : A) → P x → Q x) → IfSome o P → IfSome o Q
+IfSome-follows P Q None follows holds = tt
+IfSome-follows P Q (Some x) follows holds = follows x holds
+
 pub OnErr-any : {A E : Type 0} (r : Result A E) {X : Type 0} → X → OnErr r X
 OnErr-any (Ok x) holds = tt
 OnErr-any (Err e) holds = holds

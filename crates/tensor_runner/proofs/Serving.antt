@@ -1,13 +1,15 @@
 -- From line to line.
 use Rattle.std.proofs.Common.{◌≡◌, ◌<◌, ◌≤◌, ◌+◌, ℕ, min, List, [], ◌∷◌, ◌++◌, length, take}
-use Rattle.std.proofs.Common.{Bool, true, false, Option, Some, None, IfSome, option_map, refl, ap, sym, ◌∙◌, subst, append_assoc, arith, length-append}
+use Rattle.std.proofs.Common.{Bool, true, false, Result, Ok, Err, OnOk, Option, Some, None, IfSome, option_map, refl, ap, sym, ◌∙◌, subst, append_assoc, arith, length-append, inl, inr, ◌⊎◌}
 use Rattle.std.proofs.Math.Seq.{take-append-add}
 use Rattle.std.proofs.lemmas.List.{append-nil, take_all, take-append-le, length-take}
 use Rattle.std.proofs.lemmas.List.Concat.{flat_map-append}
 use Rattle.std.proofs.lemmas.List.Elements.{All-push, All-nil}
 use Rattle.std.specs.Cow.{cow_slice_items}
 use Rattle.std.specs.Io.KnownBytes.{Appends, Consumes, IsAtEnd}
+use Rattle.std.specs.Prelude.{MatchResult}
 use Rattle.tensor_runner.specs.Answer.{Answer, IsAnswerTo, line_of}
+use Rattle.tensor_runner.specs.Ending.{IsQuiet, IsComplaint, EndsLines, EndsInLine, EndsInAnswer}
 use Rattle.tensor_runner.specs.History.{History, writing}
 use Rattle.tensor_runner.specs.Line.{IsLineFor}
 use Rattle.tensor_runner.specs.Lines.{lines_of, whole_lines, AreAnswersTo, lines_answering}
@@ -16,7 +18,11 @@ use Rattle.tensor_runner.specs.Pieces.{AppendsFront}
 use Rattle.tensor_runner.specs.Run.{most_reads}
 use Rattle.tensor_runner.specs.Server.{Serves, KeepsNone, HasNothing, IsNothing}
 use Rattle.tensor_runner.specs.Taking.{HasNoFeed, with_feeds, IsKept, TakesLine, StopsInLine, behind, IsCaughtUp}
+use Rattle.tensor_runner.specs.Streams.{HasFailed}
 use Rattle.tensor_runner.specs.declared.answer.Line.{Line}
+use Rattle.tensor_runner.specs.declared.ending.Ending.{Ending}
+use Rattle.tensor_runner.specs.declared.status.StreamFault.{StreamFault}
+use Rattle.tensor_runner.specs.declared.status.StreamFault.TheVariants.{ReadFault, WriteFault}
 use Rattle.tensor_runner.specs.declared.buffer.KeptLine.{KeptLine}
 use Rattle.tensor_runner.specs.declared.buffer.KeptLine.TheVariants.{Text, NoMemory}
 use Rattle.tensor_runner.specs.declared.buffer.NextLine.{NextLine}
@@ -302,3 +308,22 @@ Turn-caught_up r1 r2 c1 c2 h k m old new part line bytes up turn noted closed =
     IsCaughtUp-more old new t.line t.bytes turn.answered.answer h k m up t.read.noted
     (noted ∙ ap (λ (b : List ℕ). option_map (writing b) k) (turn.read ∙ turn.answered.written))
     (to_feed r1 r2 h k old new part t closed) t.no_feed turn.answered.answers
+
+-- what the program ends with
+pub ends : {A : Type 0} (r : Result A StreamFault) (e : Ending) (text remaining held contents : Option (List ℕ)) (rf rf' wf wf' : ℕ)
+    → MatchResult r (λ _. IsQuiet 0 e) (λ f. IsComplaint f e)
+    → ((t h : List ℕ) → text ≡ Some t → held ≡ Some h → OnOk r (AnswersLines (lines_of t) h contents))
+    → ((t h : List ℕ) → text ≡ Some t → held ≡ Some h → r ≡ Err ReadFault → BreaksOff t h remaining contents)
+    → ((t h : List ℕ) → text ≡ Some t → held ≡ Some h → r ≡ Err WriteFault → CutsLinesShort (lines_of t) h contents)
+    → (r ≡ Err ReadFault → HasFailed rf rf' × (wf' ≡ wf))
+    → (r ≡ Err WriteFault → (rf' ≡ rf) × HasFailed wf wf')
+    → OnOk r ((rf' ≡ rf) × (wf' ≡ wf))
+    → (EndsLines text held contents e × (rf' ≡ rf) × (wf' ≡ wf))
+    ⊎ ((EndsInLine text remaining held contents e × HasFailed rf rf' × (wf' ≡ wf))
+    ⊎ (EndsInAnswer text held contents e × (rf' ≡ rf) × HasFailed wf wf'))
+ends (Ok u) e text remaining held contents rf rf' wf wf' ended answered broken cut reads writes fine =
+    inl (record { ended = ended; answered = answered }, fine.0, fine.1)
+ends (Err ReadFault) e text remaining held contents rf rf' wf wf' ended answered broken cut reads writes fine =
+    inr (inl (record { ended = ended; broken_off = λ t h p q. broken t h p q refl }, (reads refl).0, (reads refl).1))
+ends (Err WriteFault) e text remaining held contents rf rf' wf wf' ended answered broken cut reads writes fine =
+    inr (inr (record { ended = ended; cut_short = λ t h p q. cut t h p q refl }, (writes refl).0, (writes refl).1))

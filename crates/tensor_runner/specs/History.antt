@@ -17,6 +17,10 @@ pub record OwesNothing (h : History) : Type 0 where
   pub answered : AreAnswersTo (whole_lines h.taken) answers
   pub written : h.written ≡ lines_answering answers
 
+-- where each whole line is answered, and no more is written, nothing is owed
+abbrev pub GoesByLines : (History → Type 0) → Type 0
+GoesByLines owes_nothing = (h : History) → OwesNothing h → owes_nothing h
+
 abbrev pub reading : List ℕ → History → History
 reading bytes h = record { taken = h.taken ++ bytes; written = h.written }
 

@@ -1,24 +1,27 @@
-//! Says what a client is, who sends lines and is sent their answers.
+//! Says what a client is, who sends requests and is sent their answers.
 
-ghost use Rattle.std.specs.Prelude.{◌≡◌, ℕ, List, Option, None, IfSome, is_ok};
+ghost use Rattle.std.specs.Prelude.{◌≡◌, ℕ, List, Option, None, IfSome, is_ok, ⊤};
 ghost use Rattle.std.specs.Io.{ReadsAtMost, WritesAtMost};
 ghost use Rattle.std.specs.Io.KnownBytes.{ReadConsumes, WriteAppends};
-ghost use Rattle.tensor_runner.specs.History.{History, OwesNothing, after_read, after_write};
+ghost use Rattle.tensor_runner.specs.History.{History, after_read, after_write};
 ghost use Rattle.tensor_runner.specs.Streams.{took_some, failures_after};
 
 use crate::sink::Sink;
 use crate::source::Source;
 use std::io;
 
-/// Who sends lines and is sent their answers. A read may wait for the client, who may wait for an
-/// answer: so nothing is read while an answer is owed, where the history is known. Whoever is
-/// generic over clients can't tell whether it is, and so keeps this for all.
+/// Who sends requests and is sent their answers. A read may wait for the client, who may wait for an
+/// answer: so nothing is read while an answer is owed, where the history is known. What is owed the
+/// client says, by what it takes for a request. Whoever is generic over clients can't tell whether
+/// the history is known, and so keeps this for all.
 pub trait Client {
     ghost remaining: { Self → Option (List ℕ) };
 
     ghost contents: { Self → Option (List ℕ) };
 
     ghost history: { Self → Option History };
+
+    ghost owes_nothing: { History → Type 0 };
 
     ghost read_failures: { Self → ℕ };
 
@@ -30,7 +33,7 @@ pub trait Client {
     ///
     /// Whatever the stream fails with. No byte is lost then.
     fn read(&mut self, buffer: &mut [u8]) -> io::Result<usize>
-        requires { IfSome (history self.old) OwesNothing }
+        requires { IfSome (history self.old) owes_nothing }
         ensures bound { ReadsAtMost result buffer.new }
         ensures bytes { ReadConsumes (remaining self.old) (remaining self.new) result buffer.new }
         ensures contents { contents self.new ≡ contents self.old }
@@ -55,10 +58,10 @@ pub trait Client {
         ensures no_read_failure { read_failures self.new ≡ read_failures self.old };
 }
 
-/// A source of lines and a sink of their answers. Their history isn't known.
+/// A source of requests and a sink of their answers. Their history isn't known.
 #[derive(Drop)]
 pub struct Connection<R: Source + Drop, W: Sink + Drop> {
-    /// Where the lines come from.
+    /// Where the requests come from.
     pub source: R,
     /// Where the answers go to.
     pub sink: W,
@@ -70,6 +73,8 @@ impl<R: Source + Drop, W: Sink + Drop> Client for Connection<R, W> {
     ghost contents = { λ s. W.contents s.sink };
 
     ghost history = { λ s. None };
+
+    ghost owes_nothing = { λ h. ⊤ };
 
     ghost read_failures = { λ s. R.failures s.source };
 

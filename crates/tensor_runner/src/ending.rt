@@ -1,9 +1,10 @@
 //! Says what a program ends with: its status, and what it complains of.
 
-ghost use Rattle.std.specs.Prelude.{◌≡◌, ◌⊎◌, ◌+◌, ◌≤◌, Err, None, Some, IfSome};
+ghost use Rattle.std.specs.Prelude.{◌≡◌, ◌⊎◌, ◌+◌, ◌≤◌, Err, None, Some, IfSome, MatchResult};
 ghost use Rattle.tensor_runner.specs.Ending.{complaint_in, IsEndingOf, EndsAnswered, EndsCutShort};
 ghost use Rattle.tensor_runner.specs.Ending.{EndsLines, EndsInLine, EndsInAnswer};
-ghost use Rattle.tensor_runner.specs.History.{IsNew};
+ghost use Rattle.tensor_runner.specs.Ending.{IsQuiet, IsComplaint};
+ghost use Rattle.tensor_runner.specs.History.{IsNew, GoesByLines};
 ghost use Rattle.tensor_runner.specs.Run.{most_reads, TakesAtMost};
 ghost use Rattle.tensor_runner.specs.Streams.{HasFailed};
 
@@ -62,7 +63,8 @@ pub fn serve_lines<RT: Threads + Wait + Sync, C: Client>(
     alloc: Global,
     client: &mut C,
 ) -> Ending
-    requires { IfSome (C.history client.old) IsNew }
+    requires by_lines { GoesByLines C.owes_nothing }
+    requires new { IfSome (C.history client.old) IsNew }
     // All lines were answered, or a read failed, or a write.
     ensures ended { (EndsLines (C.remaining client.old)
         (C.contents client.old) (C.contents client.new) result
@@ -77,7 +79,15 @@ pub fn serve_lines<RT: Threads + Wait + Sync, C: Client>(
         × (C.read_failures client.new ≡ C.read_failures client.old)
         × HasFailed (C.write_failures client.old) (C.write_failures client.new))) }
 {
-    match answer_lines(rt, alloc, client) {
+    ending_of(answer_lines(rt, alloc, client))
+}
+
+/// What a program ends with that answered many requests: status 0, or the line of the fault that
+/// stopped it.
+pub fn ending_of(served: Result<(), StreamFault>) -> Ending
+    ensures { MatchResult served (λ _. IsQuiet 0 result) (λ fault. IsComplaint fault result) }
+{
+    match served {
         Ok(()) => quiet(0),
         Err(StreamFault::ReadFault) => complaining("error 16 ReadFault\n"),
         Err(StreamFault::WriteFault) => complaining("error 17 WriteFault\n"),

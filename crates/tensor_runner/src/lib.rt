@@ -18,11 +18,12 @@ mod text;
 mod writing;
 
 pub use client::{Client, Connection};
-pub use ending::{Ending, serve, serve_lines};
+pub use ending::{Ending, ending_of, serve, serve_lines};
 pub use engine::{MOST_READ, run};
 pub use evaluation::eval;
 pub use expr_reader::{Request, Tensor};
-pub use server::answer_lines;
+pub use server::{answer_lines, write_answer};
 pub use sink::{CountedWriter, Sink};
 pub use source::{CountedReader, Source};
 pub use status::{RunFault, Status, StreamFault};
+pub use text::unsigned_text;

@@ -3,7 +3,7 @@
 ghost use Rattle.std.specs.Prelude.{◌≡◌, ◌<◌, ℕ, List, Some, Err, IfOk, IfSome, IfErr, OnOk};
 ghost use Rattle.std.specs.Prelude.{MatchResult, option_map};
 ghost use Rattle.std.specs.Io.KnownBytes.{Appends};
-ghost use Rattle.tensor_runner.specs.History.{IsNew, writing};
+ghost use Rattle.tensor_runner.specs.History.{IsNew, GoesByLines, writing};
 ghost use Rattle.tensor_runner.specs.Line.{IsLineFor};
 ghost use Rattle.tensor_runner.specs.Lines.{lines_of, AnswersLines, BreaksOff, CutsLinesShort};
 ghost use Rattle.tensor_runner.specs.Pieces.{AppendsFront};
@@ -35,7 +35,8 @@ pub fn answer_lines<RT: Threads + Wait + Sync, C: Client>(
     alloc: Global,
     client: &mut C,
 ) -> Result<(), StreamFault>
-    requires { IfSome (C.history client.old) IsNew }
+    requires by_lines { GoesByLines C.owes_nothing }
+    requires new { IfSome (C.history client.old) IsNew }
 
     ensures answered { (text held : List ℕ) → C.remaining client.old ≡ Some text
         → C.contents client.old ≡ Some held
@@ -92,9 +93,13 @@ fn answer_kept<RT: Threads + Wait + Sync>(rt: &RT, alloc: Global, kept: KeptLine
     }
 }
 
-/// Writes the whole line, by as many writes as it takes. Stops at the first that fails or takes
-/// nothing.
-fn write_answer<C: Client>(client: &mut C, line: &[u8]) -> Result<(), StreamFault>
+/// Writes all these bytes of an answer, by as many writes as it takes. Stops at the first that fails
+/// or takes nothing.
+///
+/// # Errors
+///
+/// [`StreamFault::WriteFault`]. A front of the bytes was written then.
+pub fn write_answer<C: Client>(client: &mut C, line: &[u8]) -> Result<(), StreamFault>
     ensures ok { OnOk result (Appends (C.contents client.old) (C.contents client.new) line.now) }
     ensures noted { OnOk result (C.history client.new
         ≡ option_map (writing line.now) (C.history client.old)) }

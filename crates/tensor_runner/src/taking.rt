@@ -5,7 +5,7 @@ ghost use Rattle.std.specs.Prelude.{MatchResult, false};
 ghost use Rattle.std.specs.Io.KnownBytes.{Keeps, IsAtEnd};
 ghost use Rattle.tensor_runner.specs.Taking.{pending_bytes, HasNoFeed, IsKept, IsCaughtUp};
 ghost use Rattle.tensor_runner.specs.Taking.{TakesPiece, Reads, TakesLine, StopsInLine};
-ghost use Rattle.tensor_runner.specs.History.{OwesNothing};
+ghost use Rattle.tensor_runner.specs.History.{GoesByLines};
 ghost use Rattle.tensor_runner.specs.Streams.{HasFailed};
 
 use crate::buffer::{InputBuffer, KeptLine, NextLine};
@@ -53,7 +53,7 @@ impl InputBuffer {
     /// Reads more, where nothing is pending. Answers whether there was more.
     fn refill<C: Client>(&mut self, client: &mut C) -> Result<bool, StreamFault>
         requires empty { pending_bytes self.old ≡ [] }
-        requires owes { IfSome (C.history client.old) OwesNothing }
+        requires owes { IfSome (C.history client.old) C.owes_nothing }
         ensures read { OnOk result (Reads (C.remaining client.old) (C.remaining client.new)
             (C.history client.old) (C.history client.new) (pending_bytes self.new)) }
         ensures at_end { IfOk result (λ more. more ≡ false
@@ -107,7 +107,8 @@ pub(crate) fn next_line<RT: Wait, C: Client>(
     client: &mut C,
     buffer: &mut InputBuffer,
 ) -> Result<NextLine, StreamFault>
-    requires { IfSome (C.history client.old) (IsCaughtUp (pending_bytes buffer.old)) }
+    requires by_lines { GoesByLines C.owes_nothing }
+    requires caught_up { IfSome (C.history client.old) (IsCaughtUp (pending_bytes buffer.old)) }
     ensures line { IfOk result (TakesLine (C.remaining client.old) (C.remaining client.new)
         (C.history client.old) (C.history client.new)
         (pending_bytes buffer.old) (pending_bytes buffer.new)) }

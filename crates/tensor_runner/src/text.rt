@@ -57,7 +57,11 @@ fn signed_text(alloc: Global, numbers: &[i64]) -> Result<Vec<u8>, AllocError>
 }
 
 /// Numbers from 0 up as an array.
-fn unsigned_text(alloc: Global, numbers: &[u64]) -> Result<Vec<u8>, AllocError>
+///
+/// # Errors
+///
+/// [`AllocError`], where a growth of memory was refused.
+pub fn unsigned_text(alloc: Global, numbers: &[u64]) -> Result<Vec<u8>, AllocError>
     ensures { IfOk result (λ text. text.items ≡ bracketed (map pos numbers.now)) }
 {
     array_text(alloc, numbers)

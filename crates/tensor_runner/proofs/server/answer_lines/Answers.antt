@@ -11,7 +11,7 @@ loop-turn-init g c = (
   tt,
   Serves-start _ _ _ c.new-buffer.ensures,
   subst (λ (l : List ℕ). IfSome (g.C.Client.history c.args.client.now) (IsCaughtUp l)) (sym c.new-buffer.ensures)
-      (IsCaughtUp-new (g.C.Client.history c.args.client.now) c.requires),
+      (IsCaughtUp-new (g.C.Client.history c.args.client.now) c.requires.new),
   refl,
   refl,
 )

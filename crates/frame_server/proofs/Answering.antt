@@ -1,0 +1,130 @@
+-- Frames of answers, and how they are written.
+use Rattle.std.proofs.Common.{◌≡◌, ◌⊎◌, ◌<◌, ◌+◌, ◌-◌, ℕ, ℤ, Bool, true, false, List, [], ◌∷◌, ◌++◌, length, map, take, drop, get_or, set, Option, Result, Ok, Err, OnErr}
+use Rattle.std.proofs.Common.{refl, ap, sym, ◌∙◌, subst, append_assoc, arith, length-append, inl, inr}
+use Rattle.std.specs.Prelude.{◌||◌, nat_lt, MatchResult}
+use Rattle.std.specs.List.{flat_map}
+use Rattle.std.proofs.Math.Seq.{take-add, take-append-add}
+use Rattle.std.proofs.lemmas.Bool.{lt-ltb}
+use Rattle.std.proofs.lemmas.List.{take_more_set, take_more, map-append, take-append-drop, take-append-le, length-drop, length-take-le}
+use Rattle.std.proofs.lemmas.List.Concat.{flat_map-append}
+use Rattle.std.specs.Io.KnownBytes.{Appends}
+use Rattle.expr_reader.specs.Asked.{asked_under}
+use Rattle.expr_reader.specs.Frame.{request_of_frame}
+use Rattle.expr_reader.specs.declared.request.Request.{Request}
+use Rattle.expr_reader.specs.Limits.{most_bytes, most_values}
+use Rattle.expr_reader.specs.declared.fault.Fault.{Fault}
+use Rattle.expr_reader.specs.declared.fault.Fault.TheVariants.{TooLong, NoMemory}
+use Rattle.tensor_runner.specs.Answer.{tensor, fault, answer_from, asked_tensor}
+use Rattle.tensor_runner.specs.Pieces.{AppendsFront}
+use Rattle.tensor_runner.proofs.Streams.{Appends-trans}
+use Rattle.frame_server.specs.Answer.{answer_of, answer_bytes, IsAnswerTo}
+use Rattle.frame_server.specs.Answering.{front_bytes, bytes_in, IsFrameOfTensor, IsFaultOf}
+use Rattle.frame_server.specs.Frame.{frame_bytes, frame_in, header_len, value_count, number_bytes, value_bytes, IsWhole}
+use Rattle.frame_server.specs.Taking.{IsTooLong, frame_under}
+use Rattle.frame_server.specs.declared.frame.AnswerFrame.{AnswerFrame}
+use Rattle.frame_server.specs.declared.frame.WholeFrame.{WholeFrame}
+use Rattle.frame_server.proofs.Frames.{length-values_of}
+
+-- the values behind the sizes and the header
+pub front-behind : (header : List ℕ) (values : List ℤ)
+    → front_bytes header (length values) ++ flat_map value_bytes values ≡ frame_bytes (record { header = header; values = values })
+front-behind header values =
+    append_assoc (number_bytes (length header)) (number_bytes (length values) ++ header) (flat_map value_bytes values)
+    ∙ ap (λ (l : List ℕ). number_bytes (length header) ++ l) (append_assoc (number_bytes (length values)) header (flat_map value_bytes values))
+
+-- one cell more
+pub cells-push : (cells : List (List ℕ)) (values : List ℤ) (k : ℕ) (x : List ℕ) (d : ℤ) → k < length cells → k < length values → x ≡ value_bytes (get_or values k d)
+    → take k cells ≡ map value_bytes (take k values) → take (k + 1) (set cells k x) ≡ map value_bytes (take (k + 1) values)
+cells-push cells values k x d within some is before =
+    take_more_set cells k x within
+    ∙ ap (λ (l : List (List ℕ)). l ++ x ∷ []) before
+    ∙ ap (λ (y : List ℕ). map value_bytes (take k values) ++ y ∷ []) is
+    ∙ sym (map-append value_bytes (take k values) (get_or values k d ∷ []))
+    ∙ ap (λ (l : List ℤ). map value_bytes l) (sym (take_more values k d some))
+
+-- a front of what stands behind something is a front of all
+pub AppendsFront-behind : (a b c : Option (List ℕ)) (xs ys more all : List ℕ) → Appends a b xs → AppendsFront b c ys → all ≡ xs ++ (ys ++ more) → AppendsFront a c all
+AppendsFront-behind a b c xs ys more all first front is =
+    let within : front.0 < length ys = front.1 in
+    let taken : take (length xs + front.0) all ≡ xs ++ take front.0 ys =
+    ap (λ (l : List ℕ). take (length xs + front.0) l) is
+    ∙ take-append-add xs (ys ++ more) front.0
+    ∙ ap (λ (l : List ℕ). xs ++ l) (take-append-le front.0 ys more (omega (arith, within))) in (
+      length xs + front.0,
+      omega (arith, within, ap length is, length-append xs (ys ++ more), length-append ys more),
+      subst (λ (l : List ℕ). Appends a c l) (sym taken) (Appends-trans a b c xs (take front.0 ys) first front.2),
+    )
+
+pub AppendsFront-more : (a b : Option (List ℕ)) (ys more : List ℕ) → AppendsFront a b ys → AppendsFront a b (ys ++ more)
+AppendsFront-more a b ys more front =
+    let within : front.0 < length ys = front.1 in (
+      front.0,
+      omega (arith, within, length-append ys more),
+      subst (λ (l : List ℕ). Appends a b l) (sym (take-append-le front.0 ys more (omega (arith, within)))) front.2,
+    )
+
+pub OnErr-follows : {A E : Type 0} (r : Result A E) (X Y : Type 0) → (X → Y) → OnErr r X → OnErr r Y
+OnErr-follows (Ok x) X Y follows holds = tt
+OnErr-follows (Err e) X Y follows holds = follows holds
+
+-- values in three parts
+pub values-parted : (values : List ℤ) (first count : ℕ)
+    → flat_map value_bytes values
+    ≡ flat_map value_bytes (take first values) ++ (flat_map value_bytes (take count (drop first values)) ++ flat_map value_bytes (drop count (drop first values)))
+values-parted values first count =
+    ap (λ (l : List ℤ). flat_map value_bytes l) (sym (take-append-drop first values))
+    ∙ flat_map-append value_bytes (take first values) (drop first values)
+    ∙ ap (λ (l : List ℕ). flat_map value_bytes (take first values) ++ l)
+    (ap (λ (l : List ℤ). flat_map value_bytes l) (sym (take-append-drop count (drop first values)))
+    ∙ flat_map-append value_bytes (take count (drop first values)) (drop count (drop first values)))
+
+-- more of them
+pub values-more : (values : List ℤ) (first count : ℕ)
+    → flat_map value_bytes (take first values) ++ flat_map value_bytes (take ((count + first) - first) (drop first values)) ≡ flat_map value_bytes (take (count + first) values)
+values-more values first count =
+    let some : (count + first) - first ≡ count = omega arith in
+    let sum : first + count ≡ count + first = omega arith in
+    ap (λ (n : ℕ). flat_map value_bytes (take first values) ++ flat_map value_bytes (take n (drop first values))) some
+    ∙ sym (flat_map-append value_bytes (take first values) (take count (drop first values)))
+    ∙ ap (λ (l : List ℤ). flat_map value_bytes l) (sym (take-add first count values) ∙ ap (λ (n : ℕ). take n values) sum)
+
+or-true : (b : Bool) → (b || true) ≡ true
+or-true true = refl
+or-true false = refl
+
+-- a frame that is too long
+request-long : (header : List ℕ) (values : List ℤ) → (most_bytes < length header) ⊎ (most_values < length values) → answer_of (record { header = header; values = values }) ≡ fault TooLong
+request-long header values (inl long) = rw (lt-ltb most_bytes (length header) long) refl
+request-long header values (inr many) = rw (lt-ltb most_values (length values) many, or-true (nat_lt most_bytes (length header))) refl
+
+length-header : (bytes : List ℕ) → IsWhole bytes → length (take (header_len bytes) (drop 16 bytes)) ≡ header_len bytes
+length-header bytes whole = length-take-le (header_len bytes) (drop 16 bytes) (omega (arith, whole, length-drop 16 bytes))
+
+too_long : (bytes : List ℕ) → IsWhole bytes → IsTooLong (header_len bytes) (value_count bytes) → answer_of (frame_in bytes) ≡ fault TooLong
+too_long bytes whole (inl long) =
+    request-long _ _ (inl (subst (λ (n : ℕ). most_bytes < n) (sym (length-header bytes whole)) long))
+too_long bytes whole (inr many) =
+    request-long _ _ (inr (subst (λ (n : ℕ). most_values < n) (sym (length-values_of (value_count bytes) (drop (16 + header_len bytes) bytes))) many))
+
+-- what answers a frame that was passed over
+pub IsAnswerTo-passed : (bytes : List ℕ) (f : Fault) → IsWhole bytes → (f ≡ NoMemory) ⊎ ((f ≡ TooLong) × IsTooLong (header_len bytes) (value_count bytes)) → IsAnswerTo bytes (fault f)
+IsAnswerTo-passed bytes f whole (inl memory) = inr (ap fault memory)
+IsAnswerTo-passed bytes f whole (inr long) = inl (ap fault long.0 ∙ sym (too_long bytes whole long.1))
+
+-- the frame of the tensor that a frame's request asks for, or want of memory
+pub IsFrameOfTensor-asked : (bytes : List ℕ) (frame : WholeFrame) (request : Request) (r : Result AnswerFrame Fault) → frame_under frame ≡ frame_in bytes
+    → request_of_frame frame.header.items frame.values.items ≡ Ok (asked_under request)
+    → MatchResult r (λ a. bytes_in a ≡ answer_bytes (tensor (asked_tensor (asked_under request)))) (λ f. f ≡ NoMemory)
+    → MatchResult r (IsFrameOfTensor bytes) (IsFaultOf bytes)
+IsFrameOfTensor-asked bytes frame request (Ok a) same asks written = record {
+  found = asked_tensor (asked_under request);
+  answers = ap answer_of (sym same) ∙ ap answer_from asks;
+  written = written;
+}
+IsFrameOfTensor-asked bytes frame request (Err f) same asks memory = inr (ap fault memory)
+
+-- the first fault of a frame, or want of memory
+pub IsFaultOf-asked : (bytes : List ℕ) (frame : WholeFrame) (f : Fault) → frame_under frame ≡ frame_in bytes
+    → (f ≡ NoMemory) ⊎ (request_of_frame frame.header.items frame.values.items ≡ Err f) → IsFaultOf bytes f
+IsFaultOf-asked bytes frame f same (inl memory) = inr (ap fault memory)
+IsFaultOf-asked bytes frame f same (inr asks) = inl (sym (ap answer_of (sym same) ∙ ap answer_from asks))

@@ -1,0 +1,6 @@
+pub mod Frames
+pub mod Parts
+pub mod Answering
+pub mod Serving
+pub mod Takings
+pub mod Written

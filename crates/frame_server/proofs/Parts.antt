@@ -1,0 +1,189 @@
+-- The parts of a frame, one behind the other.
+use Rattle.std.proofs.Common.{◌≡◌, ◌<◌, ◌≤◌, ◌+◌, ◌*◌, ◌-◌, ℕ, List, [], ◌++◌, length, take, drop, Option}
+use Rattle.std.proofs.Common.{ℤ, refl, ap, sym, ◌∙◌, subst, arith, length-append, inl, inr}
+use Rattle.std.proofs.lemmas.List.{append-nil, take_at, drop_at, length-take-le}
+use Rattle.std.specs.Io.KnownBytes.{IsAtEnd}
+use Rattle.tensor_runner.specs.History.{History}
+use Rattle.tensor_runner.specs.Streams.{HasFailed}
+use Rattle.frame_server.specs.Frame.{Frame, IsUnfinished, header_len, value_count}
+use Rattle.frame_server.specs.Taking.{IsBelow, IsCutOff, IsHeadOf, IsKept, IsKeptRest, IsTooLong, values_of}
+use Rattle.frame_server.specs.Taking.{Takes, TakesCount, TakesValues, TakesHead, TakesRest, TakesFrame, FailsIn, StopsInFrame, MovesValues}
+use Rattle.frame_server.specs.declared.frame.Head.{Head}
+use Rattle.frame_server.specs.declared.frame.NextFrame.{NextFrame}
+use Rattle.frame_server.specs.declared.frame.NextFrame.TheVariants.{Whole, Passed}
+use Rattle.frame_server.proofs.Frames.{IsUnfinished-head, IsUnfinished-short, IsWhole-head, frame_in-head, header_len-append, value_count-append, values_of-append, length-values_of}
+use Rattle.frame_server.proofs.Takings.{Takes-none, Takes-then, Takes-front, FailsIn-on}
+
+-- more is pending
+pub Takes-wait : (a b c : Option (List ℕ)) (h k m : Option History) (old mid new got : List ℕ)
+    → Takes a b h k old mid got → Takes b c k m mid new [] → Takes a c h m old new got
+Takes-wait a b c h k m old mid new got t w =
+    subst (λ (l : List ℕ). Takes a c h m old new l) (append-nil got) (Takes-then a b c h k m old mid new got [] t w)
+
+-- some of it was moved
+pub Takes-move : (a b : Option (List ℕ)) (h k : Option History) (old mid new got now : List ℕ) (count : ℕ)
+    → Takes a b h k old mid got → new ≡ drop count mid → now ≡ got ++ take count mid → Takes a b h k old new now
+Takes-move a b h k old mid new got now count t left is =
+    subst (λ (l : List ℕ). Takes a b h k old new l) (sym is)
+    (subst (λ (l : List ℕ). Takes a b h k old l (got ++ take count mid)) (sym left)
+    (Takes-then a b b h k k old mid (drop count mid) got (take count mid) t (Takes-front b k mid count)))
+
+pub TakesValues-none : (a : Option (List ℕ)) (h : Option History) (old : List ℕ) (values : List ℤ) → values ≡ [] → TakesValues a a h h old old values
+TakesValues-none a h old values none =
+    subst (λ (l : List ℤ). TakesValues a a h h old old l) (sym none)
+    (record { bytes = []; takes = Takes-none a h old; counted = refl; read = refl })
+
+pub TakesValues-wait : (a b c : Option (List ℕ)) (h k m : Option History) (old mid new : List ℕ) (values : List ℤ)
+    → TakesValues a b h k old mid values → Takes b c k m mid new [] → TakesValues a c h m old new values
+TakesValues-wait a b c h k m old mid new values t w = record {
+  bytes = t.bytes;
+  takes = Takes-wait a b c h k m old mid new t.bytes t.takes w;
+  counted = t.counted;
+  read = t.read;
+}
+
+pub TakesValues-move : (a b : Option (List ℕ)) (h k : Option History) (old mid new : List ℕ) (values now : List ℤ) (most : ℕ)
+    → TakesValues a b h k old mid values → MovesValues most mid new values now → TakesValues a b h k old new now
+TakesValues-move a b h k old mid new values now most t m =
+    let piece = take (8 * m.count) mid in
+    let len : length now ≡ length values + m.count =
+    ap length m.kept_too ∙ length-append values (values_of m.count piece) ∙ ap (λ (n : ℕ). length values + n) (length-values_of m.count piece) in
+    record {
+      bytes = t.bytes ++ piece;
+      takes = Takes-move a b h k old mid new t.bytes (t.bytes ++ piece) (8 * m.count) t.takes m.left refl;
+      counted = omega (arith, len, t.counted, length-append t.bytes piece, length-take-le (8 * m.count) mid m.there);
+      read = m.kept_too
+          ∙ ap (λ (l : List ℤ). l ++ values_of m.count piece) t.read
+          ∙ sym (values_of-append (length values) m.count t.bytes piece t.counted)
+          ∙ ap (λ (n : ℕ). values_of n (t.bytes ++ piece)) (sym len);
+    }
+
+pub TakesCount-none : (a : Option (List ℕ)) (h : Option History) (old : List ℕ) (n : ℕ) → TakesCount (n - n) a a h h old old
+TakesCount-none a h old n = record { bytes = []; takes = Takes-none a h old; counted = omega arith }
+
+pub TakesCount-wait : (n : ℕ) (a b c : Option (List ℕ)) (h k m : Option History) (old mid new : List ℕ)
+    → TakesCount n a b h k old mid → Takes b c k m mid new [] → TakesCount n a c h m old new
+TakesCount-wait n a b c h k m old mid new t w = record {
+  bytes = t.bytes;
+  takes = Takes-wait a b c h k m old mid new t.bytes t.takes w;
+  counted = t.counted;
+}
+
+pub TakesCount-skip : (n all : ℕ) (a b : Option (List ℕ)) (h k : Option History) (old mid new : List ℕ) (count : ℕ)
+    → TakesCount n a b h k old mid → count ≤ length mid → new ≡ drop count mid → n + count ≡ all → TakesCount all a b h k old new
+TakesCount-skip n all a b h k old mid new count t within left is = record {
+  bytes = t.bytes ++ take count mid;
+  takes = Takes-move a b h k old mid new t.bytes (t.bytes ++ take count mid) count t.takes left refl;
+  counted = omega (arith, is, t.counted, length-append t.bytes (take count mid), length-take-le count mid within);
+}
+
+abbrev framed : List ℕ → List ℤ → Frame
+framed header values = record { header = header; values = values }
+
+-- a header and values
+pub TakesRest-whole : (a b c : Option (List ℕ)) (h k m : Option History) (old mid new : List ℕ) (head : Head) (header : List ℕ) (values : List ℤ) (next : NextFrame)
+    → Takes a b h k old mid header → length header ≡ head.header_len → TakesValues b c k m mid new values → length values ≡ head.value_count
+    → ((bytes : List ℕ) → ◌≡◌ {A = Frame} (record { header = header; values = values }) (record {
+      header = take head.header_len bytes;
+      values = values_of head.value_count (drop head.header_len bytes);
+    }) → IsKeptRest head bytes next)
+    → TakesRest a c h m old new head next
+TakesRest-whole a b c h k m old mid new head header values next t len v count kept =
+    let front : take head.header_len (header ++ v.bytes) ≡ header = take_at header v.bytes head.header_len len in
+    let back : values_of head.value_count (drop head.header_len (header ++ v.bytes)) ≡ values =
+    ap (λ (l : List ℕ). values_of head.value_count l) (drop_at header v.bytes head.header_len len)
+    ∙ ap (λ (n : ℕ). values_of n v.bytes) (sym count) ∙ sym v.read in
+    record {
+      bytes = header ++ v.bytes;
+      takes = Takes-then a b c h k m old mid new header v.bytes t v.takes;
+      counted = omega (arith, len, count, v.counted, length-append header v.bytes);
+      kept = kept (header ++ v.bytes)
+          (ap (λ (l : List ℕ). framed l values) (sym front)
+          ∙ ap (λ (l : List ℤ). framed (take head.header_len (header ++ v.bytes)) l) (sym back));
+    }
+
+-- of which all is passed over
+pub TakesRest-passed : (a b : Option (List ℕ)) (h k : Option History) (old new : List ℕ) (head : Head) (next : NextFrame) (count : ℕ)
+    → TakesCount count a b h k old new → count ≡ head.header_len + 8 * head.value_count → ((bytes : List ℕ) → IsKeptRest head bytes next)
+    → TakesRest a b h k old new head next
+TakesRest-passed a b h k old new head next count t is kept = record {
+  bytes = t.bytes;
+  takes = t.takes;
+  counted = t.counted ∙ is;
+  kept = kept t.bytes;
+}
+
+IsKept-head : (front bytes : List ℕ) (head : Head) (next : NextFrame) → length front ≡ 16 → IsHeadOf front head → IsKeptRest head bytes next
+    → IsKept (front ++ bytes) next
+IsKept-head front bytes head (Whole frame) sixteen told kept =
+    kept
+    ∙ ap (λ (n : ℕ). framed (take n bytes) (values_of head.value_count (drop n bytes))) told.header
+    ∙ ap (λ (n : ℕ). framed (take (header_len front) bytes) (values_of n (drop (header_len front) bytes))) told.values
+    ∙ sym (frame_in-head front bytes sixteen)
+IsKept-head front bytes head (Passed fault) sixteen told (inl memory) = inl memory
+IsKept-head front bytes head (Passed fault) sixteen told (inr long) =
+    let h : head.header_len ≡ header_len (front ++ bytes) = told.header ∙ sym (header_len-append front bytes (omega arith)) in
+    let v : head.value_count ≡ value_count (front ++ bytes) = told.values ∙ sym (value_count-append front bytes (omega arith)) in
+    inr (long.0, subst (λ (n : ℕ). IsTooLong (header_len (front ++ bytes)) n) v (subst (λ (n : ℕ). IsTooLong n head.value_count) h long.1))
+
+-- a frame
+pub TakesFrame-of : (a b c : Option (List ℕ)) (h k m : Option History) (old mid new : List ℕ) (head : Head) (next : NextFrame)
+    → TakesHead a b h k old mid head → TakesRest b c k m mid new head next → TakesFrame a c h m old new next
+TakesFrame-of a b c h k m old mid new head next t r = record {
+  bytes = t.bytes ++ r.bytes;
+  takes = Takes-then a b c h k m old mid new t.bytes r.bytes t.takes r.takes;
+  whole = IsWhole-head t.bytes r.bytes t.counted (omega (arith, r.counted, t.told.header, t.told.values));
+  kept = IsKept-head t.bytes r.bytes head next t.counted t.told r.kept;
+}
+
+-- a head and fewer bytes than it tells
+pub unfinished_behind : (front xs : List ℕ) (head : Head) → length front ≡ 16 → IsHeadOf front head → IsBelow (head.header_len + 8 * head.value_count) xs
+    → IsUnfinished (front ++ xs)
+unfinished_behind front xs head sixteen told few =
+    IsUnfinished-head front xs sixteen (omega (arith, few, told.header, told.values))
+
+-- the reading stopped behind a head
+pub StopsInFrame-behind : (a b c : Option (List ℕ)) (h k : Option History) (first failed fails : ℕ) (old mid : List ℕ) (head : Head)
+    → TakesHead a b h k old mid head → failed ≡ first → FailsIn (IsBelow (head.header_len + 8 * head.value_count)) b c mid → IsCutOff failed fails c
+    → StopsInFrame a c first fails old
+StopsInFrame-behind a b c h k first failed fails old mid head t same f cut =
+    let all = FailsIn-on (λ (xs : List ℕ). IsUnfinished xs × (16 ≤ length xs)) (IsBelow (head.header_len + 8 * head.value_count)) a b c h k old mid t.bytes t.takes f
+    (λ xs few. (unfinished_behind t.bytes xs head t.counted t.told few, omega (arith, t.counted, length-append t.bytes xs))) in
+    record {
+      read = all.read;
+      consumed = all.consumed;
+      unfinished = all.kind.0;
+      why = elim cut [
+        | inl broke ↦ inl (subst (λ (n : ℕ). HasFailed n fails) same broke)
+        | inr ended ↦ inr (ended.0 ∙ same, ended.1, omega (arith, all.kind.1))
+      ];
+    }
+
+-- the head itself was taken
+pub TakesHead-of : (a b : Option (List ℕ)) (h k : Option History) (old mid new : List ℕ) (head : Head)
+    → Takes a b h k old mid [] → 16 ≤ length mid → IsHeadOf (take 16 mid) head → new ≡ drop 16 mid → TakesHead a b h k old new head
+TakesHead-of a b h k old mid new head t some told left = record {
+  bytes = take 16 mid;
+  takes = Takes-move a b h k old mid new [] (take 16 mid) 16 t left refl;
+  counted = length-take-le 16 mid some;
+  told = told;
+}
+
+-- the reading stopped in a head
+pub StopsInFrame-head : (a b : Option (List ℕ)) (failed fails : ℕ) (old : List ℕ) → FailsIn (IsBelow 16) a b old → HasFailed failed fails
+    → StopsInFrame a b failed fails old
+StopsInFrame-head a b failed fails old f broke = record {
+  read = f.read;
+  consumed = f.consumed;
+  unfinished = IsUnfinished-short (old ++ f.read) f.kind;
+  why = inl broke;
+}
+
+pub StopsInFrame-ends : (a b : Option (List ℕ)) (h k : Option History) (failed fails : ℕ) (old mid : List ℕ)
+    → Takes a b h k old mid [] → IsBelow 16 mid → 0 < length mid → IsAtEnd b → fails ≡ failed → StopsInFrame a b failed fails old
+StopsInFrame-ends a b h k failed fails old mid t few some end same = record {
+  read = t.read;
+  consumed = t.reads.consumed;
+  unfinished = subst IsUnfinished (sym t.parted) (IsUnfinished-short mid few);
+  why = inr (same, end, omega (arith, some, ap length t.parted));
+}

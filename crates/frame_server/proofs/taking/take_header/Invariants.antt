@@ -1,0 +1,17 @@
+-- The first bytes of the header were taken, and there is room for all.
+use Rattle.std.proofs.Common.{◌≡◌, ◌≤◌, ◌-◌, length, vec_capacity}
+use Rattle.frame_server.specs.Taking.{pending_bytes, Takes}
+use Rattle.frame_server.proofs.taking.take_header.Given as goal
+
+abbrev pub invariant-loop-buffer : goal.invariant-loop-buffer
+invariant-loop-buffer g l =
+    Takes (g.C.Client.remaining l.fn.client) (g.C.Client.remaining l.client) (g.C.Client.history l.fn.client) (g.C.Client.history l.client)
+    (pending_bytes l.fn.buffer) (pending_bytes l.buffer) l.header.items
+    × (length l.header.items ≤ l.count)
+    × (l.count ≤ vec_capacity l.header)
+    × (g.C.Client.contents l.client ≡ g.C.Client.contents l.fn.client)
+    × (g.C.Client.read_failures l.client ≡ g.C.Client.read_failures l.fn.client)
+    × (g.C.Client.write_failures l.client ≡ g.C.Client.write_failures l.fn.client)
+
+abbrev pub decreases-loop-buffer : goal.decreases-loop-buffer
+decreases-loop-buffer g l = l.count - length l.header.items

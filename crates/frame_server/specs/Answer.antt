@@ -1,0 +1,32 @@
+-- What answers a frame.
+use Rattle.std.specs.Prelude.{◌≡◌, ◌⊎◌, ℕ, pos, List, [], ◌∷◌, ◌++◌, map, codes, decimal}
+use Rattle.expr_reader.specs.Faults.{fault_number, fault_name}
+use Rattle.expr_reader.specs.Frame.{request_of_frame}
+use Rattle.expr_reader.specs.declared.fault.Fault.{Fault}
+use Rattle.expr_reader.specs.declared.fault.Fault.TheVariants.{NoMemory}
+use Rattle.tensor_runner.specs.Answer.{Answer, tensor, fault, answer_from, numbers_text}
+use Rattle.frame_server.specs.Frame.{Frame, frame_in, frame_bytes}
+
+-- the tensor of the request that a frame means, or its first fault
+abbrev pub answer_of : Frame → Answer
+answer_of f = answer_from (request_of_frame f.header f.values)
+
+-- `{"dims":[..]}`
+abbrev pub dims_text : List ℕ → List ℕ
+dims_text dims = codes "{\"dims\":[" ++ (numbers_text (map pos dims) ++ codes "]}")
+
+-- `error N Name`
+abbrev pub fault_text : Fault → List ℕ
+fault_text f = codes "error " ++ decimal (fault_number f) ++ 32 ∷ fault_name f
+
+-- the frame that answers: a tensor's dims with its values, or a fault with none
+abbrev pub frame_of : Answer → Frame
+frame_of (tensor t) = record { header = dims_text t.dims; values = t.values }
+frame_of (fault f) = record { header = fault_text f; values = [] }
+
+abbrev pub answer_bytes : Answer → List ℕ
+answer_bytes a = frame_bytes (frame_of a)
+
+-- the answer of the frame that these bytes are, or want of memory
+abbrev pub IsAnswerTo : List ℕ → Answer → Type 0
+IsAnswerTo bytes a = (a ≡ answer_of (frame_in bytes)) ⊎ (a ≡ fault NoMemory)

@@ -1,0 +1,8 @@
+pub mod Answer
+pub mod Ending
+pub mod Frame
+pub mod Stream
+-- for private clauses alone
+pub mod Answering
+pub mod Server
+pub mod Taking

@@ -1,0 +1,161 @@
+-- Bytes on the way from a client to a frame, for the private clauses of the server.
+use Rattle.std.specs.Prelude.{◌≡◌, ◌⊎◌, ◌<◌, ◌≤◌, ◌-◌, ◌+◌, ◌*◌, ℕ, ℤ, List, [], ◌++◌, length, take, drop, map}
+use Rattle.std.specs.Prelude.{Option, vec_capacity}
+use Rattle.std.specs.Io.KnownBytes.{Consumes, IsAtEnd}
+use Rattle.std.specs.Simd.{first_chunks}
+use Rattle.expr_reader.specs.Limits.{most_bytes, most_values}
+use Rattle.expr_reader.specs.declared.fault.Fault.TheVariants.{TooLong, NoMemory}
+use Rattle.tensor_runner.specs.History.{History, reading}
+use Rattle.tensor_runner.specs.Streams.{HasFailed}
+use Rattle.tensor_runner.specs.Taking.{Reads}
+use Rattle.frame_server.specs.Frame.{Frame, IsWhole, IsUnfinished, frame_in, value_of}
+use Rattle.frame_server.specs.Frame.{header_len, value_count}
+use Rattle.frame_server.specs.declared.buffer.InputBuffer.{InputBuffer}
+use Rattle.frame_server.specs.declared.frame.Head.{Head}
+use Rattle.frame_server.specs.declared.frame.WholeFrame.{WholeFrame}
+use Rattle.frame_server.specs.declared.frame.NextFrame.{NextFrame}
+use Rattle.frame_server.specs.declared.frame.NextFrame.TheVariants.{Whole, Passed}
+
+-- what was read and belongs to no frame yet
+abbrev pub pending_bytes : InputBuffer → List ℕ
+pending_bytes b = take (b.end - b.start) (drop b.start b.bytes)
+
+-- so many bytes are more
+abbrev pub IsBelow : ℕ → List ℕ → Type 0
+IsBelow count bytes = length bytes < count
+
+-- whatever is read, nothing is owed as long as all that is pending is of this kind
+abbrev pub OwesNothingWhile : (List ℕ → Type 0) → (History → Type 0) → List ℕ → History → Type 0
+OwesNothingWhile Kind owes_nothing pending h =
+    (more : List ℕ) → Kind (pending ++ more) → owes_nothing (reading more h)
+
+-- these bytes were taken of what was pending and what was read
+pub record Takes (before after : Option (List ℕ)) (h k : Option History) (old new : List ℕ)
+    (bytes : List ℕ) : Type 0 where
+  pub read : List ℕ
+  pub reads : Reads before after h k read
+  pub parted : old ++ read ≡ bytes ++ new
+
+-- so many bytes were taken
+pub record TakesCount (count : ℕ) (before after : Option (List ℕ)) (h k : Option History)
+    (old new : List ℕ) : Type 0 where
+  pub bytes : List ℕ
+  pub takes : Takes before after h k old new bytes
+  pub counted : length bytes ≡ count
+
+-- the values that bytes are
+abbrev pub values_of : ℕ → List ℕ → List ℤ
+values_of count bytes = map value_of (first_chunks 8 count bytes)
+
+-- these values were taken
+pub record TakesValues (before after : Option (List ℕ)) (h k : Option History)
+    (old new : List ℕ) (values : List ℤ) : Type 0 where
+  pub bytes : List ℕ
+  pub takes : Takes before after h k old new bytes
+  pub counted : length bytes ≡ 8 * length values
+  pub read : values ≡ values_of (length values) bytes
+
+-- what was pending and what was read is of this kind
+pub record FailsIn (Kind : List ℕ → Type 0) (before after : Option (List ℕ)) (old : List ℕ)
+    : Type 0 where
+  pub read : List ℕ
+  pub consumed : Consumes before after read
+  pub kind : Kind (old ++ read)
+
+-- a read failed, by the numbers of failures before and after, or the client's bytes are at their end
+abbrev pub IsCutOff : ℕ → ℕ → Option (List ℕ) → Type 0
+IsCutOff before after remaining =
+    HasFailed before after ⊎ ((after ≡ before) × IsAtEnd remaining)
+
+-- bytes that begin a frame say this of it
+pub record IsHeadOf (bytes : List ℕ) (head : Head) : Type 0 where
+  pub header : head.header_len ≡ header_len bytes
+  pub values : head.value_count ≡ value_count bytes
+
+-- what a frame's length is told by was taken
+pub record TakesHead (before after : Option (List ℕ)) (h k : Option History)
+    (old new : List ℕ) (head : Head) : Type 0 where
+  pub bytes : List ℕ
+  pub takes : Takes before after h k old new bytes
+  pub counted : length bytes ≡ 16
+  pub told : IsHeadOf bytes head
+
+-- a header of this length, or so many values, are too many
+abbrev pub IsTooLong : ℕ → ℕ → Type 0
+IsTooLong header_len value_count = (most_bytes < header_len) ⊎ (most_values < value_count)
+
+-- room for a frame's header and values
+pub record HasRoom (head : Head) (room : WholeFrame) : Type 0 where
+  pub no_header : room.header.items ≡ []
+  pub no_values : room.values.items ≡ []
+  pub header : head.header_len ≤ vec_capacity room.header
+  pub values : head.value_count ≤ vec_capacity room.values
+
+-- the frame as its header and values
+abbrev pub frame_under : WholeFrame → Frame
+frame_under frame = record { header = frame.header.items; values = frame.values.items }
+
+-- what is kept of a frame's bytes, given what stands behind its head: all, or why nothing is
+abbrev pub IsKeptRest : Head → List ℕ → NextFrame → Type 0
+IsKeptRest head bytes (Whole frame) =
+    frame_under frame ≡ record {
+      header = take head.header_len bytes;
+      values = values_of head.value_count (drop head.header_len bytes);
+    }
+IsKeptRest head bytes (Passed fault) =
+    (fault ≡ NoMemory) ⊎ ((fault ≡ TooLong) × IsTooLong head.header_len head.value_count)
+
+-- what stands behind a frame's head was taken
+pub record TakesRest (before after : Option (List ℕ)) (h k : Option History)
+    (old new : List ℕ) (head : Head) (next : NextFrame) : Type 0 where
+  pub bytes : List ℕ
+  pub takes : Takes before after h k old new bytes
+  pub counted : length bytes ≡ head.header_len + 8 * head.value_count
+  pub kept : IsKeptRest head bytes next
+
+-- what is kept of a frame: all, or why nothing is
+abbrev pub IsKept : List ℕ → NextFrame → Type 0
+IsKept bytes (Whole frame) = frame_under frame ≡ frame_in bytes
+IsKept bytes (Passed fault) =
+    (fault ≡ NoMemory) ⊎ ((fault ≡ TooLong) × IsTooLong (header_len bytes) (value_count bytes))
+
+-- a whole frame was taken
+pub record TakesFrame (before after : Option (List ℕ)) (h k : Option History)
+    (old new : List ℕ) (next : NextFrame) : Type 0 where
+  pub bytes : List ℕ
+  pub takes : Takes before after h k old new bytes
+  pub whole : IsWhole bytes
+  pub kept : IsKept bytes next
+
+-- there is no byte more
+pub record Ends (before after : Option (List ℕ)) (h k : Option History) (old new : List ℕ)
+    : Type 0 where
+  pub takes : Takes before after h k old new []
+  pub nothing : new ≡ []
+  pub at_end : IsAtEnd after
+
+-- a read failed, or the client's bytes ended in a frame
+pub record StopsInFrame (before after : Option (List ℕ)) (failed fails : ℕ) (old : List ℕ)
+    : Type 0 where
+  pub read : List ℕ
+  pub consumed : Consumes before after read
+  pub unfinished : IsUnfinished (old ++ read)
+  pub why : HasFailed failed fails
+      ⊎ ((fails ≡ failed) × IsAtEnd after × (0 < length (old ++ read)))
+
+-- some of what is pending was moved behind what is kept
+pub record MovesBytes (most : ℕ) (old new kept now : List ℕ) : Type 0 where
+  pub count : ℕ
+  pub some : 0 < count
+  pub within : count ≤ most
+  pub kept_too : now ≡ kept ++ take count old
+  pub left : new ≡ drop count old
+  pub there : count ≤ length old
+
+pub record MovesValues (most : ℕ) (old new : List ℕ) (kept now : List ℤ) : Type 0 where
+  pub count : ℕ
+  pub some : 0 < count
+  pub within : count ≤ most
+  pub kept_too : now ≡ kept ++ values_of count (take (8 * count) old)
+  pub left : new ≡ drop (8 * count) old
+  pub there : 8 * count ≤ length old

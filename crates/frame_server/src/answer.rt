@@ -1,0 +1,145 @@
+//! The frame that answers a frame, whole in memory before it is written.
+
+ghost use Rattle.std.specs.Prelude.{◌≡◌, ◌⊎◌, ℕ, List, Ok, Err, length, IfOk, MatchResult};
+ghost use Rattle.expr_reader.specs.Asked.{asked_under};
+ghost use Rattle.expr_reader.specs.Frame.{request_of_frame};
+ghost use Rattle.frame_server.specs.Answer.{answer_bytes, dims_text, fault_text};
+ghost use Rattle.frame_server.specs.Answering.{IsFrameFor, IsFrameOfTensor, IsFaultOf};
+ghost use Rattle.frame_server.specs.Answering.{front_bytes, bytes_in, IsRefusal};
+ghost use Rattle.frame_server.specs.Frame.{IsWhole, frame_in};
+ghost use Rattle.frame_server.specs.Taking.{IsKept, frame_under};
+ghost use Rattle.tensor_runner.specs.Answer.{tensor, asked_tensor};
+
+use crate::frame::{AnswerFrame, NextFrame, WholeFrame};
+use expr_reader::{Fault, Request, Tensor, read_frame};
+use std::alloc::{AllocError, Global};
+use std::borrow::CowSlice;
+use std::sync::Wait;
+use std::thread::Threads;
+use tensor_runner::{RunFault, eval, unsigned_text};
+
+/// What stands before the values where there is no memory, which takes none: no values, and a
+/// header of 17 bytes.
+const NO_MEMORY: &[u8] = b"\x11\0\0\0\0\0\0\0\0\0\0\0\0\0\0\0error 15 NoMemory";
+
+/// The frame that answers one.
+pub(crate) fn answer<RT: Threads + Wait + Sync>(
+    rt: &RT,
+    alloc: Global,
+    next: NextFrame,
+) -> AnswerFrame
+    ensures { (bytes : List ℕ) → IsWhole bytes → IsKept bytes next → IsFrameFor bytes result }
+{
+    match answered(rt, alloc, next) {
+        Ok(frame) => frame,
+        Err(fault) => refusal(alloc, fault),
+    }
+}
+
+/// The frame of a tensor, or why there is none.
+fn answered<RT: Threads + Wait + Sync>(
+    rt: &RT,
+    alloc: Global,
+    next: NextFrame,
+) -> Result<AnswerFrame, Fault>
+    ensures { (bytes : List ℕ) → IsWhole bytes → IsKept bytes next
+        → MatchResult result (IsFrameOfTensor bytes) (IsFaultOf bytes) }
+{
+    match next {
+        NextFrame::Whole(frame) => answered_whole(rt, alloc, frame),
+        NextFrame::Passed(fault) => Err(fault),
+    }
+}
+
+/// The frame of the tensor that a frame asks for, or why there is none.
+fn answered_whole<RT: Threads + Wait + Sync>(
+    rt: &RT,
+    alloc: Global,
+    frame: WholeFrame,
+) -> Result<AnswerFrame, Fault>
+    ensures { (bytes : List ℕ) → frame_under frame ≡ frame_in bytes
+        → MatchResult result (IsFrameOfTensor bytes) (IsFaultOf bytes) }
+{
+    match requested(alloc, frame) {
+        Ok(request) => tensor_frame(rt, alloc, &request),
+        Err(fault) => Err(fault),
+    }
+}
+
+/// The frame of the tensor that a request asks for, or want of memory.
+fn tensor_frame<RT: Threads + Wait + Sync>(
+    rt: &RT,
+    alloc: Global,
+    request: &Request,
+) -> Result<AnswerFrame, Fault>
+    ensures { MatchResult result (λ frame. bytes_in frame
+        ≡ answer_bytes (tensor (asked_tensor (asked_under request.now))))
+        (λ fault. fault ≡ Fault.NoMemory) }
+{
+    let tensor = match eval(rt, alloc, request) {
+        Ok(tensor) => tensor,
+        Err(RunFault::NoMemory) => return Err(Fault::NoMemory),
+    };
+    match front_of(alloc, &tensor) {
+        Ok(front) => Ok(AnswerFrame {
+            front: CowSlice::Owned(front),
+            tensor: Some(tensor),
+        }),
+        Err(_) => Err(Fault::NoMemory),
+    }
+}
+
+/// The request that a frame means. The frame's memory is free then.
+fn requested(alloc: Global, frame: WholeFrame) -> Result<Request, Fault>
+    ensures { MatchResult result (λ request.
+        request_of_frame frame.header.items frame.values.items ≡ Ok (asked_under request))
+        (λ fault. (fault ≡ Fault.NoMemory)
+        ⊎ (request_of_frame frame.header.items frame.values.items ≡ Err fault)) }
+{
+    read_frame(alloc, frame.header.as_slice(), frame.values.as_slice())
+}
+
+/// What stands before the values of a tensor.
+fn front_of(alloc: Global, tensor: &Tensor) -> Result<Vec<u8>, AllocError>
+    ensures { IfOk result (λ front. front.items
+        ≡ front_bytes (dims_text tensor.now.dims) (length tensor.now.values)) }
+{
+    let mut header = Vec::from_slice(alloc, b"{\"dims\":")?;
+    header.extend_from_slice(&unsigned_text(alloc, tensor.dims().as_slice())?)?;
+    header.extend_from_slice(b"}")?;
+    front_with(alloc, &header, tensor.values().len())
+}
+
+/// What stands before so many values: the sizes and the header.
+fn front_with(alloc: Global, header: &[u8], value_count: usize) -> Result<Vec<u8>, AllocError>
+    ensures { IfOk result (λ front. front.items ≡ front_bytes header.now value_count) }
+{
+    let mut front = Vec::from_slice(alloc, &(header.len() as u64).to_le_bytes())?;
+    front.extend_from_slice(&(value_count as u64).to_le_bytes())?;
+    front.extend_from_slice(header)?;
+    Ok(front)
+}
+
+/// The frame of a fault, or of want of memory.
+fn refusal(alloc: Global, fault: Fault) -> AnswerFrame
+    ensures { IsRefusal fault result }
+{
+    match refusal_front(alloc, fault) {
+        Ok(front) => AnswerFrame {
+            front: CowSlice::Owned(front),
+            tensor: None,
+        },
+        Err(_) => AnswerFrame {
+            front: CowSlice::Borrowed(NO_MEMORY),
+            tensor: None,
+        },
+    }
+}
+
+/// What a fault's frame has, which has no values.
+fn refusal_front(alloc: Global, fault: Fault) -> Result<Vec<u8>, AllocError>
+    ensures { IfOk result (λ front. front.items ≡ front_bytes (fault_text fault) 0) }
+{
+    let header = format!(in alloc; "error {} {}", fault.number(), fault.name())?;
+    front_with(alloc, header.as_bytes(), 0)
+}

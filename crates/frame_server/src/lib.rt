@@ -1,0 +1,17 @@
+//! Many requests by one process: a frame each, with the header of a request and its tensors' values
+//! as numbers, and a frame for each answer.
+#![tactic(auto)]
+
+mod answer;
+mod buffer;
+mod ending;
+mod frame;
+mod laws;
+mod reading;
+mod server;
+mod taking;
+mod writing;
+
+pub use ending::serve_frames;
+pub use laws::{bytes_part_in_one_way, frames_are_read_as_written};
+pub use server::answer_frames;

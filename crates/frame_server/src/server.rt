@@ -1,0 +1,66 @@
+//! Answers many requests, a frame each.
+
+ghost use Rattle.std.specs.Prelude.{◌≡◌, ℕ, List, Some, Err, IfSome, OnOk};
+ghost use Rattle.frame_server.specs.Stream.{GoesByFrames, AnswersFrames, BreaksOff};
+ghost use Rattle.frame_server.specs.Stream.{CutsFramesShort, StopsReading};
+ghost use Rattle.tensor_runner.specs.History.{IsNew};
+ghost use Rattle.tensor_runner.specs.Streams.{HasFailed};
+
+use crate::answer::answer;
+use crate::buffer::InputBuffer;
+use crate::taking::next_frame;
+use crate::writing::{OutputBuffer, write_frame};
+use std::alloc::Global;
+use std::sync::Wait;
+use std::thread::Threads;
+use tensor_runner::{Client, StreamFault};
+
+/// Answers each frame of the client's, in order, by the frame of the tensor that its request's
+/// workers work out, or of its first fault, until the client's bytes end. Each answer is written
+/// before more is read. A frame that is too long is passed over, and want of memory costs the frame
+/// that wants it. Between two frames two rooms of 65,536 bytes are all that is kept.
+///
+/// # Errors
+///
+/// [`StreamFault::ReadFault`] at any error of a read, and where the client's bytes end in a frame;
+/// [`StreamFault::WriteFault`] at an error of a write, or where it takes nothing.
+pub fn answer_frames<RT: Threads + Wait + Sync, C: Client>(
+    rt: &RT,
+    alloc: Global,
+    client: &mut C,
+) -> Result<(), StreamFault>
+    requires by_frames { GoesByFrames C.owes_nothing }
+    requires new { IfSome (C.history client.old) IsNew }
+
+    ensures answered { (stream held : List ℕ) → C.remaining client.old ≡ Some stream
+        → C.contents client.old ≡ Some held
+        → OnOk result (AnswersFrames stream held (C.contents client.new)) }
+    // Nothing of a frame is answered that isn't whole.
+    ensures broken_off { (stream held : List ℕ) → C.remaining client.old ≡ Some stream
+        → C.contents client.old ≡ Some held → result ≡ Err StreamFault.ReadFault
+        → BreaksOff stream held (C.remaining client.new) (C.contents client.new) }
+    ensures cut_short { (stream held : List ℕ) → C.remaining client.old ≡ Some stream
+        → C.contents client.old ≡ Some held → result ≡ Err StreamFault.WriteFault
+        → CutsFramesShort stream held (C.contents client.new) }
+
+    ensures read_fault { result ≡ Err StreamFault.ReadFault
+        → StopsReading (C.read_failures client.old) (C.read_failures client.new)
+        (C.remaining client.old) (C.remaining client.new)
+        × (C.write_failures client.new ≡ C.write_failures client.old) }
+    ensures write_fault { result ≡ Err StreamFault.WriteFault
+        → (C.read_failures client.new ≡ C.read_failures client.old)
+        × HasFailed (C.write_failures client.old) (C.write_failures client.new) }
+    ensures no_failure { OnOk result ((C.read_failures client.new ≡ C.read_failures client.old)
+        × (C.write_failures client.new ≡ C.write_failures client.old)) }
+{
+    let mut buffer = InputBuffer::new();
+    let mut room = OutputBuffer::new();
+    for turn in rt.forever() {
+        let Some(next) = next_frame(alloc, client, &mut buffer)? else {
+            return Ok(());
+        };
+        let frame = answer(rt, alloc, next);
+        write_frame(client, &mut room, &frame)?;
+    }
+    unreachable!()
+}

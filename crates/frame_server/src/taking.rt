@@ -1,0 +1,257 @@
+//! Takes a client's bytes, frame by frame.
+
+ghost use Rattle.std.specs.Prelude.{◌≡◌, ◌+◌, ◌*◌, ◌≤◌, [], length, IfOk, IfSome, IfErr, OnOk, OnErr};
+ghost use Rattle.std.specs.Prelude.{◌⊎◌, MatchOption, MatchResult, vec_capacity};
+ghost use Rattle.frame_server.specs.Frame.{IsUnfinished};
+ghost use Rattle.frame_server.specs.Taking.{pending_bytes, IsBelow, OwesNothingWhile, FailsIn};
+ghost use Rattle.frame_server.specs.Taking.{IsCutOff, StopsInFrame, Takes, TakesCount, TakesHead};
+ghost use Rattle.frame_server.specs.Taking.{TakesValues, TakesRest, TakesFrame, Ends, HasRoom, IsTooLong};
+
+use crate::buffer::{HEAD, InputBuffer, VALUE};
+use crate::frame::{Head, NextFrame, WholeFrame};
+use expr_reader::{Fault, MAX_TEXT, MAX_VALUES};
+use std::alloc::Global;
+use tensor_runner::{Client, StreamFault};
+
+/// Takes the next frame, or tells that there is none where the client's bytes end. One that is too
+/// long, or that there is no memory for, is passed over.
+///
+/// # Errors
+///
+/// [`StreamFault::ReadFault`] at any error of a read, and where the client's bytes end in a frame.
+pub(crate) fn next_frame<C: Client>(
+    alloc: Global,
+    client: &mut C,
+    buffer: &mut InputBuffer,
+) -> Result<Option<NextFrame>, StreamFault>
+    requires { IfSome (C.history client.old)
+        (OwesNothingWhile IsUnfinished C.owes_nothing (pending_bytes buffer.old)) }
+    ensures frame { IfOk result (λ next. MatchOption next
+        (Ends (C.remaining client.old) (C.remaining client.new) (C.history client.old)
+        (C.history client.new) (pending_bytes buffer.old) (pending_bytes buffer.new))
+        (TakesFrame (C.remaining client.old) (C.remaining client.new) (C.history client.old)
+        (C.history client.new) (pending_bytes buffer.old) (pending_bytes buffer.new))) }
+    ensures err { IfErr result (λ fault. fault ≡ StreamFault.ReadFault) }
+    ensures stops { OnErr result (StopsInFrame (C.remaining client.old) (C.remaining client.new)
+        (C.read_failures client.old) (C.read_failures client.new) (pending_bytes buffer.old)) }
+    ensures contents { C.contents client.new ≡ C.contents client.old }
+    ensures read_failures { OnOk result (C.read_failures client.new ≡ C.read_failures client.old) }
+    ensures write_failures { C.write_failures client.new ≡ C.write_failures client.old }
+{
+    let Some(head) = take_head(client, buffer)? else {
+        return Ok(None);
+    };
+    let next = take_rest(alloc, client, buffer, head)?;
+    Ok(Some(next))
+}
+
+/// Takes the bytes that say how long the next frame is.
+fn take_head<C: Client>(
+    client: &mut C,
+    buffer: &mut InputBuffer,
+) -> Result<Option<Head>, StreamFault>
+    requires { IfSome (C.history client.old)
+        (OwesNothingWhile IsUnfinished C.owes_nothing (pending_bytes buffer.old)) }
+    ensures head { IfOk result (λ head. MatchOption head
+        (Ends (C.remaining client.old) (C.remaining client.new) (C.history client.old)
+        (C.history client.new) (pending_bytes buffer.old) (pending_bytes buffer.new))
+        (TakesHead (C.remaining client.old) (C.remaining client.new) (C.history client.old)
+        (C.history client.new) (pending_bytes buffer.old) (pending_bytes buffer.new))) }
+    ensures err { IfErr result (λ fault. fault ≡ StreamFault.ReadFault) }
+    ensures stops { OnErr result (StopsInFrame (C.remaining client.old) (C.remaining client.new)
+        (C.read_failures client.old) (C.read_failures client.new) (pending_bytes buffer.old)) }
+    ensures contents { C.contents client.new ≡ C.contents client.old }
+    ensures read_failures { OnOk result (C.read_failures client.new ≡ C.read_failures client.old) }
+    ensures write_failures { C.write_failures client.new ≡ C.write_failures client.old }
+{
+    if buffer.wait_for(client, HEAD)? {
+        return Ok(Some(buffer.take_head()));
+    }
+    if buffer.pending().is_empty() {
+        return Ok(None);
+    }
+    Err(StreamFault::ReadFault)
+}
+
+/// Takes what stands behind a frame's head, or passes over it.
+fn take_rest<C: Client>(
+    alloc: Global,
+    client: &mut C,
+    buffer: &mut InputBuffer,
+    head: Head,
+) -> Result<NextFrame, StreamFault>
+    requires { IfSome (C.history client.old)
+        (OwesNothingWhile (IsBelow (head.header_len + 8 * head.value_count)) C.owes_nothing
+        (pending_bytes buffer.old)) }
+    ensures rest { IfOk result (TakesRest (C.remaining client.old) (C.remaining client.new)
+        (C.history client.old) (C.history client.new)
+        (pending_bytes buffer.old) (pending_bytes buffer.new) head) }
+    ensures err { IfErr result (λ fault. fault ≡ StreamFault.ReadFault) }
+    ensures fails { OnErr result (FailsIn (IsBelow (head.header_len + 8 * head.value_count))
+        (C.remaining client.old) (C.remaining client.new) (pending_bytes buffer.old)) }
+    ensures cut_off { OnErr result (IsCutOff (C.read_failures client.old)
+        (C.read_failures client.new) (C.remaining client.new)) }
+    ensures contents { C.contents client.new ≡ C.contents client.old }
+    ensures read_failures { OnOk result (C.read_failures client.new ≡ C.read_failures client.old) }
+    ensures write_failures { C.write_failures client.new ≡ C.write_failures client.old }
+{
+    match room_for(alloc, head) {
+        Ok(room) => take_whole(client, buffer, head, room),
+        Err(fault) => {
+            let count = u128::from(head.header_len) + 8 * u128::from(head.value_count);
+            pass_over(client, buffer, count)?;
+            Ok(NextFrame::Passed(fault))
+        }
+    }
+}
+
+/// Room for a frame, or why there is none.
+fn room_for(alloc: Global, head: Head) -> Result<WholeFrame, Fault>
+    ensures { MatchResult result (HasRoom head)
+        (λ fault. (fault ≡ Fault.NoMemory)
+        ⊎ ((fault ≡ Fault.TooLong) × IsTooLong head.header_len head.value_count)) }
+{
+    if head.header_len > MAX_TEXT as u64 || head.value_count > MAX_VALUES as u64 {
+        return Err(Fault::TooLong);
+    }
+    let Ok(header) = Vec::with_capacity(alloc, head.header_len as usize) else {
+        return Err(Fault::NoMemory);
+    };
+    let Ok(values) = Vec::with_capacity(alloc, head.value_count as usize) else {
+        return Err(Fault::NoMemory);
+    };
+    Ok(WholeFrame { header, values })
+}
+
+/// Takes a frame's header and values to where there is room for them.
+fn take_whole<C: Client>(
+    client: &mut C,
+    buffer: &mut InputBuffer,
+    head: Head,
+    room: WholeFrame,
+) -> Result<NextFrame, StreamFault>
+    requires room { HasRoom head room }
+    requires owes { IfSome (C.history client.old)
+        (OwesNothingWhile (IsBelow (head.header_len + 8 * head.value_count)) C.owes_nothing
+        (pending_bytes buffer.old)) }
+    ensures rest { IfOk result (TakesRest (C.remaining client.old) (C.remaining client.new)
+        (C.history client.old) (C.history client.new)
+        (pending_bytes buffer.old) (pending_bytes buffer.new) head) }
+    ensures err { IfErr result (λ fault. fault ≡ StreamFault.ReadFault) }
+    ensures fails { OnErr result (FailsIn (IsBelow (head.header_len + 8 * head.value_count))
+        (C.remaining client.old) (C.remaining client.new) (pending_bytes buffer.old)) }
+    ensures cut_off { OnErr result (IsCutOff (C.read_failures client.old)
+        (C.read_failures client.new) (C.remaining client.new)) }
+    ensures contents { C.contents client.new ≡ C.contents client.old }
+    ensures read_failures { OnOk result (C.read_failures client.new ≡ C.read_failures client.old) }
+    ensures write_failures { C.write_failures client.new ≡ C.write_failures client.old }
+{
+    let WholeFrame {
+        mut header,
+        mut values,
+    } = room;
+    take_header(client, buffer, &mut header, head.header_len as usize)?;
+    take_values(client, buffer, &mut values, head.value_count as usize)?;
+    Ok(NextFrame::Whole(WholeFrame { header, values }))
+}
+
+/// Takes so many bytes of a header, which has room for them.
+fn take_header<C: Client>(
+    client: &mut C,
+    buffer: &mut InputBuffer,
+    header: &mut Vec<u8>,
+    count: usize,
+) -> Result<(), StreamFault>
+    requires new { header.old.items ≡ [] }
+    requires room { count ≤ vec_capacity header.old }
+    requires owes { IfSome (C.history client.old)
+        (OwesNothingWhile (IsBelow count) C.owes_nothing (pending_bytes buffer.old)) }
+    ensures taken { OnOk result (Takes (C.remaining client.old) (C.remaining client.new)
+        (C.history client.old) (C.history client.new)
+        (pending_bytes buffer.old) (pending_bytes buffer.new) header.new.items) }
+    ensures counted { OnOk result (length header.new.items ≡ count) }
+    ensures err { IfErr result (λ fault. fault ≡ StreamFault.ReadFault) }
+    ensures fails { OnErr result (FailsIn (IsBelow count)
+        (C.remaining client.old) (C.remaining client.new) (pending_bytes buffer.old)) }
+    ensures cut_off { OnErr result (IsCutOff (C.read_failures client.old)
+        (C.read_failures client.new) (C.remaining client.new)) }
+    ensures contents { C.contents client.new ≡ C.contents client.old }
+    ensures read_failures { OnOk result (C.read_failures client.new ≡ C.read_failures client.old) }
+    ensures write_failures { C.write_failures client.new ≡ C.write_failures client.old }
+{
+    while header.len() < count {
+        if !buffer.wait_for(client, 1)? {
+            return Err(StreamFault::ReadFault);
+        }
+        let most = count - header.len();
+        buffer.move_bytes(header, most);
+    }
+    Ok(())
+}
+
+/// Takes so many values, for which there is room.
+fn take_values<C: Client>(
+    client: &mut C,
+    buffer: &mut InputBuffer,
+    values: &mut Vec<i64>,
+    count: usize,
+) -> Result<(), StreamFault>
+    requires new { values.old.items ≡ [] }
+    requires room { count ≤ vec_capacity values.old }
+    requires owes { IfSome (C.history client.old)
+        (OwesNothingWhile (IsBelow (8 * count)) C.owes_nothing (pending_bytes buffer.old)) }
+    ensures taken { OnOk result (TakesValues (C.remaining client.old) (C.remaining client.new)
+        (C.history client.old) (C.history client.new)
+        (pending_bytes buffer.old) (pending_bytes buffer.new) values.new.items) }
+    ensures counted { OnOk result (length values.new.items ≡ count) }
+    ensures err { IfErr result (λ fault. fault ≡ StreamFault.ReadFault) }
+    ensures fails { OnErr result (FailsIn (IsBelow (8 * count))
+        (C.remaining client.old) (C.remaining client.new) (pending_bytes buffer.old)) }
+    ensures cut_off { OnErr result (IsCutOff (C.read_failures client.old)
+        (C.read_failures client.new) (C.remaining client.new)) }
+    ensures contents { C.contents client.new ≡ C.contents client.old }
+    ensures read_failures { OnOk result (C.read_failures client.new ≡ C.read_failures client.old) }
+    ensures write_failures { C.write_failures client.new ≡ C.write_failures client.old }
+{
+    while values.len() < count {
+        if !buffer.wait_for(client, VALUE)? {
+            return Err(StreamFault::ReadFault);
+        }
+        let most = count - values.len();
+        buffer.move_values(values, most);
+    }
+    Ok(())
+}
+
+/// Passes over so many bytes.
+fn pass_over<C: Client>(
+    client: &mut C,
+    buffer: &mut InputBuffer,
+    count: u128,
+) -> Result<(), StreamFault>
+    requires { IfSome (C.history client.old)
+        (OwesNothingWhile (IsBelow count) C.owes_nothing (pending_bytes buffer.old)) }
+    ensures taken { OnOk result (TakesCount count (C.remaining client.old) (C.remaining client.new)
+        (C.history client.old) (C.history client.new)
+        (pending_bytes buffer.old) (pending_bytes buffer.new)) }
+    ensures err { IfErr result (λ fault. fault ≡ StreamFault.ReadFault) }
+    ensures fails { OnErr result (FailsIn (IsBelow count)
+        (C.remaining client.old) (C.remaining client.new) (pending_bytes buffer.old)) }
+    ensures cut_off { OnErr result (IsCutOff (C.read_failures client.old)
+        (C.read_failures client.new) (C.remaining client.new)) }
+    ensures contents { C.contents client.new ≡ C.contents client.old }
+    ensures read_failures { OnOk result (C.read_failures client.new ≡ C.read_failures client.old) }
+    ensures write_failures { C.write_failures client.new ≡ C.write_failures client.old }
+{
+    let mut left = count;
+    while left > 0 {
+        if !buffer.wait_for(client, 1)? {
+            return Err(StreamFault::ReadFault);
+        }
+        let there = buffer.pending().len();
+        let most = left.min(there as u128) as usize;
+        buffer.skip(most);
+        left -= most as u128;
+    }
+    Ok(())
+}

@@ -1,0 +1,100 @@
+//! Writes the frame of an answer.
+
+ghost use Rattle.std.specs.Prelude.{◌≡◌, ◌≤◌, length, OnOk, OnErr, IfErr, option_map};
+ghost use Rattle.std.specs.List.{flat_map};
+ghost use Rattle.std.specs.Io.KnownBytes.{Appends};
+ghost use Rattle.frame_server.specs.Answering.{bytes_in};
+ghost use Rattle.frame_server.specs.Frame.{value_bytes};
+ghost use Rattle.tensor_runner.specs.History.{writing};
+ghost use Rattle.tensor_runner.specs.Pieces.{AppendsFront};
+ghost use Rattle.tensor_runner.specs.Streams.{HasFailed};
+
+use crate::frame::AnswerFrame;
+use tensor_runner::{Client, StreamFault, write_answer};
+
+/// How many values are written at a time.
+const VALUES_AT_ONCE: usize = 8_192;
+
+/// Room for the bytes of values that are written.
+#[derive(Drop)]
+pub(crate) struct OutputBuffer {
+    cells: [[u8; 8]; VALUES_AT_ONCE],
+    ghost whole: { length cells ≡ 8192 },
+}
+
+impl OutputBuffer {
+    /// Nothing yet.
+    pub(crate) fn new() -> OutputBuffer {
+        OutputBuffer {
+            cells: [[0u8; 8]; VALUES_AT_ONCE],
+        }
+    }
+
+    /// The bytes of so many values.
+    fn fill(&mut self, values: &[i64]) -> &[u8]
+        requires { length values.now ≤ 8192 }
+        ensures { result.now ≡ flat_map value_bytes values.now }
+    {
+        for k in 0..values.len() {
+            self.cells[k] = values[k].to_le_bytes();
+        }
+        self.cells[..values.len()].as_flattened()
+    }
+}
+
+/// Writes a whole frame, by as many writes as it takes, and takes no memory. Stops at the first that
+/// fails or takes nothing.
+pub(crate) fn write_frame<C: Client>(
+    client: &mut C,
+    room: &mut OutputBuffer,
+    frame: &AnswerFrame,
+) -> Result<(), StreamFault>
+    ensures ok { OnOk result
+        (Appends (C.contents client.old) (C.contents client.new) (bytes_in frame.now)) }
+    ensures noted { OnOk result (C.history client.new
+        ≡ option_map (writing (bytes_in frame.now)) (C.history client.old)) }
+    ensures ok_failures { OnOk result (C.write_failures client.new
+        ≡ C.write_failures client.old) }
+    ensures err { IfErr result (λ fault. fault ≡ StreamFault.WriteFault) }
+    ensures front { OnErr result
+        (AppendsFront (C.contents client.old) (C.contents client.new) (bytes_in frame.now)) }
+    ensures failed { OnErr result
+        (HasFailed (C.write_failures client.old) (C.write_failures client.new)) }
+    ensures remaining { C.remaining client.new ≡ C.remaining client.old }
+    ensures read_failures { C.read_failures client.new ≡ C.read_failures client.old }
+{
+    write_answer(client, frame.front.as_slice())?;
+    match &frame.tensor {
+        Some(tensor) => write_values(client, room, tensor.values()),
+        None => Ok(()),
+    }
+}
+
+/// Writes values, some at a time.
+fn write_values<C: Client>(
+    client: &mut C,
+    room: &mut OutputBuffer,
+    values: &[i64],
+) -> Result<(), StreamFault>
+    ensures ok { OnOk result (Appends (C.contents client.old) (C.contents client.new)
+        (flat_map value_bytes values.now)) }
+    ensures noted { OnOk result (C.history client.new
+        ≡ option_map (writing (flat_map value_bytes values.now)) (C.history client.old)) }
+    ensures ok_failures { OnOk result (C.write_failures client.new
+        ≡ C.write_failures client.old) }
+    ensures err { IfErr result (λ fault. fault ≡ StreamFault.WriteFault) }
+    ensures front { OnErr result (AppendsFront (C.contents client.old) (C.contents client.new)
+        (flat_map value_bytes values.now)) }
+    ensures failed { OnErr result
+        (HasFailed (C.write_failures client.old) (C.write_failures client.new)) }
+    ensures remaining { C.remaining client.new ≡ C.remaining client.old }
+    ensures read_failures { C.read_failures client.new ≡ C.read_failures client.old }
+{
+    let mut written = 0;
+    while written < values.len() {
+        let end = (values.len() - written).min(VALUES_AT_ONCE) + written;
+        write_answer(client, room.fill(&values[written..end]))?;
+        written = end;
+    }
+    Ok(())
+}
