@@ -1,7 +1,7 @@
 //! The inputs of a request, by name and by number.
 
-ghost use Rattle.std.specs.Prelude.{◌≡◌, ◌+◌, ◌≤◌, ◌⊎◌, ℕ, List, length, MatchResult, Some, None, Ok, Err};
-ghost use Rattle.std.specs.Prelude.{OnOk, IfErr, if◌then◌else◌, ◌∷◌, codes};
+ghost use Rattle.std.specs.Prelude.{◌≡◌, ◌+◌, ◌≤◌, ◌⊎◌, ◌∷◌, ℕ, List, length, codes, Some, None};
+ghost use Rattle.std.specs.Prelude.{Ok, Err, MatchResult, OnOk, IfErr, if◌then◌else◌};
 ghost use Rattle.std.specs.Option.{option_or};
 ghost use Rattle.std.specs.Str.{bytes_eq};
 ghost use Rattle.serde_json.specs.View.{view, members_view};
@@ -78,7 +78,8 @@ fn read_members<'v>(
     requires few { length members.now.entries ≤ most_bytes + 1 }
     ensures { MatchResult result
         (λ found. (n : Named)
-        × (tensors_by (behind values.entry) rank (members_view members.now.entries) ≡ Some n.tensors)
+        × (tensors_by (behind values.entry) rank (members_view members.now.entries)
+        ≡ Some n.tensors)
         × (n.names ≡ names_in (members_view members.now.entries)) × IsNamed found rank n)
         (λ fault. (fault ≡ Fault.NoMemory) ⊎ ((fault ≡ Fault.BadTensor)
         × (tensors_by (behind values.entry) rank (members_view members.now.entries) ≡ None)

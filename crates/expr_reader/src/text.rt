@@ -1,8 +1,8 @@
 //! From the bytes of a text to its request, or to its fault and where that is; and from those of a
 //! header and its values.
 
-ghost use Rattle.std.specs.Prelude.{◌≡◌, ◌+◌, ◌<◌, ◌≤◌, ◌⊎◌, [], Ok, Err, IsOk, MatchResult, MatchOption};
-ghost use Rattle.std.specs.Prelude.{length, IsErrOf, option_map, codes};
+ghost use Rattle.std.specs.Prelude.{◌≡◌, ◌+◌, ◌<◌, ◌≤◌, ◌⊎◌, [], Ok, Err, IsOk, MatchResult};
+ghost use Rattle.std.specs.Prelude.{MatchOption, length, IsErrOf, option_map, codes};
 ghost use Rattle.serde_json.specs.View.{view};
 ghost use Rattle.expr_reader.specs.Asked.{asked_under};
 ghost use Rattle.expr_reader.specs.Behind.{behind, naming_by};
@@ -33,8 +33,8 @@ use serde_json::Value;
 use std::alloc::Global;
 
 /// Reads a request text, in one pass over its JSON value (RFC 8259). Want of memory is answered
-/// wherever a growth is refused, before any later fault is looked for; a text that is too long takes
-/// none.
+/// wherever a growth is refused, before any later fault is looked for; a text that is too long
+/// takes none.
 ///
 /// # Errors
 ///
@@ -53,7 +53,8 @@ pub fn read_request(alloc: Global, text: &[u8]) -> Result<Request, Fault>
 
 /// Reads a frame: a header, which is a request text in which each tensor is an object of `dims`
 /// alone, and the tensors' values behind it, those of one tensor after those of another, in the
-/// order of their names. It asks for what the text does that has each tensor's values in its `data`.
+/// order of their names. It asks for what the text does that has each tensor's values in its
+/// `data`.
 ///
 /// # Errors
 ///
@@ -127,7 +128,8 @@ fn read_value<'v>(
     requires few { member_count (view value.now) ≤ most_bytes + 1 }
     requires start { steps_under place.old ≡ [] }
     ensures { IsToldAt asked_under
-        (data_asked (naming_by (behind values.entry)) (view value.now)) (steps_under place.new) result }
+        (data_asked (naming_by (behind values.entry)) (view value.now))
+        (steps_under place.new) result }
 {
     let Some(fields) = Fields::of(value) else {
         return Err(Fault::BadField);

@@ -22,7 +22,8 @@ fault_lines fault place reason =
     ++ codes "\nat " ++ place ++ codes ": " ++ reason ++ codes "\n"
 
 -- the fault that is found, and where it is
-pub record IsFaultOf (found : Result Asked Located) (told : Explanation) (fault : Fault) : Type 0 where
+pub record IsFaultOf (found : Result Asked Located) (told : Explanation) (fault : Fault)
+    : Type 0 where
   pub place : List Step
   pub found_there : found ≡ Err (record { fault = fault; place = place })
   pub reason : List ℕ

@@ -1,6 +1,6 @@
-//! Why a request text has the fault that it has, and where: a place as a JSON pointer, and a sentence
-//! on what stands there and what should. That the fault is the one that is answered is proved, and
-//! that the pointer is its place's; what the sentences say is not.
+//! Why a request text has the fault that it has, and where: a place as a JSON pointer, and a
+//! sentence on what stands there and what should. That the fault is the one that is answered is
+//! proved, and that the pointer is its place's; what the sentences say is not.
 #![tactic(auto)]
 
 mod explanation;

@@ -34,5 +34,9 @@ fn step_line(alloc: Global, index: usize, step: &Step) -> Result<String, AllocEr
     let dims = step.dims();
     let number = index.saturating_add(1);
     let values = if dims.size() == 1 { "value" } else { "values" };
-    format!(in alloc; "step {number}: dims {:?}, {} {values}\n", dims.as_slice(), dims.size())
+    format!(in alloc;
+        "step {number}: dims {:?}, {} {values}\n",
+        dims.as_slice(),
+        dims.size()
+    )
 }

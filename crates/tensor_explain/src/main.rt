@@ -1,6 +1,6 @@
 //! Explains the request of standard input on standard output, as `fault_reasons` says: its fault,
-//! where it is and why, with status 1, or its plan, with status 0. It takes no arguments and ignores
-//! any.
+//! where it is and why, with status 1, or its plan, with status 0. It takes no arguments and
+//! ignores any.
 #![tactic(auto)]
 
 use fault_reasons::explain;

@@ -1,6 +1,5 @@
--- The tensors and numbers so far, before those of the rest, are those of all members; the first that
--- is no tensor is one of the rest. None of the
--- tensors has a higher rank.
+-- The tensors and numbers so far, before those of the rest, are those of all members; the first
+-- that is no tensor is one of the rest. None of the tensors has a higher rank.
 use Rattle.std.proofs.Common.{◌≡◌, ◌+◌, ℕ, List, length}
 use Rattle.std.specs.List.{position_from}
 use Rattle.std.specs.Option.{option_or}
