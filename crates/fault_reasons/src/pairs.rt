@@ -31,7 +31,7 @@ pub(crate) fn why_concat(
     let axis = axis as usize;
     if let Some(other) = differs_at(axis, first, second) {
         let reason = format!(in alloc;
-            "the dims {first:?} and {second:?} are to be the same but at axis {axis}, and differ at axis {other}"
+            "the dims {first:?} and {second:?} are to be the same but at axis {axis}, and differ at {other}"
         )?;
         return Ok(Some(reason));
     }
@@ -89,7 +89,7 @@ pub(crate) fn why_contract(
         if size != other {
             let (size, other) = (size.copied().unwrap_or(0), other.copied().unwrap_or(0));
             let reason = format!(in alloc;
-                "axis {left} of the first operand has the dimension {size}, and axis {right} of the second {other}"
+                "axis {left} of the first operand is {size} long, and axis {right} of the second {other}"
             )?;
             return Ok(Some(reason));
         }

@@ -1,5 +1,6 @@
 -- Bytes on the way from a client to a frame, for the private clauses of the server.
-use Rattle.std.specs.Prelude.{◌≡◌, ◌⊎◌, ◌<◌, ◌≤◌, ◌-◌, ◌+◌, ◌*◌, ℕ, ℤ, List, [], ◌++◌, length, take, drop, map}
+use Rattle.std.specs.Prelude.{◌≡◌, ◌⊎◌, ◌<◌, ◌≤◌, ◌-◌, ◌+◌, ◌*◌, ℕ, ℤ, List, [], ◌++◌, length}
+use Rattle.std.specs.Prelude.{take, drop, map}
 use Rattle.std.specs.Prelude.{Option, vec_capacity}
 use Rattle.std.specs.Io.KnownBytes.{Consumes, IsAtEnd}
 use Rattle.std.specs.Simd.{first_chunks}
