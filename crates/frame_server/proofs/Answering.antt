@@ -1,7 +1,7 @@
 -- Frames of answers, and how they are written.
 use Rattle.std.proofs.Common.{◌≡◌, ◌⊎◌, ◌<◌, ◌+◌, ◌-◌, ℕ, ℤ, Bool, true, false, List, [], ◌∷◌, ◌++◌, length, map, take, drop, get_or, set, Option, Result, Ok, Err, OnErr}
 use Rattle.std.proofs.Common.{refl, ap, sym, ◌∙◌, subst, append_assoc, arith, length-append, inl, inr}
-use Rattle.std.specs.Prelude.{◌||◌, nat_lt, MatchResult}
+use Rattle.std.specs.Prelude.{nat_lt, MatchResult, if◌then◌else◌}
 use Rattle.std.specs.List.{flat_map}
 use Rattle.std.proofs.Math.Seq.{take-add, take-append-add}
 use Rattle.std.proofs.lemmas.Bool.{lt-ltb}
@@ -9,7 +9,10 @@ use Rattle.std.proofs.lemmas.List.{take_more_set, take_more, map-append, take-ap
 use Rattle.std.proofs.lemmas.List.Concat.{flat_map-append}
 use Rattle.std.specs.Io.KnownBytes.{Appends}
 use Rattle.expr_reader.specs.Asked.{asked_under}
-use Rattle.expr_reader.specs.Frame.{request_of_frame}
+use Rattle.expr_reader.specs.Frame.{frame_inputs, request_of_frame}
+use Rattle.expr_reader.specs.Place.{here, unlocated}
+use Rattle.expr_reader.specs.Request.{data_of, text_asked}
+use Rattle.expr_reader.specs.Steps.{and_then}
 use Rattle.expr_reader.specs.declared.request.Request.{Request}
 use Rattle.expr_reader.specs.Limits.{most_bytes, most_values}
 use Rattle.expr_reader.specs.declared.fault.Fault.{Fault}
@@ -88,14 +91,14 @@ values-more values first count =
     ∙ sym (flat_map-append value_bytes (take first values) (take count (drop first values)))
     ∙ ap (λ (l : List ℤ). flat_map value_bytes l) (sym (take-add first count values) ∙ ap (λ (n : ℕ). take n values) sum)
 
-or-true : (b : Bool) → (b || true) ≡ true
-or-true true = refl
-or-true false = refl
-
 -- a frame that is too long
 request-long : (header : List ℕ) (values : List ℤ) → (most_bytes < length header) ⊎ (most_values < length values) → answer_of (record { header = header; values = values }) ≡ fault TooLong
-request-long header values (inl long) = rw (lt-ltb most_bytes (length header) long) refl
-request-long header values (inr many) = rw (lt-ltb most_values (length values) many, or-true (nat_lt most_bytes (length header))) refl
+request-long header values (inr many) = rw (lt-ltb most_values (length values) many) refl
+request-long header values (inl long) = by_count (nat_lt most_values (length values))
+  where
+    by_count : (are_many : Bool) → answer_from (unlocated (if are_many then Err (here TooLong) else text_asked (frame_inputs values) header)) ≡ fault TooLong
+    by_count true = refl
+    by_count false = rw (lt-ltb most_bytes (length header) long) refl
 
 length-header : (bytes : List ℕ) → IsWhole bytes → length (take (header_len bytes) (drop 16 bytes)) ≡ header_len bytes
 length-header bytes whole = length-take-le (header_len bytes) (drop 16 bytes) (omega (arith, whole, length-drop 16 bytes))
