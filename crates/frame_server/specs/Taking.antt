@@ -26,7 +26,8 @@ abbrev pub IsBelow : ℕ → List ℕ → Type 0
 IsBelow count bytes = length bytes < count
 
 -- whatever is read, nothing is owed as long as all that is pending is of this kind
-abbrev pub OwesNothingWhile : (List ℕ → Type 0) → (History → Type 0) → List ℕ → History → Type 0
+abbrev pub OwesNothingWhile : (List ℕ → Type 0) → (History → Type 0) → List ℕ → History
+    → Type 0
 OwesNothingWhile Kind owes_nothing pending h =
     (more : List ℕ) → Kind (pending ++ more) → owes_nothing (reading more h)
 
@@ -63,7 +64,7 @@ pub record FailsIn (Kind : List ℕ → Type 0) (before after : Option (List ℕ
   pub consumed : Consumes before after read
   pub kind : Kind (old ++ read)
 
--- a read failed, by the numbers of failures before and after, or the client's bytes are at their end
+-- a read failed, by the numbers of failures before and after, or the client's bytes are at an end
 abbrev pub IsCutOff : ℕ → ℕ → Option (List ℕ) → Type 0
 IsCutOff before after remaining =
     HasFailed before after ⊎ ((after ≡ before) × IsAtEnd remaining)
