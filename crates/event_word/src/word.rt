@@ -1,3 +1,5 @@
+//! The packed word of an event count and its four fields.
+
 ghost use Rattle.std.specs.Prelude.{◌≡◌};
 ghost use Rattle.event_word.specs.Fields.{InRange, fields_of, word_of};
 

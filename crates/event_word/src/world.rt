@@ -1,3 +1,5 @@
+//! The state of the event model: who waits, who is owed a token, and how long the rows are.
+
 ghost use Rattle.std.specs.Prelude.{◌≡◌, [], false, ◌+◌, ◌<◌, ◌≤◌, IfOk, length, map, replicate};
 ghost use Rattle.std.specs.Prelude.{slice_get};
 ghost use Rattle.std.specs.Prelude.{slice_index, vec_len, vec_capacity};

@@ -1,3 +1,5 @@
+//! How a range is cut into blocks and leaves.
+
 use parallel_for::{blocks, halve, leaves};
 use std::test::Fail;
 

@@ -1,3 +1,5 @@
+//! One cut of a range into blocks, by which a pool knows the range's jobs.
+
 use std::marker::Brand;
 
 /// One division of a range into blocks, which the types of its jobs name: how many places there

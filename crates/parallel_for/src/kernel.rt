@@ -1,3 +1,5 @@
+//! What a caller hands over: how the items of a range are worked out.
+
 ghost use Rattle.std.specs.Prelude.{◌≤◌, IfOk};
 ghost use Rattle.parallel_for.specs.Items.{AreItems};
 

@@ -1,3 +1,5 @@
+//! The items of one leaf, as a worker hands them in.
+
 use std::alloc::{Allocator, Global};
 
 /// The items at the places from `first` to before `last`, as a leaf gives them.

@@ -1,3 +1,5 @@
+//! Rows of jobs behind one lock: the plain rows that the rows of slots are compared with.
+
 ghost use Rattle.std.specs.Prelude.{◌≡◌, ℕ, ◌+◌, ◌≤◌, List, [], map, IfOk, All};
 ghost use Rattle.std.specs.List.{range_with_len};
 ghost use Rattle.run_queue.specs.Limits.{most_jobs};

@@ -1,3 +1,5 @@
+//! What rows of jobs do, whichever way they are kept: the seats of threads, and their account.
+
 ghost use Rattle.std.specs.Prelude.{◌≡◌, ℕ, ◌+◌, ◌<◌, ◌≤◌, ◌↔◌, List, [], ◌++◌, length, map, All};
 ghost use Rattle.std.specs.Prelude.{IfOk, IfErr, IsErrOf, option_to_list};
 ghost use Rattle.std.specs.List.{range_with_len};

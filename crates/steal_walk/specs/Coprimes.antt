@@ -1,3 +1,5 @@
+-- Coprimes: the numbers up to n that have no divisor with n but 1.
+
 use Rattle.std.specs.Prelude.{ℕ, ◌-◌, ◌%◌, ◌≤◌, ◌==◌, ◌&&◌, ◌↔◌, Bool, not, List, filter, Contains}
 use Rattle.std.specs.List.{list_all, range_with_len}
 use Rattle.std.specs.List.Sorted.{IsStrictlyIncreasing}

@@ -1,3 +1,5 @@
+-- Partitions: which rows a worker looks at first.
+
 use Rattle.std.specs.Prelude.{ℕ}
 
 -- the rows from start up to limit

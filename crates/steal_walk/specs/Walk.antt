@@ -1,3 +1,5 @@
+-- The walk of a thief: which rows it looks at, in which order.
+
 use Rattle.std.specs.Prelude.{◌≡◌, ℕ, ◌+◌, ◌-◌, ◌*◌, ◌/◌, ◌%◌, ◌^◌, ◌<◌, ◌≤◌, ◌==◌}
 use Rattle.std.specs.Prelude.{List, length, map, slice_index, All, count_by}
 use Rattle.std.specs.List.{range_with_len}

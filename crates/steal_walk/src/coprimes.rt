@@ -1,3 +1,5 @@
+//! The numbers that have no divisor with n but 1, by which thieves step.
+
 ghost use Rattle.std.specs.Prelude.{◌≡◌, ℕ, ◌≤◌, [], ◌∷◌, IfOk};
 ghost use Rattle.std.specs.Int.{IsGcd};
 ghost use Rattle.steal_walk.specs.Coprimes.{coprimes_of, AreCoprimes};

@@ -1,3 +1,5 @@
+//! The ranges of rows that the workers of a pool look at first.
+
 ghost use Rattle.std.specs.Prelude.{◌≡◌, ◌<◌, ◌≤◌, ◌↔◌, IsOk, IfOk, IsErrOf};
 
 use std::marker::Model;
