@@ -8,6 +8,7 @@ import tensor_client as client
 from tensor_client import GREATEST, LEAST, concat, contract, full, tensor, where
 from tensor_client.rules import slid
 from asking import OneWay, each_way
+from calls import FUNCTIONS, METHODS
 from test_asked import documented, method
 
 try:
@@ -314,31 +315,44 @@ class AgainstNumpy(OneWay):
                 wanted = numpy.asarray(numpy.einsum(labels, *arrays))
                 self.agree(client.einsum(labels, *arrays), wanted, source)
 
-    def test_what_arrays_have_beside(self):
-        for source in self.each_trial("beside"):
-            array, other = source.array([3, 4]), source.array([3, 4])
-            x = tensor(array)
-            for expr, wanted in (
-                (x.T, array.T),
-                (x.ravel(), array.ravel()),
-                (x.clip(-1, 1), array.clip(-1, 1)),
-                (x.clip(greatest=0), array.clip(None, 0)),
-                (x**2, array**2),
-                (x**5, array**5),
-                (x**0, array**0),
-                (x.pad(2), numpy.pad(array, 2)),
-                (x.pad((1, 0)), numpy.pad(array, (1, 0))),
-                (x.pad([(1, 0), (2, 3)]), numpy.pad(array, [(1, 0), (2, 3)])),
-                (client.stack([x, other], axis=1), numpy.stack([array, other], axis=1)),
-                (client.stack([x, other, x], -1), numpy.stack([array, other, array], -1)),
-                (client.concatenate([x, other, x]), numpy.concatenate([array, other, array])),
-                (client.concatenate([x, other], -1), numpy.concatenate([array, other], -1)),
-                (client.maximum(x, other), numpy.maximum(array, other)),
-                (client.minimum(x, 0), numpy.minimum(array, 0)),
-                (client.zeros((2, 3)), numpy.zeros((2, 3))),
-                (client.ones(4), numpy.ones(4)),
+    def test_the_same_call(self):
+        for name, calls in (("functions", FUNCTIONS), ("methods", METHODS)):
+            for source in self.each_trial(name):
+                arrays = source.array([3, 4]), source.array([3, 4])
+                for call in calls:
+                    wanted = numpy.asarray(call(numpy, *arrays))
+                    self.agree(call(client, *map(tensor, arrays)), wanted, source)
+                    if name == "functions":
+                        self.agree(call(client, *arrays), wanted, source)
+
+    def test_every_function_is_here(self):
+        alone = {"run", "request", "answer", "tensor", "contract", "concat", "keep_memory"}
+        named = {it for call in (*FUNCTIONS, *METHODS) for it in call.__code__.co_names}
+        for name, it in vars(client).items():
+            if callable(it) and not isinstance(it, type) and name not in alone:
+                self.assertIn(name, named)
+
+    def test_functions_of_numpy(self):
+        # Those that call a method; others ask an expression for its values, which it refuses.
+        for source in self.each_trial("numpy"):
+            array = source.array([3, 4])
+            x = tensor(array) + 1
+            for call in (
+                lambda it: numpy.sum(it, axis=0),
+                lambda it: numpy.max(it, axis=1, keepdims=True),
+                lambda it: numpy.clip(it, -1, 1),
+                lambda it: numpy.reshape(it, (4, 3)),
+                lambda it: numpy.transpose(it),
             ):
-                self.agree(expr, wanted, source)
+                self.agree(call(x), call(array + 1), source)
+
+    def test_arrays_in_lists(self):
+        for source in self.each_trial("lists"):
+            arrays = [source.array([2, 3]) for _ in range(3)]
+            for listed in (arrays, [it.tolist() for it in arrays], [*map(tensor, arrays)]):
+                self.agree(tensor(listed), numpy.array(arrays), source)
+            self.agree(tensor([arrays[0] > 0] * 2), numpy.array([arrays[0] > 0] * 2), source)
+            self.agree(tensor([*arrays[0][0]]), arrays[0][0], source)
 
 
 each_way(globals(), AgainstNumpy)

@@ -22,6 +22,13 @@ def method(expr, operation):
     return getattr(expr, others.get(operation, operation))
 
 
+def wrapped(value, count):
+    """What the loop of differences below comes to, by numbers of Python."""
+    for it in range(count):
+        value = it - (value - GREATEST - it) + 1
+    return (value + 2**63) % 2**64 - 2**63
+
+
 def text_of(name):
     with open(os.path.join(TOP, "docs", name), encoding="utf-8") as text:
         return text.read()
@@ -111,13 +118,18 @@ class Asked(OneWay):
         self.assertEqual(self.ask(x).values, [1, 2])
 
     def test_nesting(self):
-        deep, sums = tensor(1), tensor(1)
+        deep, sums, mixed, products = tensor(1), tensor(1), tensor(LEAST), tensor(3)
         for _ in range(126):
             deep = -deep
         for _ in range(200):
-            sums = sums + tensor(1)
+            sums, products = sums + tensor(1), products * tensor(3)
+        for it in range(90):
+            mixed = tensor(it) - (mixed - GREATEST - tensor(it)) + 1
         self.assertEqual(self.ask(deep).values, [1])
         self.assertEqual(self.ask(sums).values, [201])
+        self.assertEqual(self.ask(mixed).values, [wrapped(LEAST, 90)])
+        self.assertEqual(self.ask(products).values, [(3**201 + 2**63) % 2**64 - 2**63])
+        self.faults(client.TooLarge, 14, client.concatenate([[it] for it in range(501)]))
         self.faults(client.NotJson, 2, -deep)
 
     def test_every_fault_of_the_table_is_a_class(self):

@@ -1,7 +1,14 @@
 """Tests of what the client makes without the program: tensors, expressions, texts, and refusals
 where they are written."""
 
+import importlib.util
+import inspect
+import os
 import pickle
+import shutil
+import subprocess
+import sys
+import tempfile
 import unittest
 
 import tensor_client as client
@@ -9,6 +16,24 @@ from tensor_client import GREATEST, LEAST, Expr, concat, contract, full, tensor,
 from tensor_client.faults import fault_made
 from tensor_client.requests import VERSIONS
 from test_asked import documented, method
+
+HERE = os.path.dirname(os.path.realpath(__file__))
+# What a user writes, whose types have to be right.
+USER = """
+import tensor_client as tc
+from tensor_client import Session, Tensor, einsum, run, tensor, where
+
+x = tensor([[1, 2], [3, 4]])
+y = (x @ x.T + 2 * x - x[0] * 3)[:, ::-1].clip(0, 5).reshape(4, order="F")
+rows, columns = x.shape
+most: int = int(run(y.max(axis=0, keepdims=True))) + rows * columns
+found: Tensor = run(where(~(x > 2) & (x != 0), x, -x), workers=2, timeout=1.5)
+total: int = sum(found.values) + run(tc.sum(x)).item()
+with Session(workers=4, way="frames") as s:
+    part = s.keep(einsum("ij,jk->ik", x, x))
+    print(s.run(part**2).nested(), len(part), most, total)
+"""
+
 
 class Built(unittest.TestCase):
     """What is made without the program."""
@@ -56,13 +81,20 @@ class Built(unittest.TestCase):
             lambda: x.sum("0"),
             lambda: contract(x, x, [(0, False)]),
             lambda: client.request(x, workers=True),
-            lambda: where(1, 2, 3),
+            lambda: where("1", 2, 3),
             lambda: 1 if x < 2 else 0,
             lambda: 1 if x else 0,
             lambda: int(x + 1),
             lambda: (x + 1).item(),
             lambda: list(x),
             lambda: 1 in x,
+            lambda: list(x + 1),
+            lambda: x.sum(out=[]),
+            lambda: x.clip(0, 1, out=[]),
+            lambda: pow(x, 2, 3),
+            lambda: x**x,
+            lambda: x**2.0,
+            lambda: client.einsum(x, [0, 1]),
             lambda: len(tensor(1)),
             lambda: x // 2,
             lambda: 2 % x,
@@ -131,6 +163,8 @@ class Built(unittest.TestCase):
             lambda: client.concatenate([]),
             lambda: x.reshape(3, 2, order="A"),
             lambda: x**-1,
+            lambda: x.pad(1, mode="edge"),
+            lambda: x.pad((1, 2, 3, 4)),
         ):
             self.assertRaises(ValueError, refused)
 
@@ -199,6 +233,16 @@ class Built(unittest.TestCase):
         ):
             self.assertEqual(expr.dims, dims)
 
+    def test_docstrings_have_an_example_each(self):
+        names = [it for it in vars(client).items() if not it[0].startswith("_")]
+        for kind in (Expr, client.Tensor, client.Session):
+            for name in dir(kind):
+                if not name.startswith("_"):
+                    names.append((f"{kind.__name__}.{name}", getattr(kind, name)))
+        for name, it in names:
+            if inspect.isfunction(it) or isinstance(it, property):
+                self.assertIn(">>> ", it.__doc__ or "", name)
+
     def test_short_texts_of_objects(self):
         x = tensor(list(range(1000)))
         self.assertEqual(repr(tensor([1, 2])), "<tensor, dims (2,), values 1 2>")
@@ -227,6 +271,50 @@ class Built(unittest.TestCase):
         self.assertEqual(text.count("add"), 999)
         self.assertLess(deepest(text), 16)
         self.assertIn('["sub",["add",', client.request(long - one))
+        # What a long chain takes away is summed, and taken away once.
+        mixed, products, bounds = tensor(7), one, one
+        for it in range(300):
+            mixed = mixed + tensor(it) - (tensor(-it) - one)
+            products, bounds = tensor(it) * products, bounds.cwise_max(it)
+        text = client.request(mixed)
+        self.assertEqual((text.count("sub"), text.count("add")), (1, 899))
+        for expr in (mixed, products, bounds, one - (one - long)):
+            self.assertLess(deepest(client.request(expr)), 24)
+
+
+class Installed(unittest.TestCase):
+    """The package as others install and use it."""
+
+    def run_in(self, folder, *words, **names):
+        env = {**os.environ, "PYTHONDONTWRITEBYTECODE": "1", **names}
+        said = subprocess.run(words, cwd=folder, env=env, capture_output=True, text=True)
+        self.assertEqual(said.returncode, 0, said.stdout + said.stderr)
+        return said.stdout
+
+    @unittest.skipUnless(importlib.util.find_spec("pip"), "there is no pip: nothing was installed")
+    def test_pip_without_a_network(self):
+        with tempfile.TemporaryDirectory() as folder:
+            pip = [sys.executable, "-m", "pip", "install", "--no-index", "--target", folder]
+            self.run_in(folder, *pip, HERE)
+            told = "import tensor_client as it; print(it.__version__, it.__file__)"
+            said = self.run_in("/", sys.executable, "-c", told, PYTHONPATH=folder).split()
+            self.assertEqual(said[0], client.__version__)
+            self.assertTrue(said[1].startswith(folder), said)
+            self.assertIn("py.typed", os.listdir(os.path.dirname(said[1])))
+
+    @unittest.skipUnless(shutil.which("mypy"), "there is no mypy: no user's types were looked at")
+    def test_types_of_a_user(self):
+        with tempfile.TemporaryDirectory() as folder:
+            with open(os.path.join(folder, "user.py"), "w", encoding="utf-8") as file:
+                file.write(USER)
+            mypy = ["mypy", "--strict", "--cache-dir", os.devnull, "user.py"]
+            self.run_in(folder, *mypy, MYPYPATH=HERE)
+
+    def test_what_is_exported(self):
+        self.assertTrue(set(client.__all__) <= set(dir(client)))
+        for name, it in vars(client).items():
+            if not inspect.ismodule(it) and not name.startswith("_"):
+                self.assertIn(name, client.__all__)
 
 
 def deepest(text):

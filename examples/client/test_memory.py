@@ -1,10 +1,15 @@
-"""Tests of what becomes of numpy's arrays: which are copied, and which refused. They are skipped
-where numpy isn't installed."""
+"""Tests of memory: which of numpy's arrays are copied, and which refused, skipped where numpy isn't
+installed; and what the C library is asked to keep."""
 
 import pickle
 import unittest
+import unittest.mock
 
+import reference_frames
+import tensor_client as client
 from tensor_client import tensor
+from tensor_client.library import Library
+from tensor_client.memory import KEPT, MOST_KEPT, Room, as_one, keep, lie_in_a_row
 from tensor_client.requests import Settings, framed
 from asking import WAYS
 
@@ -51,6 +56,50 @@ class Memory(unittest.TestCase):
             self.assertFalse(self.shares(x, array))
             self.assertEqual(x.nested(), array.astype(int).tolist())
         self.assertEqual(tensor(read_only).values, [0, 1, 2])
+
+    def test_arrays_that_lie_one_behind_another(self):
+        rows = numpy.arange(15_000).reshape(3, 5_000)
+        read_only = rows[1:]
+        read_only.flags.writeable = False
+        apart = numpy.arange(5_000), numpy.arange(5_000)
+        for arrays, is_row in (
+            (rows, True),
+            (read_only, True),
+            (rows[::2], False),
+            (rows[::-1], False),
+            (apart, False),
+        ):
+            parts = [tensor(it).held for it in arrays]
+            self.assertEqual(lie_in_a_row(parts), is_row)
+            one = numpy.frombuffer(as_one(parts), dtype=numpy.int64)
+            self.assertEqual(numpy.shares_memory(one, arrays[0]), is_row)
+            for way in ("library", "reference library"):
+                _, is_there, opened = WAYS[way]
+                if is_there:
+                    with opened() as ask:
+                        expr = tensor(arrays[0]) - tensor(arrays[1]) * 3
+                        wanted = arrays[0] - arrays[1] * 3
+                        numpy.testing.assert_array_equal(ask(expr).array(), wanted)
+            numpy.testing.assert_array_equal(one, numpy.concatenate(arrays)[: one.size])
+        self.assertFalse(lie_in_a_row([rows[0].data, rows[1][:0].data]))
+        self.assertFalse(lie_in_a_row([rows[0].data, rows[1].tobytes()]))
+
+    def test_the_room_that_a_thread_keeps(self):
+        parts = [numpy.arange(9_000), numpy.arange(100), numpy.arange(0)]
+        first = as_one([it.data for it in parts])
+        self.assertIsInstance(first.obj, Room)
+        # While one is used, another is taken.
+        self.assertIsNot(as_one([it.data for it in parts]).obj, first.obj)
+        keep(first)
+        keep(parts[0].data)
+        again = as_one([it.data for it in parts[::-1]])
+        self.assertIs(again.obj, first.obj)
+        wanted = numpy.concatenate(parts[::-1])
+        numpy.testing.assert_array_equal(numpy.frombuffer(again, dtype=numpy.int64), wanted)
+        keep(Room(MOST_KEPT + 1))
+        self.assertIsNone(KEPT.room)
+        few = as_one([parts[1].data, parts[1].data])
+        self.assertEqual(few, parts[1].tobytes() * 2)
 
     def test_the_array_of_an_answer(self):
         for way, (_, is_there, opened) in WAYS.items():
@@ -103,6 +152,24 @@ class Memory(unittest.TestCase):
     def test_an_expression_is_no_array(self):
         with self.assertRaisesRegex(TypeError, r"run\(it\)"):
             numpy.asarray(tensor([1, 2]) + 1)
+
+
+class Kept(unittest.TestCase):
+    """What the C library is asked for, and when."""
+
+    def test_memory_is_kept_where_that_is_asked_for(self):
+        functions = reference_frames.Functions()
+        functions.mallopt = unittest.mock.Mock(return_value=1)
+        with unittest.mock.patch("ctypes.CDLL", return_value=functions):
+            Library("reference").run(tensor([1, 2]) + 1, Settings())
+            functions.mallopt.assert_not_called()
+            self.assertTrue(client.keep_memory(64))
+            self.assertIn(unittest.mock.call(-1, 64 << 20), functions.mallopt.mock_calls)
+            functions.mallopt.return_value = 0
+            self.assertFalse(client.keep_memory())
+            del functions.mallopt
+            self.assertFalse(client.keep_memory())
+            self.assertRaises(TypeError, client.keep_memory, "64")
 
 
 if __name__ == "__main__":

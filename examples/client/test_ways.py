@@ -13,7 +13,7 @@ import unittest.mock
 import tensor_client as client
 from tensor_client import Expr, tensor
 from tensor_client.explaining import explain
-from tensor_client.finding import EXPLAIN, Program, built, program_of
+from tensor_client.finding import EXPLAIN, TOP, Program, built, program_of
 from tensor_client.library import Library, library_named, library_of
 from tensor_client.requests import Settings, framed
 from asking import LINES, ONE, REFERENCE, WAYS, referring
@@ -80,7 +80,7 @@ class Found(Shell):
             lambda: client.run(tensor(1), way="lines"),
             lambda: client.run(tensor(1), way="library", timeout=1),
             lambda: client.Session(way="process"),
-            lambda: client.Session(program=LINES),
+            lambda: client.Session(program=REFERENCE),
         ):
             with self.assertRaisesRegex(ValueError, "way|no limit of time"):
                 refused()
@@ -92,16 +92,33 @@ class Found(Shell):
         with self.assertRaisesRegex(client.ProgramFailed, "TENSOR_NONE.*no_program.*/no/such"):
             program_of(None, nowhere)
         self.assertIsNone(built(nowhere))
+        with self.here(TENSOR_NONE="/no/such/program"):
+            with self.assertRaisesRegex(client.ProgramFailed, "TENSOR_NONE is /no/such/program"):
+                program_of(None, nowhere)
+
+    def test_nothing_that_answers(self):
+        # As where the package is installed, and nothing else.
+        with self.here(PATH="/nowhere"), unittest.mock.patch.multiple(
+            "tensor_client.finding", IS_IN_REPOSITORY=False, LIBRARY="no_library_of_this_name.so"
+        ), unittest.mock.patch("tensor_client.library.OPENED", {}):
+            with self.assertRaises(client.ProgramFailed) as raised:
+                client.run(tensor(1))
+            for variable in ("TENSOR_LIBRARY", "TENSOR_FRAMES", "TENSOR_PROGRAM"):
+                self.assertIn(variable, str(raised.exception))
+            self.assertNotIn(TOP + "/run", str(raised.exception))
+            with self.assertRaisesRegex(client.ProgramFailed, "TENSOR_LINES isn't set"):
+                client.Session()
 
     def test_no_library(self):
         with self.assertRaisesRegex(client.ProgramFailed, "/no/such/library"):
             client.run(tensor(1), way="library", program="/no/such/library")
         with self.here(TENSOR_LIBRARY="/no/such/library"):
-            self.assertRaises(client.ProgramFailed, client.run, tensor(1))
+            with self.assertRaisesRegex(client.ProgramFailed, "TENSOR_LIBRARY is /no/such/library"):
+                client.run(tensor(1))
         with self.assertRaisesRegex(client.ProgramFailed, "tensor_evaluate"):
             Library("libc.so.6")
         with self.here(), unittest.mock.patch("tensor_client.library.OPENED", {}):
-            with unittest.mock.patch("tensor_client.library.libraries", return_value=["/none"]):
+            with unittest.mock.patch("tensor_client.finding.libraries", return_value=["/none"]):
                 self.assertIsNone(library_of())
                 with self.assertRaisesRegex(client.ProgramFailed, "TENSOR_LIBRARY.*/none"):
                     library_named(None)
@@ -209,6 +226,18 @@ class Explained(Shell):
         known = client.UnknownOp("why")
         said = "error 9 UnknownOp\nat /expr/0: another"
         self.assertEqual(self.told(f"echo '{said}'", known), "error 9 UnknownOp: why")
+
+    def test_what_is_too_large_or_nests_too_deep(self):
+        deep, wide = tensor(1), client.concatenate([[it] for it in range(501)])
+        for _ in range(200):
+            deep = -deep
+        with self.here(TENSOR_EXPLAIN="/no/such/program"):
+            for fault, expr in ((client.NotJson(), deep), (client.TooLarge(), wide)):
+                explain(fault, expr, Settings())
+                self.assertIn("run it in parts", str(fault))
+            fault = client.UnknownOp()
+            explain(fault, tensor(1), Settings())
+            self.assertEqual(str(fault), "error 9 UnknownOp")
 
     @unittest.skipUnless(built(EXPLAIN), "tensor_explain isn't built: no fault was explained")
     def test_as_it_is_built(self):

@@ -12,7 +12,7 @@ and in `Tensor.values`. Nested lists and arrays are put into that order and take
 (numpy's order="F"), whatever order they have themselves.
 """
 
-from .expressions import Expr, Tensor, full, tensor, where
+from .expressions import Expr
 from .faults import (
     BadArgument,
     BadArity,
@@ -50,6 +50,7 @@ from .functions import (
     min,
     minimum,
     ones,
+    pad,
     prod,
     reshape,
     stack,
@@ -58,8 +59,19 @@ from .functions import (
     transpose,
     zeros,
 )
+from .library import keep_memory
 from .requests import answer, request
 from .running import Session, run
+from .tensors import Tensor, full, tensor, where
 from .values import GREATEST, LEAST
 
 __version__ = "1.0.0"
+__all__ = [
+    "BadArgument", "BadArity", "BadBlock", "BadField", "BadTensor", "BadVersion", "BadWorkers",
+    "Expr", "Fault", "GREATEST", "LEAST", "NoMemory", "NotJson", "OutOfRange", "ProgramFailed",
+    "ReadFault", "Session", "ShapeMismatch", "Tensor", "TimedOut", "TooLarge", "TooLong",
+    "UnknownInput", "UnknownOp", "WriteFault", "all", "answer", "any", "clip", "concat",
+    "concatenate", "contract", "dot", "einsum", "full", "keep_memory", "matmul", "max", "maximum",
+    "min", "minimum", "ones", "pad", "prod", "request", "reshape", "run", "stack", "sum", "tensor",
+    "tensordot", "transpose", "where", "zeros", "__version__",
+]

@@ -6,11 +6,11 @@ import re
 import subprocess
 
 from .expressions import Expr
-from .faults import Fault, NotJson, TooLarge
+from .faults import Fault, NotJson, ProgramFailed, TooLarge
 from .finding import EXPLAIN, built, environment
-from .requests import Settings, fault_of, request
+from .requests import DEEPEST, Settings, fault_of, request
 
-SECONDS = 10
+SECONDS, MOST_NODES = 10, 1_000
 # What it says behind the fault: the place, a pointer into the text, and the reason.
 SAID = re.compile(r"at (.*?): (.*)")
 
@@ -19,12 +19,20 @@ def explain(fault: Fault, expr: Expr, settings: Settings) -> None:
     """Gives a fault its place and its reason, where it has no reason yet and the program is found.
     Whatever goes wrong on the way, the fault stays what it is."""
     if isinstance(fault, NotJson) and not fault.why:
-        fault.tell(f"it nests {expr.depth} arrays and objects, arguments not counted")
-    path = built(EXPLAIN)
+        fault.tell(f"it nests {expr.depth:,} deep, and may about {DEEPEST}: run it in parts")
     # Behind these come want of memory and streams that fail, which no text tells of.
-    if path is None or fault.why or fault.number > TooLarge.number:
-        return
+    if not fault.why and fault.number <= TooLarge.number:
+        ask(fault, expr, settings)
+    if isinstance(fault, TooLarge) and not fault.why and expr.nodes > MOST_NODES:
+        fault.tell(f"it has {expr.nodes:,} nodes, and may have {MOST_NODES:,}: run it in parts")
+
+
+def ask(fault: Fault, expr: Expr, settings: Settings) -> None:
+    """Asks the program, if it is found."""
     try:
+        path = built(EXPLAIN)
+        if path is None:
+            return
         ended = subprocess.run(
             [path],
             input=request(expr, *settings).encode(),
@@ -33,7 +41,7 @@ def explain(fault: Fault, expr: Expr, settings: Settings) -> None:
             check=False,
             timeout=SECONDS,
         )
-    except (Fault, OSError, subprocess.SubprocessError):
+    except (Fault, ProgramFailed, OSError, subprocess.SubprocessError):
         return
     line, _, rest = ended.stdout.decode(errors="replace").partition("\n")
     told, said = fault_of(line), SAID.match(rest)

@@ -10,8 +10,9 @@ from typing import Any, Dict, Iterator, NamedTuple, Optional
 from .faults import ProgramFailed
 
 HERE = os.path.dirname(os.path.realpath(__file__))
-# The repository, if this package stands in it.
 TOP = os.path.normpath(os.path.join(HERE, "..", "..", ".."))
+# Whether this package stands in the repository, which is then at the top.
+IS_IN_REPOSITORY = HERE == os.path.join(TOP, "examples", "client", "tensor_client")
 
 
 class Program(NamedTuple):
@@ -21,6 +22,11 @@ class Program(NamedTuple):
     variable: str
     name: str
     script: str
+
+    def tried(self) -> str:
+        """Where the program isn't."""
+        here = f", and there is no {self.script}" if IS_IN_REPOSITORY else ""
+        return f"{self.variable} isn't set, PATH has no {self.name}{here}"
 
 
 # The program of one request, those of many, and the one that tells where a fault is.
@@ -33,36 +39,47 @@ LIBRARY_VARIABLE, LIBRARY = "TENSOR_LIBRARY", "libtensor.so"
 
 
 def installed(program: Program) -> Optional[str]:
-    """The path of a program that the environment names, or that is on PATH."""
-    return os.environ.get(program.variable) or shutil.which(program.name)
+    """The path of a program that the environment names, or that is on PATH. One that is named has
+    to be there."""
+    named = os.environ.get(program.variable)
+    found = shutil.which(named or program.name)
+    if named and not found:
+        raise ProgramFailed(f"no program: {program.variable} is {named}, which can't be run")
+    return found
+
+
+def found(program: Program) -> Optional[str]:
+    """The path of a program, if there is one: by the environment, on PATH, or in the repository."""
+    is_here = IS_IN_REPOSITORY and os.access(program.script, os.X_OK)
+    return installed(program) or (program.script if is_here else None)
 
 
 def program_of(named: Any, program: Program) -> str:
-    """The path of a program: as it is named in the call, by the environment, on PATH, or in the
-    repository."""
-    if named is not None:
-        return str(os.fspath(named))
-    script = program.script
-    found = installed(program) or (script if os.access(script, os.X_OK) else None)
-    if found is None:
-        tried = f"{program.variable} isn't set, PATH has no {program.name}, and no {script}"
-        raise ProgramFailed(f"no program: {tried}")
-    return found
+    """The path of a program that has to be there: as it is named in the call, or as it is found."""
+    path = str(os.fspath(named)) if named is not None else found(program)
+    if path is None:
+        raise ProgramFailed(f"no program: {program.tried()}")
+    return path
 
 
 def built(program: Program) -> Optional[str]:
     """The path of a program that needn't be there; the repository's script counts where its program
     is built."""
     made = os.path.join(TOP, "crates", program.name, "out", program.name)
-    is_here = os.access(program.script, os.X_OK) and os.access(made, os.X_OK)
-    return installed(program) or (program.script if is_here else None)
+    return found(program) if os.access(made, os.X_OK) else installed(program)
 
 
 def libraries() -> Iterator[str]:
     """Where the library may be: beside this package, where the loader looks, in the repository."""
     yield os.path.join(HERE, LIBRARY)
     yield LIBRARY
-    yield os.path.join(TOP, "out", LIBRARY)
+    if IS_IN_REPOSITORY:
+        yield os.path.join(TOP, "out", LIBRARY)
+
+
+def no_library() -> str:
+    """Where the library isn't."""
+    return f"{LIBRARY_VARIABLE} isn't set, and none of {', '.join(libraries())} opens"
 
 
 def environment() -> Dict[str, str]:

@@ -1,12 +1,14 @@
-"""numpy's functions over expressions, each made of operations of the request."""
+"""numpy's functions over expressions, each made of operations of the request. The examples take
+their names from the package."""
 
 from __future__ import annotations
 
-from typing import Any, Callable, List, Sequence, Tuple
+from typing import Any, Callable, List, Optional, Sequence, Tuple
 
 from . import rules
-from .expressions import Expr, an_expr, full
+from .expressions import Expr
 from .faults import ShapeMismatch
+from .tensors import an_expr, full
 from .values import whole
 from .ways import Axis
 
@@ -14,34 +16,58 @@ LETTERS = "abcdefghijklmnopqrstuvwxyzABCDEFGHIJKLMNOPQRSTUVWXYZ"
 
 
 def zeros(dims: Any) -> Expr:
-    """A tensor of these dims, 0 at every place."""
+    """A tensor of these dims, 0 at every place.
+
+    >>> run(zeros((2, 3))).nested()
+    [[0, 0, 0], [0, 0, 0]]
+    """
     return full(dims, 0)
 
 
 def ones(dims: Any) -> Expr:
-    """A tensor of these dims, 1 at every place."""
+    """A tensor of these dims, 1 at every place.
+
+    >>> run(ones(3)).values
+    [1, 1, 1]
+    """
     return full(dims, 1)
 
 
 def maximum(x: Any, y: Any) -> Expr:
     """The greater of each two values, as numpy's; the method x.maximum() is the greatest of all.
 
-    >>> from tensor_client import tensor
-    >>> maximum(tensor([1, 5]), 3)
-    <cwise_max, dims (2,), 4 nodes>
+    >>> run(maximum([1, 5], 3)).values
+    [3, 5]
     """
     return an_expr(x).cwise_max(y)
 
 
 def minimum(x: Any, y: Any) -> Expr:
-    """The lesser of each two values, as numpy's."""
+    """The lesser of each two values, as numpy's; the method x.minimum() is the least of all.
+
+    >>> run(minimum([1, 5], [3, 4])).values
+    [1, 4]
+    """
     return an_expr(x).cwise_min(y)
 
 
-def clip(x: Any, least: Any = None, greatest: Any = None) -> Expr:
-    """The values, none of them below the one and above the other."""
-    found: Expr = an_expr(x).clip(least, greatest)
+def clip(x: Any, a_min: Any = None, a_max: Any = None) -> Expr:
+    """The values, none of them below the one and above the other.
+
+    >>> run(clip([1, 5, 9], 2, 8)).values
+    [2, 5, 8]
+    """
+    found: Expr = an_expr(x).clip(a_min, a_max)
     return found
+
+
+def pad(x: Any, pad_width: Any, mode: str = "constant", constant_values: int = 0) -> Expr:
+    """A value around, by numpy's widths, as the method.
+
+    >>> run(pad([1, 2], (1, 2))).values
+    [0, 1, 2, 0, 0]
+    """
+    return an_expr(x).pad(pad_width, mode, constant_values)
 
 
 def combining(name: str) -> Callable[..., Expr]:
@@ -61,14 +87,18 @@ sum, prod, max, min, all, any = map(combining, ("sum", "prod", "max", "min", "al
 def contract(x: Any, y: Any, pairs: Sequence[Any]) -> Expr:
     """The sums of products over paired axes, each pair an axis of x and one of y.
 
-    >>> contract([[1, 2], [3, 4]], [5, 6], [(1, 0)])
-    <contract, dims (2,), 3 nodes>
+    >>> run(contract([[1, 2], [3, 4]], [5, 6], [(1, 0)])).values
+    [17, 39]
     """
     return an_expr(x).contract(y, pairs)
 
 
 def tensordot(x: Any, y: Any, axes: Any = 2) -> Expr:
-    """numpy's tensordot: by how many axes, or by two lists of axes."""
+    """numpy's tensordot: by how many axes, or by two lists of axes.
+
+    >>> run(tensordot([[1, 2], [3, 4]], [[5, 6], [7, 8]], axes=([0], [1]))).nested()
+    [[23, 31], [34, 46]]
+    """
     left, right = an_expr(x), an_expr(y)
     if not hasattr(axes, "__len__"):
         count = whole(axes)
@@ -80,7 +110,11 @@ def tensordot(x: Any, y: Any, axes: Any = 2) -> Expr:
 
 
 def dot(x: Any, y: Any) -> Expr:
-    """numpy's dot: the sums of products over the last axis of x and the last but one of y."""
+    """numpy's dot: the sums of products over the last axis of x and the last but one of y.
+
+    >>> run(dot([[1, 2], [3, 4]], [5, 6])).values
+    [17, 39]
+    """
     left, right = an_expr(x), an_expr(y)
     if not left.shape or not right.shape:
         return left.mul(right)
@@ -91,8 +125,7 @@ def matmul(x: Any, y: Any) -> Expr:
     """numpy's x @ y: of matrices and lists a contraction; of stacks of matrices the products of
     all pairs of numbers, summed, since a contraction pairs no axis that it keeps.
 
-    >>> from tensor_client import ones
-    >>> matmul(ones((5, 2, 3)), ones((3, 4))).dims
+    >>> matmul(ones((5, 2, 3)), ones((5, 3, 4))).dims
     (5, 2, 4)
     """
     left, right = an_expr(x), an_expr(y)
@@ -114,9 +147,11 @@ def einsum(labels: str, *operands: Any) -> Expr:
     """numpy's einsum, for what one contraction says: one or two operands, in which a letter that
     both have is summed over, and so isn't in the result.
 
-    >>> einsum("ij,kj->ki", [[1, 2], [3, 4]], [[5, 6]]).dims
-    (1, 2)
+    >>> run(einsum("ij,kj->ki", [[1, 2], [3, 4]], [[5, 6]])).nested()
+    [[17, 39]]
     """
+    if not isinstance(labels, str):
+        raise TypeError("einsum asks for its letters first, as in einsum('ij,jk->ik', x, y)")
     told, exprs, result = labels.replace(" ", ""), [an_expr(it) for it in operands], ""
     inputs = told.split("->")[0].split(",")
     if len(inputs) != len(exprs) or len(exprs) not in (1, 2):
@@ -166,22 +201,29 @@ def paired(
 
 
 def concat(x: Any, y: Any, axis: int) -> Expr:
-    """y behind x along an axis."""
+    """y behind x along an axis.
+
+    >>> run(concat([[1, 2]], [[3, 4]], 1)).nested()
+    [[1, 2, 3, 4]]
+    """
     return an_expr(x).concat(y, axis)
 
 
-def concatenate(parts: Sequence[Any], axis: int = 0) -> Expr:
-    """All parts, one behind another along an axis.
+def concatenate(parts: Sequence[Any], axis: Optional[int] = 0) -> Expr:
+    """All parts, one behind another along an axis; or, where that is None, the values of all along
+    one axis.
 
-    >>> concatenate([[1, 2], [3], [4, 5]]).dims
-    (5,)
+    >>> run(concatenate([[1, 2], [3], [4, 5]])).values
+    [1, 2, 3, 4, 5]
     """
-    exprs = [an_expr(it) for it in parts]
+    exprs, along = [an_expr(it) for it in parts], axis or 0
     if not exprs:
         raise ValueError("nothing to concatenate")
+    if axis is None:
+        exprs = [it.ravel() for it in exprs]
     while len(exprs) > 1:
         # In pairs, and these in pairs: so a long list nests little.
-        pairs = [it[0].concat(it[1], axis) for it in zip(exprs[::2], exprs[1::2])]
+        pairs = [it[0].concat(it[1], along) for it in zip(exprs[::2], exprs[1::2])]
         exprs = pairs + exprs[len(exprs) // 2 * 2 :]
     return exprs[0]
 
@@ -189,8 +231,8 @@ def concatenate(parts: Sequence[Any], axis: int = 0) -> Expr:
 def stack(parts: Sequence[Any], axis: int = 0) -> Expr:
     """All parts along a new axis.
 
-    >>> stack([[1, 2], [3, 4], [5, 6]]).dims
-    (3, 2)
+    >>> run(stack([[1, 2], [3, 4], [5, 6]], axis=1)).nested()
+    [[1, 3, 5], [2, 4, 6]]
     """
     exprs = alike_exactly([an_expr(it) for it in parts])
     at = rules.axis_of(whole(axis), exprs[0].ndim + 1)
@@ -204,11 +246,19 @@ def alike_exactly(exprs: List[Expr]) -> List[Expr]:
     return exprs
 
 
-def transpose(x: Any, *order: Any) -> Any:
-    """The axes in this order, or from the last to the first."""
-    return an_expr(x).transpose(*order)
+def transpose(x: Any, axes: Any = None) -> Any:
+    """The axes in this order, or from the last to the first.
+
+    >>> run(transpose([[1, 2], [3, 4]])).nested()
+    [[1, 3], [2, 4]]
+    """
+    return an_expr(x).transpose(axes)
 
 
 def reshape(x: Any, sizes: Any, order: str = "C") -> Expr:
-    """The same values in other dims, as the method."""
+    """The same values in other dims, as the method.
+
+    >>> run(reshape([[1, 2], [3, 4], [5, 6]], (2, -1))).nested()
+    [[1, 2, 3], [4, 5, 6]]
+    """
     return an_expr(x).reshape(*([sizes] if hasattr(sizes, "__len__") else [[sizes]]), order=order)

@@ -8,14 +8,18 @@ from __future__ import annotations
 
 import ctypes
 import struct
+import threading
 from array import array as packed
-from typing import Any, List, Union
+from functools import lru_cache
+from typing import Any, List, Optional, Union
 
 from .values import GREATEST, LEAST, numpy, whole
 
 VALUE = 8
-# From so many values on, new memory is numpy's, where there is numpy, which doesn't clear it.
-LARGE = 4096
+INT64 = None if numpy is None else numpy.dtype(numpy.int64)
+# Up to so many values are answered as a list, which costs less than memory of its own; and from so
+# many on, new memory is numpy's, where there is numpy, which doesn't clear it.
+FEW, LARGE = 16, 4096
 
 Held = Union[List[int], memoryview]
 Bytes = Union[bytes, memoryview]
@@ -37,11 +41,23 @@ def memory_of(values: Bytes) -> memoryview:
     return memoryview(bytearray(values)).cast("q")
 
 
+def few_of(values: bytes) -> List[int]:
+    """A list of these bytes of values.
+
+    >>> few_of(bytes([5, 0, 0, 0, 0, 0, 0, 0]))
+    [5]
+    """
+    return list(numbers(len(values) // VALUE).unpack(values))
+
+
 def memory_of_array(array: Any) -> memoryview:
     """The memory of an array: its own where its values stand there column-major and 8 bytes each,
     and else that of a copy."""
-    flat = numpy.asarray(array, dtype=numpy.int64, order="F").reshape(-1, order="F")
-    return flat.data if flat.flags.aligned else flat.copy().data
+    flags = array.flags
+    if array.dtype != INT64 or not (flags.f_contiguous and flags.aligned):
+        array = numpy.array(array, dtype=INT64, order="F")
+    found: memoryview = (array if array.ndim == 1 else array.reshape(-1, order="F")).data
+    return found
 
 
 def memory_of_range(values: range) -> memoryview:
@@ -57,17 +73,76 @@ def memory_of_range(values: range) -> memoryview:
     return memoryview(packed("q", values))
 
 
-def bytes_of(held: Held) -> Bytes:
-    """The bytes of values, which are copied where they stand in a list."""
-    if isinstance(held, list):
-        return struct.pack(f"<{len(held)}q", *held)
-    # A view of nothing is no view of bytes.
-    return held.cast("B") if held else b""
+def bytes_of(held: Held) -> bytes:
+    """The bytes of values, copied."""
+    return packed_bytes(held) if isinstance(held, list) else held.tobytes()
 
 
-def all_bytes(parts: List[Bytes]) -> Bytes:
-    """All parts, one behind another: copied where there are several."""
-    return parts[0] if len(parts) == 1 else b"".join(parts)
+def parts_of(held: List[Held], size: int) -> List[Bytes]:
+    """The memory of all values, of which there are so many, one part behind another: where they
+    lie, but for those in lists, and for those of several tensors that aren't many."""
+    parts = [packed_bytes(it) if isinstance(it, list) else it for it in held]
+    return [b"".join(parts)] if size < LARGE and len(parts) > 1 else parts
+
+
+@lru_cache(maxsize=100)
+def numbers(count: int) -> struct.Struct:
+    """So many values as bytes."""
+    return struct.Struct(f"<{count}q")
+
+
+def packed_bytes(values: List[int]) -> bytes:
+    return numbers(len(values)).pack(*values)
+
+
+class Room(bytearray):
+    """Memory into which the parts of a large request are copied, one behind another."""
+
+
+class Kept(threading.local):
+    """A thread's room, which is kept for its next request: new memory costs more than the copy."""
+
+    room: Optional[Room] = None
+
+
+KEPT, MOST_KEPT = Kept(), 32 << 20
+
+
+def as_one(parts: List[Bytes]) -> Bytes:
+    """A memory in which all parts lie, one behind another: the first's, where they lie so, and else
+    that of a copy. It is used as long as the parts are, and then given to `keep`."""
+    if len(parts) == 1 or lie_in_a_row(parts):
+        return parts[0]
+    views = [memoryview(it).cast("B") for it in parts if it]
+    size = sum(map(len, views))
+    if size < VALUE * LARGE:
+        return b"".join(views)
+    # Taken from its place meanwhile, as no other request of this thread may use it.
+    room, KEPT.room = KEPT.room, None
+    if room is None or len(room) < size:
+        room = Room(size)
+    found, end = memoryview(room)[:size], 0
+    for it in views:
+        begin, end = end, end + len(it)
+        found[begin:end] = it
+    return found
+
+
+def keep(values: Bytes) -> None:
+    """Keeps the room in which these values were put together, if it is one, and not too large."""
+    room = values.obj if isinstance(values, memoryview) else None
+    if isinstance(room, Room) and len(room) <= MOST_KEPT:
+        KEPT.room = room
+
+
+def lie_in_a_row(parts: List[Bytes]) -> bool:
+    """Whether several parts lie one behind another, as rows of an array do."""
+    views = [it for it in parts if isinstance(it, memoryview)]
+    if not views or len(views) < len(parts) or not all(views):
+        return False
+    places = list(map(place_of, views))
+    ends = [place + it.nbytes for place, it in zip(places, views)]
+    return places[1:] == ends[:-1]
 
 
 def place_of(memory: Bytes) -> Any:

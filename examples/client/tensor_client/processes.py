@@ -12,7 +12,7 @@ from typing import Any, List, Optional, Tuple
 
 from .faults import ProgramFailed, TimedOut
 from .finding import environment
-from .memory import VALUE, Bytes, memory_for, memory_of
+from .memory import FEW, VALUE, Bytes, Held, few_of, memory_for, memory_of
 from .requests import MAX_TEXT, MAX_VALUES, Framed, fault_of
 
 SIZES = struct.Struct("<QQ")
@@ -109,7 +109,8 @@ class Process:
 
     def write(self, parts: List[Bytes], deadline: Deadline) -> None:
         """Writes all parts, one behind another."""
-        left = [it for it in parts if it]
+        # By bytes; a view of nothing is no view of these.
+        left = [memoryview(it).cast("B") for it in parts if it]
         while left:
             try:
                 sent = os.writev(self.stdin.fileno(), left[:PARTS])
@@ -121,7 +122,7 @@ class Process:
             while left and sent >= len(left[0]):
                 sent -= len(left.pop(0))
             if sent:
-                left[0] = memoryview(left[0])[sent:]
+                left[0] = left[0][sent:]
 
     def read(self, deadline: Deadline) -> bytes:
         """The next bytes, as many as are there."""
@@ -152,7 +153,7 @@ def line_asked(process: Process, text: str, deadline: Deadline) -> str:
     return b"".join(pieces).decode()
 
 
-def frame_asked(process: Process, asked: Framed, deadline: Deadline) -> Tuple[bytes, memoryview]:
+def frame_asked(process: Process, asked: Framed, deadline: Deadline) -> Tuple[bytes, Held]:
     """The header and the values of the frame that answers a frame, by a program of frames."""
     sizes = SIZES.pack(len(asked.header), asked.size)
     process.write([sizes + asked.header, *asked.parts], deadline)
@@ -168,10 +169,10 @@ def frame_asked(process: Process, asked: Framed, deadline: Deadline) -> Tuple[by
     return found[SIZES.size : begin], rest_of(process, found[begin:], count, deadline)
 
 
-def rest_of(process: Process, found: bytes, count: int, deadline: Deadline) -> memoryview:
+def rest_of(process: Process, found: bytes, count: int, deadline: Deadline) -> Held:
     """So many values, the first bytes of which were read."""
     if len(found) == VALUE * count:
-        return memory_of(found)
+        return few_of(found) if count <= FEW else memory_of(found)
     if len(found) > VALUE * count:
         raise ProgramFailed(f"{process.path} answers more than a frame")
     values = memory_for(count)

@@ -3,12 +3,15 @@
 from __future__ import annotations
 
 import json
+from functools import lru_cache
 from operator import itemgetter
 from typing import Any, Callable, Dict, Iterable, List, NamedTuple, Optional, Tuple, Union
 
-from .expressions import Expr, Tensor, an_expr
+from .expressions import Expr
 from .faults import Fault, TooLong, fault_made
-from .memory import Bytes, bytes_of
+from .memory import Bytes, Held, parts_of
+from .rules import Dims
+from .tensors import Tensor, an_expr
 from .values import whole
 
 # So many bytes a text or a frame's header may have, and so many values a frame.
@@ -17,46 +20,73 @@ MAX_TEXT = MAX_VALUES = 16_777_216
 FIRST_RANK, FIRST_WORKERS = 6, 64
 # The version of a request that has an operation, where that isn't 1.
 VERSIONS = dict.fromkeys("stride pad concat convolve".split(), 2)
-LAST_VERSION = 2
 # So many arrays in one another a text may have, its own object and an argument's two left out.
 DEEPEST = 120
-# Operations whose chains may be grouped in any way: modulo 2**64 the values are the same.
-GROUPED = frozenset("add mul cwise_max cwise_min and or".split())
+# So many bytes a node of an expression has in a text at least: a name, and a comma behind it.
+LEAST_NODE = 5
+SUMS = frozenset(("add", "sub"))
+# Operations whose chains may be grouped in any way, and what else stands in such a chain: modulo
+# 2**64 the values are the same.
+GROUPED = {it: frozenset((it,)) for it in "mul cwise_max cwise_min and or".split()}
+GROUPED.update(dict.fromkeys(SUMS, SUMS))
 
 
 # The text of a JSON value, without spaces.
 compact: Callable[[Any], str] = json.JSONEncoder(separators=(",", ":")).encode
 
 
+@lru_cache(maxsize=1000)
+def opening(operation: str) -> str:
+    """What the text of an operation begins with, behind what stands before it."""
+    return ",[" + compact(operation)
+
+
 def commas(numbers: Iterable[int]) -> str:
     return ",".join(map(str, numbers))
 
 
-def version_of(expr: Expr) -> int:
-    """The least version that has an expression's operation and its rank."""
-    has_high_rank = expr.dims is not None and len(expr.dims) > FIRST_RANK
-    return 2 if has_high_rank else VERSIONS.get(expr.operation, 1)
+@lru_cache(maxsize=1000)
+def dims_text(dims: Dims) -> str:
+    """What a tensor of these dims has for them in a text.
+
+    >>> dims_text((2, 3))
+    '"dims":[2,3]'
+    """
+    return f'"dims":[{commas(dims)}]'
 
 
-def links(expr: Expr) -> List[Expr]:
-    """The operands of a chain of one operation, in their order: x, y and z of (x + y) + z."""
-    found, left = [], [expr]
+def links(expr: Expr) -> Tuple[List[Expr], List[Expr]]:
+    """The operands of a chain of one operation, in their order: x, y and z of (x + y) + z; and
+    apart from them those that are taken away, as z of (x + y) - z."""
+    found: Tuple[List[Expr], List[Expr]] = [], []
+    chained, left = GROUPED[expr.operation], [(expr, 0)]
     while left:
-        it = left.pop()
-        if it.operation == expr.operation and len(it.operands) == 2:
-            left += reversed(it.operands)
+        it, taken = left.pop()
+        if it.operation in chained and len(it.operands) == 2:
+            x, y = it.operands
+            left += (y, taken ^ (it.operation == "sub")), (x, taken)
         else:
-            found.append(it)
+            found[taken].append(it)
     return found
 
 
-def balanced(expr: Expr) -> Expr:
-    """A chain of one operation as a tree of pairs, which nests by the logarithm of its length."""
-    level = links(expr)
+def in_pairs(operation: str, level: List[Expr]) -> Expr:
+    """Operands of one operation as a tree of pairs, which nests by the logarithm of their
+    number."""
     while len(level) > 1:
-        pairs = [Expr(expr.operation, it, dims=expr.dims) for it in zip(level[::2], level[1::2])]
+        zipped = zip(level[::2], level[1::2])
+        pairs = [Expr(operation, it, dims=it[0].dims) for it in zipped]
         level = pairs + level[len(level) // 2 * 2 :]
     return level[0]
+
+
+def balanced(expr: Expr) -> Expr:
+    """A chain of one operation as trees of pairs: of sums and differences what is taken away is
+    summed, and taken away once."""
+    operation = "add" if expr.operation in SUMS else expr.operation
+    kept, taken = links(expr)
+    found = in_pairs(operation, kept)
+    return Expr("sub", [found, in_pairs(operation, taken)], dims=expr.dims) if taken else found
 
 
 class Text:
@@ -66,29 +96,43 @@ class Text:
 
     def __init__(self, expr: Expr) -> None:
         self.names: Dict[int, Tuple[str, Tensor]] = {}
-        self.version = 1
-        self.balance = expr.depth > DEEPEST
+        self.version, self.balance = 1, expr.depth > DEEPEST
         pieces: List[str] = []
-        length, left = 0, [expr]  # type: Tuple[int, List[Union[Expr, str]]]
-        while left and length <= MAX_TEXT:
+        left: List[Union[Expr, str]] = [expr]
+        while left:
             it = left.pop()
-            piece = it if isinstance(it, str) else self.begun(it, left)
-            pieces.append(piece)
-            length += len(piece)
-        self.text = "".join(pieces)
+            if isinstance(it, Tensor):
+                pieces.append(self.name_of(it))
+            elif isinstance(it, str):
+                pieces.append(it)
+            else:
+                pieces.append(self.begun(it, left))
+        # Each piece but an end begins with a comma.
+        self.text = "".join(pieces)[1:]
+
+    def name_of(self, it: Tensor) -> str:
+        """The name of an input, which is a new one where it hasn't stood before."""
+        found = self.names.get(id(it))
+        if found is None:
+            if len(it.dims or ()) > FIRST_RANK:
+                self.ask_for(2)
+            found = self.names[id(it)] = f',"x{len(self.names)}"', it
+        return found[0]
 
     def begun(self, it: Expr, left: List[Union[Expr, str]]) -> str:
-        """The text that an expression begins with; what stands behind that is put on the list."""
-        if self.version < LAST_VERSION:
-            self.version = version_of(it)
-        if isinstance(it, Tensor):
-            return self.names.setdefault(id(it), (f'"x{len(self.names)}"', it))[0]
+        """The text that an operation begins with; what stands behind that is put on the list."""
+        high = it.dims is not None and len(it.dims) > FIRST_RANK
+        if high or it.operation in VERSIONS:
+            self.ask_for(VERSIONS.get(it.operation, 2))
         if self.balance and it.operation in GROUPED and len(it.operands) == 2:
             it = balanced(it)
-        left.append("".join("," + compact(more) for more in it.arguments) + "]")
-        for operand in reversed(it.operands):
-            left += (operand, ",")
-        return "[" + compact(it.operation)
+        arguments = "".join(["," + compact(more) for more in it.arguments]) if it.arguments else ""
+        left.append(arguments + "]")
+        left.extend(reversed(it.operands))
+        return opening(it.operation)
+
+    def ask_for(self, version: int) -> None:
+        self.version = max(self.version, version)
 
 
 class Settings(NamedTuple):
@@ -102,7 +146,7 @@ class Settings(NamedTuple):
 
 def text_of(expr: Expr) -> Text:
     """An expression's text, if it isn't too long already."""
-    if expr.nodes > MAX_TEXT:
+    if expr.nodes > MAX_TEXT // LEAST_NODE:
         raise TooLong("it was not sent")
     return Text(expr)
 
@@ -124,21 +168,20 @@ def request(expr: Any, workers: int = 1, block: int = 4096, version: Optional[in
     """The text that asks for an expression. Its version is the least that has its operations and
     ranks, and so many workers.
 
-    >>> from tensor_client import tensor
     >>> print(request(tensor(5)))
     {"version":1,"workers":1,"block":4096,"inputs":{"x0":{"dims":[],"data":[5]}},"expr":"x0"}
     """
     found = text_of(an_expr(expr))
     inputs = (
-        f'{name}:{{"dims":[{commas(it.dims or ())}],"data":[{commas(it.values)}]}}'
+        f'{name[1:]}:{{{dims_text(it.dims or ())},"data":[{commas(it.values)}]}}'
         for name, it in found.names.values()
     )
     return whole_text(found, Settings(workers, block, version), inputs)
 
 
 class Framed(NamedTuple):
-    """A request as a frame: the header, how many values stand behind it, and their bytes, tensor by
-    tensor, where they lie."""
+    """A request as a frame: the header, how many values stand behind it, and these, one part behind
+    another, where they lie."""
 
     header: bytes
     size: int
@@ -148,19 +191,20 @@ class Framed(NamedTuple):
 def framed(expr: Expr, settings: Settings) -> Framed:
     """The frame that asks for an expression: its tensors stand in the order of their names.
 
-    >>> from tensor_client import tensor
     >>> framed(tensor([5, 7]), Settings()).header
     b'{"version":1,"workers":1,"block":4096,"inputs":{"x0":{"dims":[2]}},"expr":"x0"}'
     """
     found = text_of(expr)
-    named = sorted(found.names.values(), key=itemgetter(0))
+    named = list(found.names.values())
+    if len(named) > 10:
+        # Behind "x1" stands "x10".
+        named.sort(key=itemgetter(0))
     held = [it.held for _, it in named]
     size = sum(map(len, held))
     if size > MAX_VALUES:
         raise TooLong("it was not sent")
-    inputs = [f'{name}:{{"dims":[{commas(it.dims or ())}]}}' for name, it in named]
-    header = whole_text(found, settings, inputs).encode()
-    return Framed(header, size, list(map(bytes_of, held)))
+    inputs = [f"{name[1:]}:{{{dims_text(it.dims or ())}}}" for name, it in named]
+    return Framed(whole_text(found, settings, inputs).encode(), size, parts_of(held, size))
 
 
 def fault_of(line: str, why: str = "") -> Optional[Fault]:
@@ -184,10 +228,19 @@ def answer(line: str, why: str = "") -> Tensor:
     return Tensor(found["data"], found["dims"])
 
 
-def header_answer(header: bytes, values: memoryview) -> Tensor:
+def header_answer(header: bytes, values: Held) -> Tensor:
     """The tensor of an answer's frame. Raises the fault of an error's."""
-    text = header.decode()
-    fault = fault_of(text)
+    fault = fault_of(header.decode()) if header.startswith(b"error ") else None
     if fault:
         raise fault
-    return Tensor(values, json.loads(text)["dims"])
+    return Tensor(values, dims_of(header))
+
+
+@lru_cache(maxsize=1000)
+def dims_of(header: bytes) -> Dims:
+    """The dims that the header of an answer's frame tells.
+
+    >>> dims_of(b'{"dims":[2,3]}')
+    (2, 3)
+    """
+    return tuple(json.loads(header)["dims"])

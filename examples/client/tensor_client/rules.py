@@ -32,7 +32,10 @@ def legal(dims: Sequence[int]) -> Dims:
     """Dims that a tensor may have: a 0 counts as 1 where the elements are counted."""
     if len(dims) > MOST_RANK:
         raise TooLarge(f"{len(dims)} axes, and there may be {MOST_RANK}")
-    if product([max(it, 1) for it in dims]) > MOST_ELEMENTS:
+    places = 1
+    for it in dims:
+        places *= it or 1
+    if places > MOST_ELEMENTS:
         raise TooLarge(f"dims {tuple(dims)} have more than {MOST_ELEMENTS:,} places")
     return tuple(dims)
 

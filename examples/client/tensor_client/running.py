@@ -6,13 +6,14 @@ from __future__ import annotations
 import threading
 from typing import Any, Optional
 
-from .expressions import Expr, Tensor, an_expr
+from .expressions import Expr
 from .explaining import explain
-from .faults import Fault
-from .finding import FRAMES, LINES, ONE, built, program_of
+from .faults import Fault, ProgramFailed
+from .finding import FRAMES, LINES, ONE, built, found, no_library, program_of
 from .library import Library, library_named, library_of
 from .processes import Deadline, Process, answered_once, frame_asked, line_asked
 from .requests import Settings, answer, framed, header_answer, request
+from .tensors import Tensor, an_expr
 
 WAYS, SESSIONS = ("library", "frames", "process"), ("frames", "lines")
 
@@ -34,7 +35,6 @@ def run(
     "frames" or, as "process", by a text. `program` is the path of what answers. Where no way is
     said it is the first that is found; the library is for one worker without a limit of time.
 
-    >>> from tensor_client import tensor
     >>> run(tensor([1, 2]) + 10).nested()
     [11, 12]
     """
@@ -48,9 +48,12 @@ def run(
             return library.run(asked, settings)
         if way == "frames" or (way is None and program is None and built(FRAMES)):
             with Session(program=program, timeout=timeout, way="frames") as session:
-                return session.answered(asked, settings, timeout)
+                return session._answered(asked, settings, timeout)
         if way not in (None, "process"):
             raise ValueError(f"a way is one of {WAYS}, and not {way!r}")
+        if way is None and program is None and found(ONE) is None:
+            tried = "; ".join((no_library(), FRAMES.tried(), ONE.tried()))
+            raise ProgramFailed(f"nothing is found that answers: {tried}")
         text = request(asked, *settings)
         return answer(answered_once(program_of(program, ONE), text, timeout))
     except Fault as fault:
@@ -73,7 +76,6 @@ class Session:
 
     One thread at a time asks a session; others wait. It ends with its `with`, or by close().
 
-    >>> from tensor_client import tensor
     >>> with Session(workers=4) as s:
     ...     s.run(tensor([1, 2]) + 10).nested()
     [11, 12]
@@ -103,7 +105,11 @@ class Session:
         self.close()
 
     def close(self) -> None:
-        """Ends the process. A session that is closed answers nothing more."""
+        """Ends the process. A session that is closed answers nothing more.
+
+        >>> s = Session()
+        >>> s.close()
+        """
         with self.turn:
             self.process.close()
 
@@ -115,7 +121,12 @@ class Session:
         version: Optional[int] = None,
         timeout: Optional[float] = None,
     ) -> Tensor:
-        """The tensor of an expression's values, as `run` gives it."""
+        """The tensor of an expression's values, as `run` gives it.
+
+        >>> with Session() as s:
+        ...     s.run(tensor([1, 2]).sum(), workers=2).item()
+        3
+        """
         asked = an_expr(expr)
         settings = Settings(
             self.workers if workers is None else workers,
@@ -123,17 +134,23 @@ class Session:
             version,
         )
         try:
-            return self.answered(asked, settings, self.timeout if timeout is None else timeout)
+            return self._answered(asked, settings, self.timeout if timeout is None else timeout)
         except Fault as fault:
             explain(fault, asked, settings)
             raise
 
     def keep(self, expr: Any) -> Tensor:
         """The tensor of an expression that others are made of more than once: a request can't
-        share its parts, so that each would have it worked out again."""
+        share its parts, so that each would have it worked out again.
+
+        >>> with Session() as s:
+        ...     part = s.keep(tensor([1, 2]) + 1)
+        ...     s.run(part * part).values
+        [4, 9]
+        """
         return self.run(expr)
 
-    def answered(self, expr: Expr, settings: Settings, seconds: Optional[float]) -> Tensor:
+    def _answered(self, expr: Expr, settings: Settings, seconds: Optional[float]) -> Tensor:
         """The tensor of an expression's values, or its fault. Where there is no answer the process
         is ended, since one that comes later would be taken for the next one's."""
         if self.way == "lines":

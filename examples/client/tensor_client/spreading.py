@@ -27,10 +27,8 @@ def spread(expr: Expr, dims: Dims) -> Expr:
 
 def alike(*exprs: Expr) -> List[Expr]:
     """Expressions, each repeated over the dims that numpy's rule gives for all."""
-    shapes = [it.dims for it in exprs if it.dims is not None]
-    if len(shapes) < len(exprs):
+    shapes = [it.dims for it in exprs]
+    if None in shapes or shapes.count(shapes[0]) == len(shapes):
         return list(exprs)
-    if shapes.count(shapes[0]) == len(shapes):
-        return list(exprs)
-    dims = rules.fitted(*shapes)
+    dims = rules.fitted(*[it for it in shapes if it is not None])
     return [spread(it, dims) for it in exprs]

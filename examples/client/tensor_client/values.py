@@ -3,6 +3,7 @@
 from __future__ import annotations
 
 import operator
+from array import array as packed
 from typing import Any, Callable, Iterable, List, Sequence, Tuple, TypeVar
 
 try:
@@ -11,7 +12,9 @@ except ImportError:
     numpy = None  # type: ignore[assignment]
 
 LEAST, GREATEST = -(2**63), 2**63 - 1
-LISTS = (list, tuple, range)
+LISTS = (list, tuple, range, packed)
+# What stands in lists as it is: values, and lists.
+PLAIN = {int, bool, list, tuple}
 
 Kind = TypeVar("Kind")
 
@@ -65,7 +68,9 @@ def listed(items: Sequence[Any], kind: Callable[[Any], Kind]) -> List[Kind]:
 def checked(values: Iterable[Any]) -> List[int]:
     """A list of values, each of the i64 range."""
     found = list(values)
-    if set(map(type, found)) <= {int} and all(LEAST <= it <= GREATEST for it in found):
+    if set(map(type, found)) <= {int} and (
+        not found or (LEAST <= min(found) and max(found) <= GREATEST)
+    ):
         return found
     return [value_of(it) for it in found]
 
@@ -77,24 +82,34 @@ def are_bools(values: Sequence[Any]) -> bool:
 def checked_array(array: Any) -> Any:
     """An array whose values are whole numbers of the i64 range, or truth values; others are
     refused, with what to do about them."""
+    kind = array.dtype.kind
+    if kind == "i" and type(array) is numpy.ndarray:
+        return array
     if isinstance(array, numpy.ma.MaskedArray):
         raise TypeError("a masked array has places without a value: fill them, with .filled(..)")
     if isinstance(array, numpy.matrix):
         raise TypeError("numpy.matrix means other products by * and **: pass numpy.asarray(it)")
-    if array.dtype.kind == "O":
+    if kind == "O":
         raise TypeError("an array of objects: pass a list of whole numbers, or .astype(int)")
-    if array.dtype.kind == "f":
+    if kind == "f":
         raise TypeError(f"an array of {array.dtype}: round it, and then .astype(numpy.int64)")
-    if array.dtype.kind not in "biu":
+    if kind not in "biu":
         raise TypeError(f"an array of {array.dtype} holds no whole numbers")
-    if array.dtype.kind == "u" and array.size:
+    if kind == "u" and array.size:
         whole(array.max())
     return array
 
 
+def opened(value: Any) -> Any:
+    """An array, a tensor or what else gives its values as lists, as these; others as they are."""
+    if numpy is not None and isinstance(value, (numpy.ndarray, numpy.generic)):
+        return checked_array(numpy.asanyarray(value)).tolist()
+    return value.tolist() if hasattr(value, "tolist") else value
+
+
 def unnested(values: Any) -> Tuple[List[int], List[Any]]:
-    """The dims and the values, column-major, of nested lists: each round goes one axis deeper,
-    the earlier axes faster.
+    """The dims and the values, column-major, of nested lists, in which arrays may stand: each round
+    goes one axis deeper, the earlier axes faster.
 
     >>> unnested([[1, 2, 3], [4, 5, 6]])
     ([2, 3], [1, 4, 2, 5, 3, 6])
@@ -107,6 +122,8 @@ def unnested(values: Any) -> Tuple[List[int], List[Any]]:
             raise ValueError(f"lists of different lengths at depth {len(dims)}")
         dims += lengths
         level = [it[index] for index in range(dims[-1]) for it in level]
+        if not set(map(type, level)) <= PLAIN:
+            level = [opened(it) for it in level]
     return dims, level
 
 

@@ -1,204 +1,78 @@
-"""numpy's ways with expressions, each made of operations of the request: operators, indexing,
-axes by name, and what numpy's arrays have beside."""
+"""numpy's ways with expressions, each made of operations of the request: shapes, indexing, axes by
+name, and what numpy's arrays have beside."""
 
 from __future__ import annotations
 
-from typing import TYPE_CHECKING, Any, Callable, List, NoReturn, Optional, Sequence, Union
+from typing import TYPE_CHECKING, Any, List, NoReturn, Sequence, Union
 
 from . import rules
 from .faults import ShapeMismatch
 from .indexing import Slice, parts_of, turned, whole_range
+from .operators import Operators
 from .rules import Dims
-from .values import is_bool, listed, whole
+from .values import listed, value_of, whole
 
 if TYPE_CHECKING:
     from .expressions import Expr
 
 Axis = Union[None, int, Sequence[int]]
+# Said where numpy asks for an array. It isn't run instead, since numpy asks unseen and at any time:
+# each call of its functions would be a request of its own, and have shared parts worked out again.
+NO_ARRAY = "an expression has no values yet: run(it) has; tensor_client has functions as numpy's"
 
 
-def none(name: str, instead: str = "") -> Callable[..., NoReturn]:
-    """An operator that the runtime has no operation for."""
-
-    def refuse(self: Any, other: Any = None) -> NoReturn:
-        raise TypeError(f"the runtime has no {name}" + (f": {instead}" if instead else ""))
-
-    return refuse
-
-
-class NumpyWays:
+class NumpyWays(Operators):
     """What an expression has as numpy's arrays have it. Expr has the request's own operations."""
 
     __slots__ = ()
-
-    if TYPE_CHECKING:
-        dims: Optional[Dims]
-        truth: bool
-        neg: Callable[[], Expr]
-        abs: Callable[[], Expr]
-        square: Callable[[], Expr]
-        not_: Callable[[], Expr]
-        add: Callable[[Any], Expr]
-        sub: Callable[[Any], Expr]
-        mul: Callable[[Any], Expr]
-        lt: Callable[[Any], Expr]
-        le: Callable[[Any], Expr]
-        eq: Callable[[Any], Expr]
-        ne: Callable[[Any], Expr]
-        gt: Callable[[Any], Expr]
-        ge: Callable[[Any], Expr]
-        and_: Callable[[Any], Expr]
-        or_: Callable[[Any], Expr]
-        cwise_max: Callable[[Any], Expr]
-        cwise_min: Callable[[Any], Expr]
-        slice: Callable[..., Expr]
-        stride: Callable[..., Expr]
-        shuffle: Callable[..., Expr]
-        reverse: Callable[..., Expr]
-        in_dims: Callable[[Sequence[int]], Expr]
-        chip: Callable[[int, int], Expr]
-        reduced: Callable[[str, Sequence[int]], Expr]
-        contract: Callable[[Any, Sequence[Any]], Expr]
-        zeros_around: Callable[[Sequence[Sequence[int]]], Expr]
-
-    # Operators.
-
-    def __neg__(self) -> Expr:
-        return self.neg()
-
-    def __pos__(self) -> NumpyWays:
-        return self
-
-    def __abs__(self) -> Expr:
-        return self.abs()
-
-    def __add__(self, other: Any) -> Expr:
-        return self.add(other)
-
-    def __sub__(self, other: Any) -> Expr:
-        return self.sub(other)
-
-    def __mul__(self, other: Any) -> Expr:
-        return self.mul(other)
-
-    def __radd__(self, other: Any) -> Expr:
-        return self._beside(other).add(self)
-
-    def __rsub__(self, other: Any) -> Expr:
-        return self._beside(other).sub(self)
-
-    def __rmul__(self, other: Any) -> Expr:
-        return self._beside(other).mul(self)
-
-    def __lt__(self, other: Any) -> Expr:
-        return self.lt(other)
-
-    def __le__(self, other: Any) -> Expr:
-        return self.le(other)
-
-    def __gt__(self, other: Any) -> Expr:
-        return self.gt(other)
-
-    def __ge__(self, other: Any) -> Expr:
-        return self.ge(other)
-
-    def __eq__(self, other: Any) -> Expr:  # type: ignore[override]
-        return self.eq(other)
-
-    def __ne__(self, other: Any) -> Expr:  # type: ignore[override]
-        return self.ne(other)
-
-    def __matmul__(self, other: Any) -> Expr:
-        from .functions import matmul
-
-        return matmul(self, other)
-
-    def __rmatmul__(self, other: Any) -> Expr:
-        from .functions import matmul
-
-        return matmul(other, self)
-
-    def __pow__(self, exponent: int) -> Expr:
-        """Powers by a whole number from 0 up, by squares."""
-        number = whole(exponent)
-        if number < 0:
-            raise ValueError("whole numbers have no negative powers")
-        if number == 0:
-            return self.mul(0).add(1)
-        found: Any = self
-        for bit in bin(number)[3:]:
-            found = found.square()
-            found = found.mul(self) if bit == "1" else found
-        power: Expr = found
-        return power
-
-    def __invert__(self) -> Expr:
-        if not self.truth:
-            raise TypeError("the runtime has no bitwise ~: x.not_() is 1 where x is 0")
-        return self.not_()
-
-    def __and__(self, other: Any) -> Expr:
-        self._are_truths("&", "and_", other)
-        return self.and_(other)
-
-    def __or__(self, other: Any) -> Expr:
-        self._are_truths("|", "or_", other)
-        return self.or_(other)
-
-    __rand__, __ror__ = __and__, __or__
-
-    def _are_truths(self, sign: str, method: str, other: Any) -> None:
-        """Refuses what is not known to be 0 and 1, where bit by bit and as a whole differ."""
-        from .expressions import an_expr
-
-        theirs = is_bool(other) or (not isinstance(other, int) and an_expr(other).truth)
-        if not (self.truth and theirs):
-            raise TypeError(
-                f"the runtime has no bitwise {sign}, which stands for comparisons alone: "
-                f"x.{method}(y) asks whether values are 0"
-            )
-
-    __xor__ = __rxor__ = none("bitwise ^", "of comparisons, x != y is the same")
-    __lshift__ = __rlshift__ = none("shifts", "x * 2**n is x << n")
-    __rshift__ = __rrshift__ = none("shifts")
-    __truediv__ = __rtruediv__ = none("division")
-    __floordiv__ = __rfloordiv__ = none("division")
-    __mod__ = __rmod__ = none("remainders")
-    __divmod__ = __rdivmod__ = none("division")
-    __rpow__ = none("powers by values")
-
-    def _beside(self, other: Any) -> Expr:
-        from .expressions import beside
-
-        return beside(other, self)  # type: ignore[arg-type]
 
     # Shape.
 
     @property
     def shape(self) -> Dims:
-        """The dims, by numpy's name."""
+        """The dims, by numpy's name.
+
+        >>> tensor([[1, 2, 3], [4, 5, 6]]).shape
+        (2, 3)
+        """
         if self.dims is None:
             raise ValueError(f"the dims of {self!r} aren't known here")
         return self.dims
 
     @property
     def ndim(self) -> int:
-        """How many axes there are."""
+        """How many axes there are.
+
+        >>> tensor([[1, 2, 3], [4, 5, 6]]).ndim
+        2
+        """
         return len(self.shape)
 
     @property
     def size(self) -> int:
-        """How many places there are."""
+        """How many places there are.
+
+        >>> tensor([[1, 2, 3], [4, 5, 6]]).size
+        6
+        """
         return rules.product(self.shape)
 
     @property
     def T(self) -> Any:
-        """The axes from the last to the first."""
+        """The axes from the last to the first.
+
+        >>> run(tensor([[1, 2, 3], [4, 5, 6]]).T).nested()
+        [[1, 4], [2, 5], [3, 6]]
+        """
         return self.shuffle(list(range(self.ndim))[::-1]) if self.ndim > 1 else self
 
-    def transpose(self, *order: Any) -> Any:
-        """The axes in this order, or from the last to the first."""
-        return self.shuffle(*order) if order else self.T
+    def transpose(self, *axes: Any) -> Any:
+        """The axes in this order, or from the last to the first.
+
+        >>> tensor([[[1, 2, 3]]]).transpose(2, 0, 1).shape
+        (3, 1, 1)
+        """
+        return self.T if axes in ((), (None,)) else self.shuffle(*axes)
 
     def __len__(self) -> int:
         if not self.shape:
@@ -208,23 +82,29 @@ class NumpyWays:
     def __iter__(self) -> NoReturn:
         raise TypeError("an expression has no values to go over: run(it).nested() is a list")
 
+    def __contains__(self, value: Any) -> NoReturn:
+        raise TypeError("an expression isn't searched: run((x == value).any())")
+
     def __array__(self, dtype: Any = None, copy: Any = None) -> Any:
-        raise TypeError("an expression has no values yet: run(it) gives an array's tensor")
+        raise TypeError(NO_ARRAY)
 
     def __int__(self) -> int:
         raise TypeError("an expression has no values yet: int(run(it))")
 
     def item(self) -> int:
-        """The value of a tensor that has one; an expression has none yet."""
+        """The value of a tensor that has one; an expression has none yet.
+
+        >>> run(tensor([1, 2]).sum()).item()
+        3
+        """
         raise TypeError("an expression has no values yet: run(it).item()")
 
     def reshape(self, *sizes: Any, order: str = "C") -> Expr:
         """The same values in other dims, one of which may be -1, what is left: by numpy's order,
         the last axis fastest, or by order="F", the request's own, the first axis fastest.
 
-        >>> from tensor_client import tensor
-        >>> tensor([[1, 2], [3, 4], [5, 6]]).reshape(2, 3).dims
-        (2, 3)
+        >>> run(tensor([[1, 2], [3, 4], [5, 6]]).reshape(2, -1)).nested()
+        [[1, 2, 3], [4, 5, 6]]
         """
         to = self._sizes(listed(sizes, whole))
         if order == "F":
@@ -239,27 +119,33 @@ class NumpyWays:
         return found
 
     def ravel(self, order: str = "C") -> Expr:
-        """The values along one axis."""
+        """The values along one axis.
+
+        >>> x = tensor([[1, 2], [3, 4]])
+        >>> run(x.ravel()).values, run(x.ravel(order="F")).values
+        ([1, 2, 3, 4], [1, 3, 2, 4])
+        """
         return self.reshape(-1, order=order)
 
     flatten = ravel
 
     def _sizes(self, sizes: List[int]) -> List[int]:
-        """Sizes in which one -1 is what is left of the places."""
-        if sizes.count(-1) != 1:
+        """Sizes that have the places there are, in which one -1 is what is left of them."""
+        if self.dims is None:
             return rules.sizes(sizes)
-        others = rules.product([it for it in sizes if it != -1])
-        if others == 0 or self.size % others:
-            raise ShapeMismatch(f"{self.size} places in dims {tuple(sizes)}")
-        return [self.size // others if it == -1 else it for it in sizes]
+        found, others = sizes, rules.product([it for it in sizes if it != -1])
+        if sizes.count(-1) == 1 and others > 0:
+            found = [self.size // others if it == -1 else it for it in sizes]
+        if rules.product(rules.legal(rules.sizes(found))) != self.size:
+            raise ShapeMismatch(f"{self.size} places of dims {self.dims} in dims {tuple(sizes)}")
+        return found
 
     def __getitem__(self, index: Any) -> Any:
         """The part that numpy's x[..] is: whole numbers, slices with steps of either sign, None
         and `..`. Lists of numbers or of truth values are refused.
 
-        >>> from tensor_client import tensor
-        >>> tensor([[1, 2, 3], [4, 5, 6]])[::-1, 1:].dims
-        (2, 2)
+        >>> run(tensor([[1, 2, 3], [4, 5, 6]])[::-1, 1:]).nested()
+        [[5, 6], [2, 3]]
         """
         parts = parts_of(index if isinstance(index, tuple) else (index,), self.ndim)
         slices = [it for it in parts if it is not None]
@@ -282,35 +168,68 @@ class NumpyWays:
             found = found.in_dims([1 if it is None else next(left) for it in kept])
         return found
 
-    # Reductions, over all axes where none are named.
+    # Reductions, over all axes where none are named. `out` is what numpy's functions hand over.
 
-    def sum(self, *axes: Any, axis: Axis = None, keepdims: bool = False) -> Expr:
-        """The sums over these axes, or over all: x.sum(0), x.sum(0, 1), x.sum(axis=(0, 1))."""
-        return self._combined("sum", axes, axis, keepdims)
+    def sum(self, *axes: Any, axis: Axis = None, keepdims: bool = False, out: None = None) -> Expr:
+        """The sums over these axes, or over all: x.sum(0), x.sum(0, 1), x.sum(axis=(0, 1)).
 
-    def prod(self, *axes: Any, axis: Axis = None, keepdims: bool = False) -> Expr:
-        """The products over these axes, or over all."""
-        return self._combined("prod", axes, axis, keepdims)
+        >>> x = tensor([[1, 2, 3], [4, 5, 6]])
+        >>> run(x.sum()).item(), run(x.sum(axis=-1, keepdims=True)).nested()
+        (21, [[6], [15]])
+        """
+        return self._combined("sum", axes, axis, keepdims, out)
 
-    def maximum(self, *axes: Any, axis: Axis = None, keepdims: bool = False) -> Expr:
-        """The greatest values over these axes, or over all; of nothing, the least number."""
-        return self._combined("maximum", axes, axis, keepdims)
+    def prod(self, *axes: Any, axis: Axis = None, keepdims: bool = False, out: None = None) -> Expr:
+        """The products over these axes, or over all.
 
-    def minimum(self, *axes: Any, axis: Axis = None, keepdims: bool = False) -> Expr:
-        """The least values over these axes, or over all; of nothing, the greatest number."""
-        return self._combined("minimum", axes, axis, keepdims)
+        >>> run(tensor([[1, 2, 3], [4, 5, 6]]).prod(axis=0)).values
+        [4, 10, 18]
+        """
+        return self._combined("prod", axes, axis, keepdims, out)
 
-    def all(self, *axes: Any, axis: Axis = None, keepdims: bool = False) -> Expr:
-        """1 where no value over these axes is 0, else 0."""
-        return self._combined("all", axes, axis, keepdims)
+    def maximum(
+        self, *axes: Any, axis: Axis = None, keepdims: bool = False, out: None = None
+    ) -> Expr:
+        """The greatest values over these axes, or over all; of nothing, the least number.
 
-    def any(self, *axes: Any, axis: Axis = None, keepdims: bool = False) -> Expr:
-        """1 where a value over these axes isn't 0, else 0."""
-        return self._combined("any", axes, axis, keepdims)
+        >>> run(tensor([[1, 5], [7, 3]]).max(axis=1)).values
+        [5, 7]
+        """
+        return self._combined("maximum", axes, axis, keepdims, out)
+
+    def minimum(
+        self, *axes: Any, axis: Axis = None, keepdims: bool = False, out: None = None
+    ) -> Expr:
+        """The least values over these axes, or over all; of nothing, the greatest number.
+
+        >>> run(tensor([[1, 5], [7, 3]]).min(axis=1)).values
+        [1, 3]
+        """
+        return self._combined("minimum", axes, axis, keepdims, out)
+
+    def all(self, *axes: Any, axis: Axis = None, keepdims: bool = False, out: None = None) -> Expr:
+        """1 where no value over these axes is 0, else 0.
+
+        >>> run(tensor([[1, 0], [7, 3]]).all(axis=1)).values
+        [0, 1]
+        """
+        return self._combined("all", axes, axis, keepdims, out)
+
+    def any(self, *axes: Any, axis: Axis = None, keepdims: bool = False, out: None = None) -> Expr:
+        """1 where a value over these axes isn't 0, else 0.
+
+        >>> run(tensor([[1, 0], [0, 0]]).any(axis=1)).values
+        [1, 0]
+        """
+        return self._combined("any", axes, axis, keepdims, out)
 
     max, min = maximum, minimum
 
-    def _combined(self, operation: str, axes: Sequence[Any], axis: Axis, keepdims: bool) -> Expr:
+    def _combined(
+        self, operation: str, axes: Sequence[Any], axis: Axis, keepdims: bool, out: None
+    ) -> Expr:
+        if out is not None:
+            raise TypeError("an expression is written nowhere: run(it).array()")
         if axes and axis is not None:
             raise TypeError(f"the axes of {operation} are named twice")
         if axis is not None:
@@ -328,30 +247,39 @@ class NumpyWays:
 
     # What numpy's arrays have beside.
 
-    def clip(self, least: Any = None, greatest: Any = None) -> Any:
+    def clip(self, min: Any = None, max: Any = None, out: None = None) -> Any:
         """The values, none of them below the one and above the other.
 
-        >>> from tensor_client import tensor
-        >>> tensor([1, 5, 9]).clip(2, 8)
-        <cwise_min, dims (3,), 7 nodes>
+        >>> run(tensor([1, 5, 9]).clip(2, 8)).values, run(tensor([1, 5, 9]).clip(max=6)).values
+        ([2, 5, 8], [1, 5, 6])
         """
-        found = self if least is None else self.cwise_max(least)
-        return found if greatest is None else found.cwise_min(greatest)
+        if out is not None:
+            raise TypeError("an expression is written nowhere: run(it).array()")
+        found = self if min is None else self.cwise_max(min)
+        return found if max is None else found.cwise_min(max)
 
     def dot(self, other: Any) -> Expr:
-        """numpy's dot: the sums of products over the last axis and the other's last but one."""
+        """numpy's dot: the sums of products over the last axis and the other's last but one.
+
+        >>> run(tensor([1, 2]).dot([3, 4])).item()
+        11
+        """
         from .functions import dot
 
         return dot(self, other)
 
-    def pad(self, widths: Any) -> Expr:
-        """Zeros around, by numpy's widths: one number, (before, behind) for all axes, or a pair
+    def pad(self, widths: Any, mode: str = "constant", constant_values: int = 0) -> Expr:
+        """A value around, by numpy's widths: one number, (before, behind) for all axes, or a pair
         for each.
 
-        >>> from tensor_client import tensor
-        >>> tensor([[1, 2], [3, 4]]).pad(1).dims, tensor([7]).pad([(1, 2)]).dims
-        ((4, 4), (4,))
+        >>> run(tensor([[1, 2], [3, 4]]).pad(1)).nested()
+        [[0, 0, 0, 0], [0, 1, 2, 0], [0, 3, 4, 0], [0, 0, 0, 0]]
+        >>> run(tensor([7]).pad([(1, 2)], constant_values=9)).values
+        [9, 7, 9, 9]
         """
+        if mode != "constant":
+            raise ValueError(f'the mode of a pad is "constant" and not {mode!r}')
+        value = value_of(constant_values)
         if not hasattr(widths, "__len__"):
             widths = (widths, widths)
         widths = list(widths)
@@ -363,4 +291,7 @@ class NumpyWays:
             raise ValueError(f"a width is a number before and one behind: {widths!r:.60}")
         if len(pairs) == 1:
             pairs = pairs * self.ndim
-        return self.zeros_around(pairs)
+        if not value:
+            return self.zeros_around(pairs)
+        # Zeros stand for the value where it is taken away before and added behind.
+        return self.sub(value).zeros_around(pairs).add(value)

@@ -1,0 +1,200 @@
+"""Tensors: the inputs of expressions, and what these are answered with; and how an array, a list or
+a number becomes one."""
+
+from __future__ import annotations
+
+from typing import Any, List, NoReturn, Optional, Sequence, Union
+
+from . import rules
+from .expressions import Expr
+from .faults import BadTensor
+from .memory import Held, bytes_of, memory_of, memory_of_array, memory_of_range
+from .values import (
+    LISTS,
+    are_bools,
+    checked,
+    checked_array,
+    listed,
+    nested,
+    numpy,
+    unnested,
+    value_of,
+    whole,
+)
+
+SHOWN = 8
+
+
+class Tensor(Expr):
+    """Dims and values, column-major: an input of an expression, or what one was answered with.
+
+    The values are `held` as a list or in memory, which is `shared` where others may write into it.
+
+    >>> tensor([[1, 2], [3, 4]]).values
+    [1, 3, 2, 4]
+    """
+
+    __slots__ = ("held", "shared", "listed")
+
+    def __init__(
+        self, values: Held, dims: Sequence[int], truth: bool = False, shared: bool = False
+    ) -> None:
+        # What Expr's own would do, in less time: an answer is made at each call.
+        self.operation, self.operands, self.arguments = "tensor", (), ()
+        self.dims, self.truth, self.depth, self.nodes = tuple(dims), truth, 1, 1
+        self.held, self.shared = values, shared
+        self.listed: Optional[List[int]] = None
+
+    def __repr__(self) -> str:
+        more = f" ({len(self.held):,})" if len(self.held) > SHOWN else ""
+        shown = " ".join(map(str, self.held[:SHOWN])) + (more and " ..")
+        return f"<tensor, dims {self.dims}, values {shown}{more}>"
+
+    def __reduce__(self) -> Any:
+        # A view of memory can't be pickled, and its bytes can.
+        return tensor_held, (bytes_of(self.held), self.dims, self.truth)
+
+    @property
+    def values(self) -> List[int]:
+        """The values as a list, column-major.
+
+        >>> tensor([[1, 2], [3, 4]]).values
+        [1, 3, 2, 4]
+        """
+        if isinstance(self.held, list):
+            return self.held
+        found = self.listed or self.held.tolist()
+        self.listed = None if self.shared else found
+        return found
+
+    def nested(self) -> Any:
+        """The values as nested lists, x[i][j] at the index list (i, j); of no dims, the number.
+
+        >>> run(tensor([[1, 2], [3, 4]]) + 1).nested()
+        [[2, 3], [4, 5]]
+        """
+        return nested(self.values, self.dims or ())
+
+    tolist = nested
+
+    def __iter__(self) -> NoReturn:
+        raise TypeError("a tensor isn't gone over: x.nested() is a list, x.array() an array")
+
+    def item(self) -> int:
+        """The value of a tensor that has one, as int(x) is.
+
+        >>> run(tensor([1, 2]).sum()).item()
+        3
+        """
+        if len(self.held) != 1:
+            raise ValueError(f"{len(self.held)} values and not one")
+        return self.held[0]
+
+    __int__ = __index__ = item
+
+    def __bool__(self) -> bool:
+        if len(self.held) != 1:
+            raise TypeError("a tensor of other than one value is neither true nor false: all, any")
+        return self.held[0] != 0
+
+    def array(self) -> Any:
+        """The values as an array of numpy, x[i, j] at the index list (i, j): the tensor's own
+        memory, so that what is written into the array is written into the tensor. Of truth values
+        it is a copy.
+
+        >>> run(tensor([[1, 2], [3, 4]]) + 1).array()
+        array([[2, 3],
+               [4, 5]])
+        """
+        if numpy is None:
+            raise ImportError("numpy isn't installed: Tensor.nested() gives lists")
+        if self.truth:
+            flat = numpy.array(self.held, dtype=numpy.int64)
+        elif isinstance(self.held, list):
+            # From here on the values stand in the array's memory.
+            flat = numpy.array(self.held, dtype=numpy.int64)
+            self.held, self.shared = flat.data, True
+        else:
+            flat = numpy.asarray(self.held).view(numpy.int64)
+            self.shared, self.listed = True, None
+        return flat if flat.shape == self.dims else flat.reshape(self.dims or (), order="F")
+
+    def __array__(self, dtype: Any = None, copy: Any = None) -> Any:
+        return self.array().astype(dtype or numpy.int64, copy=bool(copy))
+
+
+def tensor_held(values: bytes, dims: Sequence[int], truth: bool) -> Tensor:
+    """The tensor of these bytes of values: what is unpickled."""
+    return Tensor(memory_of(values), dims, truth)
+
+
+def tensor(values: Any, dims: Optional[Sequence[int]] = None) -> Tensor:
+    """A tensor of an array, of nested lists, or of a number; or, where dims are given, of a list
+    of values that stands column-major.
+
+    An array of int64 that is column-major (order="F", or of one axis) isn't copied: the tensor, and
+    each expression with it, has the values that stand in the array when it is run.
+
+    >>> tensor([1, 4, 2, 5, 3, 6], dims=(2, 3)).nested()
+    [[1, 2, 3], [4, 5, 6]]
+    """
+    if dims is not None:
+        found, sizes = checked(values), rules.legal(rules.sizes(listed([dims], whole)))
+        if rules.product(sizes) != len(found):
+            raise BadTensor(f"{len(found)} values for dims {sizes}")
+        return Tensor(found, sizes)
+    if isinstance(values, Tensor):
+        return values
+    if isinstance(values, Expr):
+        raise TypeError("an expression has no values yet: run(it) gives its tensor")
+    if numpy is not None and isinstance(values, (numpy.ndarray, numpy.generic)):
+        array = checked_array(numpy.asanyarray(values))
+        dims, is_truth = rules.legal(array.shape), array.dtype.kind == "b"
+        return Tensor(memory_of_array(array), dims, is_truth, shared=True)
+    if isinstance(values, range):
+        return Tensor(memory_of_range(values), rules.legal([len(values)]))
+    lengths, level = unnested(values)
+    return Tensor(checked(level), rules.legal(lengths), are_bools(level))
+
+
+def an_expr(value: Any) -> Expr:
+    return value if isinstance(value, Expr) else tensor(value)
+
+
+def full(dims: Union[int, Sequence[int]], value: int) -> Expr:
+    """A tensor of these dims with this value at every place; the request has it once.
+
+    >>> full((2, 3), 7)
+    <broadcast, dims (2, 3), 2 nodes>
+    """
+    numbers = listed([dims] if hasattr(dims, "__len__") else [[dims]], whole)
+    sizes = rules.legal(rules.sizes(numbers))
+    if 0 in sizes:
+        return Tensor([], sizes)
+    one = Tensor([value_of(value)], [1] * len(sizes), value in (0, 1))
+    return one.broadcast(list(sizes)) if sizes else one
+
+
+def beside(value: Any, expr: Expr) -> Expr:
+    """What stands beside an expression as an expression: a number has its dims at every place."""
+    if isinstance(value, Expr):
+        return value
+    if isinstance(value, LISTS) or getattr(value, "shape", None):
+        return tensor(value)
+    while expr.operands and expr.dims is not None and expr.operands[0].dims == expr.dims:
+        expr = expr.operands[0]
+    if expr.operands and expr.dims is not None:
+        return full(expr.dims, value_of(value))
+    return expr.constant(value)
+
+
+def where(condition: Any, x: Any, y: Any) -> Expr:
+    """x where the condition isn't 0, else y.
+
+    >>> run(where(tensor([1, 5]) < 4, 10, -1)).values
+    [10, -1]
+    """
+    some = next((it for it in (condition, x, y) if isinstance(it, Expr)), None)
+    if some is None:
+        some = condition = tensor(condition)
+    return beside(condition, some).select(*(beside(it, some) for it in (x, y)))
