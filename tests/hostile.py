@@ -44,7 +44,8 @@ def need_program(program=PROGRAM):
     """Sees that a program is built, and that this script ends."""
     signal.alarm(MOST_SECONDS)
     if not os.access(program, os.X_OK):
-        fail(f"{sys.argv[0]}: the program isn't built: ./run < examples/add.json builds it")
+        name = os.path.basename(program)
+        fail(f"{sys.argv[0]}: {name} isn't built: ./run --check-all builds all programs")
 
 
 def status_of(line):

@@ -1,0 +1,132 @@
+"""What tests/commands works on: copies of the repository in a temporary folder, where a small script
+stands for each program, and for the kit, which proves nothing."""
+
+import os
+import shutil
+import subprocess
+
+from hostile import TOP
+
+SECONDS = 60
+ANSWERED, REFUSED = 0, 2
+CPU = "x86-64-v2"
+LEFT_OUT = ("out", "edits", "must-fail", ".git", "bench", "tests", "pictures", "__pycache__")
+IGNORED = shutil.ignore_patterns(*LEFT_OUT)
+PROGRAM = """#!/bin/sh
+echo "NAME $GLIBC_TUNABLES"
+exec CAT
+"""
+# The prover and the linker of the kit: they write what they are asked for.
+PROVER = """#!/bin/sh
+echo "$*" >>"$ASKED"
+[ "$PROVER_FAILS" != "$3" ] || { echo "it is not proved"; exit 1; }
+name=$3
+while [ "$1" != -o ]; do shift; done
+case $2 in
+    *.rlib) mkdir "$2" && echo "$name" >"$2/made" ;;
+    *) echo "$name" >"$2" ;;
+esac
+"""
+LINKER = """#!/bin/sh
+while [ "$1" != -o ]; do shift; done
+cp "$STAND_IN" "$2"
+chmod +x "$2"
+"""
+
+
+def written(path, text):
+    os.makedirs(os.path.dirname(path), exist_ok=True)
+    with open(path, "w", encoding="utf-8") as file:
+        file.write(text)
+    return path
+
+
+def text_of(path, encoding="utf-8"):
+    with open(path, encoding=encoding) as file:
+        return file.read()
+
+
+def script(path, text):
+    os.chmod(written(path, text), 0o755)
+    return path
+
+
+class Copy:
+    """A copy of the repository, the environment of its commands, and a kit that stands on PATH."""
+
+    def __init__(self, room, name):
+        self.top, self.room, self.notes = os.path.join(room, name), room, {}
+        shutil.copytree(TOP, self.top, symlinks=True, ignore=IGNORED)
+        self.programs = dict(
+            it.split() for it in text_of(self.at("build/programs")).splitlines() if it[:1] != "#"
+        )
+        self.env = {
+            "PATH": f"{os.path.join(room, 'kit', 'bin')}:{os.environ['PATH']}",
+            "HOME": room,
+            "XDG_CACHE_HOME": os.path.join(room, "cache"),
+            "ASKED": os.path.join(room, "asked"),
+            "STAND_IN": os.path.join(room, "stand_in"),
+        }
+
+    def at(self, path):
+        return os.path.join(self.top, path)
+
+    def mend(self):
+        """Undoes what a change of NOTICED or TAKEN did."""
+        for path in "crates/tensor_shape", "crates/uses/src", "crates/fault_reasons/src", "build":
+            shutil.rmtree(self.at(path))
+            shutil.copytree(os.path.join(TOP, path), self.at(path), ignore=IGNORED)
+        shutil.copy(os.path.join(TOP, "crates.txt"), self.top)
+
+    def run(self, *words, text="", cwd=None, **env):
+        """Standard output, standard error and the status of a command."""
+        ran = subprocess.run(
+            words,
+            input=text,
+            env={**self.env, **env},
+            cwd=cwd or self.top,
+            capture_output=True,
+            text=True,
+            timeout=SECONDS,
+            check=False,
+        )
+        return ran.stdout, ran.stderr, ran.returncode
+
+    def ask(self, command="./run", **env):
+        """The same of a command that answers, and builds nothing."""
+        return self.run(command, text="asked\n", **{"TENSOR_RUN_BUILD": "no", **env})
+
+    def build(self, *words, **env):
+        """The same of a command that may build, and what the prover was asked for, a line a crate."""
+        written(self.env["ASKED"], "")
+        ran = self.run(*words, text="asked\n", **{"TENSOR_RUN_CPU": CPU, **env})
+        return ran, text_of(self.env["ASKED"]).splitlines()
+
+    def answer(self, command="run"):
+        """What the stand-in of a command answers."""
+        name, settings = self.programs[command], text_of(self.at("build/tunables")).strip()
+        return f"{name} {settings}\nasked\n", "", ANSWERED
+
+    def put_programs(self):
+        """Stand-ins for the programs, noted as built from what is here, which is always the same."""
+        for name in self.programs.values():
+            text = PROGRAM.replace("NAME", name).replace("CAT", shutil.which("cat"))
+            script(self.at(f"crates/{name}/out/{name}"), text)
+        if not self.notes:
+            os.makedirs(self.at("out"), exist_ok=True)
+            self.run("build/note", "--begin")
+            self.run("build/note", "--end", CPU)
+            paths = [self.at(f"out/{it}.built") for it in self.programs.values()]
+            self.notes = {it: text_of(it) for it in paths}
+        for path, text in self.notes.items():
+            written(path, text)
+
+
+def kit_in(room):
+    """A kit that proves nothing."""
+    folder = os.path.join(room, "kit")
+    script(os.path.join(folder, "bin", "rt"), f"#!/bin/sh\necho {folder}/START-HERE.md\n")
+    script(os.path.join(folder, "bin", "rattle"), PROVER)
+    script(os.path.join(folder, "bin", "rattle-link"), LINKER)
+    written(os.path.join(folder, "KIT-ID"), "a kit that stands in\n")
+    script(os.path.join(room, "stand_in"), f"#!/bin/sh\necho built\nexec {shutil.which('cat')}\n")
