@@ -56,14 +56,19 @@ impl Schedule {
     ghost use Rattle.tensor_reduce.specs.Schedules.{IsScheduleFor, IsFusingFor};
 
     /// A step by itself, which combines values of so many places: in shards of a block where it has
-    /// few values and the parts of each lie side by side.
-    pub(crate) fn of_step(step: &Step, places: u64, grain: Grain) -> Schedule
+    /// few values and the parts of each lie side by side, and else by whole columns of so many rows
+    /// where it is a contraction.
+    pub(crate) fn of_step(step: &Step, places: u64, rows: Option<u64>, grain: Grain) -> Schedule
         ensures { IsScheduleFor result (term_of_step step.now) }
     {
-        if step.dims().size() <= FEW_VALUES && has_contiguous_parts(step.expr()) {
+        let values = step.dims().size();
+        if values <= FEW_VALUES && has_contiguous_parts(step.expr()) {
             return Schedule::Sharded(Sharding::by_blocks(grain));
         }
-        Schedule::Ranged(grain.leaf_size(step.dims().size(), places))
+        match rows {
+            Some(rows) => Schedule::Ranged(grain.leaf_of_columns(values, places, rows)),
+            None => Schedule::Ranged(grain.leaf_size(values, places)),
+        }
     }
 
     /// A step with one operand fused into it, whose values may be worked out as fast in any order,
@@ -147,6 +152,7 @@ impl Schedule {
             return None;
         }
         let places = rows.max(others).saturating_mul(width);
-        Some(Schedule::Ranged(grain.leaf_size(values, places)))
+        let column = if is_first { rows } else { others };
+        Some(Schedule::Ranged(grain.leaf_of_columns(values, places, column)))
     }
 }

@@ -6,6 +6,12 @@ ghost use Rattle.std.specs.Prelude.{◌<◌};
 /// long for the last.
 const SHARES: u64 = 4;
 
+/// How many columns of a contraction a panel of its first operand is read for at once.
+const BAND: u64 = 16;
+
+/// And how many of them a tile has.
+const TILE: u64 = 4;
+
 /// What leaves are sized for: so many workers, which take at most a block of places at a time.
 #[derive(Clone, Copy, Drop)]
 pub(crate) struct Grain {
@@ -21,7 +27,37 @@ impl Grain {
     pub(crate) fn leaf_size(self, values: u64, places: u64) -> u64
         ensures { 0 < result }
     {
-        let shares = self.workers.saturating_mul(SHARES).min(places / self.block);
-        values.div_ceil(shares.max(1)).min(self.block).max(1)
+        values.div_ceil(self.shares(places)).min(self.block).max(1)
+    }
+
+    /// How many values a leaf has of a contraction over operands of so many places at most, where a
+    /// column of the result has so many rows: whole columns, of about a block, but a band at least
+    /// where there are as many for each share. On one worker it is one leaf, so that no piece is
+    /// copied.
+    pub(crate) fn leaf_of_columns(self, values: u64, places: u64, rows: u64) -> u64
+        ensures { 0 < result }
+    {
+        let rows = rows.max(1);
+        let all = values.div_ceil(rows);
+        let share = all.div_ceil(self.shares(values.max(places)));
+        let columns = share.min((self.block / rows).max(BAND));
+        if self.workers <= 1 || columns == all {
+            return values.max(1);
+        }
+        let whole = if columns < BAND {
+            columns.div_ceil(TILE) * TILE
+        } else {
+            columns / BAND * BAND
+        };
+        whole.saturating_mul(rows).max(1)
+    }
+
+    /// Among how many leaves the work over so many places is shared: one for each block of them, up
+    /// to some for each worker.
+    fn shares(self, places: u64) -> u64
+        ensures { 0 < result }
+    {
+        let most = self.workers.saturating_mul(SHARES);
+        most.min(places / self.block).max(1)
     }
 }

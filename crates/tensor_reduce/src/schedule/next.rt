@@ -5,7 +5,7 @@ ghost use Rattle.std.specs.Prelude.{◌≡◌, ◌<◌, ◌++◌, length, IfSome
 
 use crate::cutting::NUMBERS;
 use crate::schedule::grain::Grain;
-use crate::schedule::places_read::{is_read_in_any_order, places_combined};
+use crate::schedule::places_read::{is_read_in_any_order, places_combined, rows_of_column};
 use crate::schedule::readers::{are_read_elsewhere, are_reading};
 use crate::schedule::{Operand, Schedule};
 use crate::step::Step;
@@ -46,7 +46,8 @@ impl<'a> Next<'a> {
         }
         let step = &left[0];
         let places = places_combined(step.expr(), inputs, earlier);
-        Next::Alone(step, Schedule::of_step(step, places, grain))
+        let rows = rows_of_column(step.expr(), inputs, earlier);
+        Next::Alone(step, Schedule::of_step(step, places, rows, grain))
     }
 
     /// The second of these steps, with the first fused into it.

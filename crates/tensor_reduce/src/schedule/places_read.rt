@@ -1,6 +1,7 @@
 //! How many places the tensors have that expressions read.
 
-use tensor_ops::{Binary, Expr, Inputs, Movement, Node, Tensor, Unary};
+use crate::schedule::rows::row_width;
+use tensor_ops::{Binary, Dims, Expr, Inputs, Movement, Node, Tensor, Unary};
 
 /// How many values a tensor has at most that is read as fast in any order as in its own: 256 KiB.
 const NEAR: u64 = 32_768;
@@ -19,16 +20,32 @@ pub(crate) fn places_combined(expr: &Expr, inputs: &Inputs, earlier: &[Tensor]) 
 
 /// How many places the tensor has that an operand is, among the inputs and those of earlier steps.
 fn places_of(operand: &Expr, inputs: &Inputs, earlier: &[Tensor]) -> u64 {
-    let Node::Input(number) = operand.node() else {
-        return 0;
-    };
-    if number < inputs.len() {
-        return inputs.get(number).dims().size();
-    }
-    match earlier.get((number - inputs.len()) as usize) {
-        Some(tensor) => tensor.dims().size(),
+    match dims_of(operand, inputs, earlier) {
+        Some(dims) => dims.size(),
         None => 0,
     }
+}
+
+/// The dims of the tensor that an operand is, among the inputs and those of earlier steps.
+fn dims_of<'a>(operand: &Expr, inputs: &'a Inputs, earlier: &'a [Tensor]) -> Option<&'a Dims> {
+    let Node::Input(number) = operand.node() else {
+        return None;
+    };
+    if number < inputs.len() {
+        return Some(inputs.get(number).dims());
+    }
+    let tensor = earlier.get((number - inputs.len()) as usize)?;
+    Some(tensor.dims())
+}
+
+/// How many rows a column of a contraction's result has, where its first operand is a tensor: a row
+/// for each index list of that operand's axes that aren't paired.
+pub(crate) fn rows_of_column(expr: &Expr, inputs: &Inputs, earlier: &[Tensor]) -> Option<u64> {
+    let Node::Binary(Binary::Contract(pairs), first, _) = expr.node() else {
+        return None;
+    };
+    let dims = dims_of(first, inputs, earlier)?;
+    Some(dims.size() / row_width(dims, pairs, true).max(1))
 }
 
 /// Whether the values of an expression are worked out as fast in any order as in that of their
