@@ -7,7 +7,7 @@ ghost use Rattle.std.specs.Prelude.{◌<◌};
 const SHARES: u64 = 4;
 
 /// How many columns of a contraction a panel of its first operand is read for at once.
-const BAND: u64 = 16;
+const BAND: u64 = 32;
 
 /// And how many of them a tile has.
 const TILE: u64 = 4;
