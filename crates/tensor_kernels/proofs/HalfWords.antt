@@ -14,7 +14,7 @@ use Rattle.tensor_kernels.proofs.HalfProducts.{bits_below}
 use Rattle.tensor_kernels.proofs.HalfLanes.{length-bits, at-bits, length-both, at-both}
 
 -- numbers that are below a bound at each place
-each-below : (p : ℕ) (xs : List ℕ) → ((k : ℕ) → k < length xs → get_or xs k 0 < p) → Each1 (λ x. x < p) xs
+pub each-below : (p : ℕ) (xs : List ℕ) → ((k : ℕ) → k < length xs → get_or xs k 0 < p) → Each1 (λ x. x < p) xs
 each-below p [] h = tt
 each-below p (x ∷ xs) h = (h 0 (omega arith), each-below p xs (λ k lt. h (suc k) (omega arith)))
 
@@ -26,7 +26,7 @@ bits-below xs lanes =
     subst (λ n. n < 2 ^ 64) (sym (at-bits xs k lanes few)) (bits_below (value_in xs k) (lanes.1 k few)))
 
 -- a number of so many digits
-number-below : (p : ℕ) (xs : List ℕ) → Each1 (λ x. x < p) xs → number_l p xs < p ^ length xs
+pub number-below : (p : ℕ) (xs : List ℕ) → Each1 (λ x. x < p) xs → number_l p xs < p ^ length xs
 number-below p [] h = rw (pow-zero p) (omega arith)
 number-below p (x ∷ xs) h =
     let r = number_l p xs in
@@ -35,7 +35,7 @@ number-below p (x ∷ xs) h =
     rw (pow-suc p (length xs)) (subst (λ n. n < p ^ length xs * p) swapped less)
 
 -- the digits of a number that has no more make it again
-number-digits : (q n x : ℕ) → 0 < q → x < q ^ n → number_l q (digits_l q n x) ≡ x
+pub number-digits : (q n x : ℕ) → 0 < q → x < q ^ n → number_l q (digits_l q n x) ≡ x
 number-digits q zero x some h = let below : x < 1 = rw (pow-zero q) at h in omega arith
 number-digits q (suc n) x some h =
     let below : x < q ^ n * q = rw (pow-suc q n) at h in

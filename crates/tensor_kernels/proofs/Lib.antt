@@ -13,3 +13,4 @@ pub mod ProductSums
 pub mod SimdLanes
 pub mod TilePlaces
 pub mod TurnedRows
+pub mod WordPairs

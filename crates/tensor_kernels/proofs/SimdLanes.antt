@@ -87,30 +87,25 @@ pub widened : (z : ℤ) → FitsSigned w32 z → to_z w64 (of_z w64 (to_z w32 (o
 widened z fits = ap (λ v. to_z w64 (of_z w64 v)) (to_z-of_z w32 z fits)
     ∙ to_z-of_z w64 z (wide z fits)
 
--- lane j of a vector that is a swizzle of four values from a place on
-pub spread-picked : (b : List ℤ) (i j : ℕ) → AreSmall b → i + 4 ≤ length b → j < 4
-    → to_z w64 (of_z w64 (to_z w32 (get_or (map (of_z w32) (chunk i 4 b) ++ map (of_z w32)
-    (chunk i 4 b)) j 0))) ≡ value_in b (i + j)
-spread-picked b i j small inside first =
+-- value j of four from a place on, as a swizzle takes it
+pub swizzled : (b : List ℤ) (i j : ℕ) → AreSmall b → i + 4 ≤ length b → j < 4
+    → to_z w32 (get_or (map (of_z w32) (chunk i 4 b) ++ map (of_z w32) (chunk i 4 b)) j 0)
+    ≡ value_in b (i + j)
+swizzled b i j small inside first =
+    let words = map (of_z w32) (chunk i 4 b) in
     let long : length (chunk i 4 b) ≡ 4 = length-chunk i 4 b inside in
-    let long' : length (map (of_z w32) (chunk i 4 b)) ≡ 4 = simp length-map long in
-    let is : get_or (map (of_z w32) (chunk i 4 b) ++ map (of_z w32) (chunk i 4 b)) j 0
-    ≡ of_z w32 (value_in b (i + j)) =
-    get_or_append_left (map (of_z w32) (chunk i 4 b)) (map (of_z w32) (chunk i 4 b)) 0 j
-    (omega arith)
+    let long' : length words ≡ 4 = simp length-map long in
+    ap (to_z w32)
+    (get_or_append_left words words 0 j (omega arith)
     ∙ get_or-map (of_z w32) (chunk i 4 b) j (pos 0) 0 (omega arith)
-    ∙ ap (of_z w32) (get_or-chunk i 4 b j (pos 0) first) in
-    ap (λ n. to_z w64 (of_z w64 (to_z w32 n))) is
-    ∙ widened (value_in b (i + j)) (small (i + j) (omega arith))
+    ∙ ap (of_z w32) (get_or-chunk i 4 b j (pos 0) first))
+    ∙ to_z-of_z w32 (value_in b (i + j)) (small (i + j) (omega arith))
 
--- the same number in all lanes
-pub value_in-spread : (v : ℤ) (r : ℕ) → r < 4 → value_in (v ∷ v ∷ v ∷ v ∷ []) r ≡ v
+-- the same number in eight lanes
+pub value_in-spread : (v : ℤ) (r : ℕ) → r < 4
+    → value_in (v ∷ v ∷ v ∷ v ∷ v ∷ v ∷ v ∷ v ∷ []) (2 * r) ≡ v
 value_in-spread v zero h = refl
 value_in-spread v (suc zero) h = refl
 value_in-spread v (suc (suc zero)) h = refl
 value_in-spread v (suc (suc (suc zero))) h = refl
 value_in-spread v (suc (suc (suc (suc r)))) h = absurd (omega arith)
-
-pub spread-lanes : (v z : ℤ) → v ≡ z → FitsSigned w32 z → AreLanes (v ∷ v ∷ v ∷ v ∷ [])
-spread-lanes v z is fits =
-    (refl, λ r h. subst (FitsSigned w64) (sym (value_in-spread v r h ∙ is)) (wide z fits))

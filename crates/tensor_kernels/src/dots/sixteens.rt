@@ -7,9 +7,9 @@ ghost use Rattle.tensor_kernels.specs.Panels.{AreSmall};
 ghost use Rattle.tensor_values.specs.Values.{value_in};
 ghost use Rattle.tensor_kernels.specs.Products.{list_product};
 
-use crate::dots::small_eight::{four_from, spread_from};
+use crate::dots::small_eight::spread_from;
 use crate::tiling::halves::{add_products, rows_from, spread};
-use crate::tiling::small::add_column;
+use crate::tiling::small::{add_product, four_from};
 use crate::tiling::{halves, small};
 use std::simd::prelude::*;
 
@@ -80,10 +80,10 @@ pub(crate) fn small_sixteen(
     for q in 0..offsets.len() {
         let i = x + offsets[q];
         let factor = spread_from(b, y + others[q]);
-        c0 = add_column(c0, four_from(a, i), factor);
-        c1 = add_column(c1, four_from(a, i + 4), factor);
-        c2 = add_column(c2, four_from(a, i + 8), factor);
-        c3 = add_column(c3, four_from(a, i + 12), factor);
+        c0 = add_product(c0, four_from(a, i), factor);
+        c1 = add_product(c1, four_from(a, i + 4), factor);
+        c2 = add_product(c2, four_from(a, i + 8), factor);
+        c3 = add_product(c3, four_from(a, i + 12), factor);
     }
     let mut sums = [0i64; 16];
     small::store(&mut sums, 0, c0);

@@ -7,22 +7,10 @@ ghost use Rattle.tensor_kernels.specs.Panels.{AreLanes, AreSmall};
 ghost use Rattle.tensor_values.specs.Values.{value_in};
 ghost use Rattle.tensor_kernels.specs.Products.{list_product};
 
-use crate::tiling::small::add_column;
+use crate::tiling::small::{add_product, four_from};
 use std::simd::prelude::*;
 
-/// The four values from place i on. By way of 32 bits, so that their products are of such numbers.
-#[inline(always)]
-pub(crate) fn four_from(a: &[i64], i: usize) -> i64x4
-    requires small { AreSmall a.now }
-    requires inside { i + 4 ≤ length a.now }
-    ensures lanes { AreLanes result }
-    ensures each { (r : ℕ) → r < 4 → value_in result r ≡ value_in a.now (i + r) }
-{
-    let four = i64x4::from_array([a[i], a[i + 1], a[i + 2], a[i + 3]]);
-    four.cast::<i32>().cast::<i64>()
-}
-
-/// The value at place i, in all lanes.
+/// The value at place i, in all lanes. By way of 32 bits, so that its products are of such numbers.
 #[inline(always)]
 pub(crate) fn spread_from(b: &[i64], i: usize) -> i64x4
     requires small { AreSmall b.now }
@@ -57,8 +45,8 @@ pub(crate) fn small_eight(
     for q in 0..offsets.len() {
         let i = x + offsets[q];
         let factor = spread_from(b, y + others[q]);
-        low = add_column(low, four_from(a, i), factor);
-        high = add_column(high, four_from(a, i + 4), factor);
+        low = add_product(low, four_from(a, i), factor);
+        high = add_product(high, four_from(a, i + 4), factor);
     }
     joined(low, high)
 }

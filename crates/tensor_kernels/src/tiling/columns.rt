@@ -8,13 +8,13 @@ use crate::panels::packing::pack_first;
 use crate::panels::pair_sums::panel_sums;
 use std::alloc::{AllocError, Global};
 
-/// The room of one worker for a panel, which is used again for the next: of cells of 64 bits and
-/// the sums of their pairs, or of cells of 32 bits.
+/// The room of one worker for a panel, which is used again for the next: of numbers of 64 bits and
+/// the sums of their pairs, or of numbers of 32 bits. Cells have 64 bits for both.
 #[derive(Drop)]
 pub(crate) struct Columns {
     pub(crate) wide: Vec<i64>,
     pub(crate) sums: [i64; 4],
-    pub(crate) small: Vec<i32>,
+    pub(crate) small: Vec<i64>,
 }
 
 impl Columns {
@@ -48,7 +48,7 @@ impl Columns {
         Ok(())
     }
 
-    /// Packs the first four rows in cells of 32 bits. Takes 16 bytes for each offset, as far as
+    /// Packs the first four rows, of numbers of 32 bits. Takes 32 bytes for each offset, as far as
     /// the room isn't there.
     pub(crate) fn pack_small(
         &mut self,
@@ -64,7 +64,7 @@ impl Columns {
             (AreCells self.new.small.items values.now rows.now offsets.now) }
         ensures small { OnOk result (AreSmall self.new.small.items) }
     {
-        pack_first::<i32>(&mut self.small, values, rows, offsets)?;
+        pack_first::<i64>(&mut self.small, values, rows, offsets)?;
         Ok(())
     }
 }

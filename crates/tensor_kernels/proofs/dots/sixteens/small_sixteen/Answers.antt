@@ -8,29 +8,29 @@ use Rattle.tensor_kernels.proofs.LaneSums.{turned, same-factors, next_lane, by_f
 use Rattle.tensor_kernels.proofs.SimdLanes.{lanes-bits}
 use Rattle.tensor_kernels.proofs.dots.sixteens.small_sixteen.Goals as goal
 
-pub add_column-c0-requires-clause-x : goal.add_column-c0-requires-clause-x
-add_column-c0-requires-clause-x c = lanes-bits _ c.four_from.ensures.lanes
+pub add_product-c0-requires-clause-x : goal.add_product-c0-requires-clause-x
+add_product-c0-requires-clause-x c = lanes-bits _ c.four_from.ensures.lanes
 
-pub add_column-c0-requires-clause-y : goal.add_column-c0-requires-clause-y
-add_column-c0-requires-clause-y c = lanes-bits _ c.spread_from-factor.ensures.lanes
+pub add_product-c0-requires-clause-y : goal.add_product-c0-requires-clause-y
+add_product-c0-requires-clause-y c = lanes-bits _ c.spread_from-factor.ensures.lanes
 
-pub add_column-c1-requires-clause-x : goal.add_column-c1-requires-clause-x
-add_column-c1-requires-clause-x c = lanes-bits _ c.four_from-in-loop-q.ensures.lanes
+pub add_product-c1-requires-clause-x : goal.add_product-c1-requires-clause-x
+add_product-c1-requires-clause-x c = lanes-bits _ c.four_from-in-loop-q.ensures.lanes
 
-pub add_column-c1-requires-clause-y : goal.add_column-c1-requires-clause-y
-add_column-c1-requires-clause-y c = lanes-bits _ c.spread_from-factor.ensures.lanes
+pub add_product-c1-requires-clause-y : goal.add_product-c1-requires-clause-y
+add_product-c1-requires-clause-y c = lanes-bits _ c.spread_from-factor.ensures.lanes
 
-pub add_column-c2-requires-clause-x : goal.add_column-c2-requires-clause-x
-add_column-c2-requires-clause-x c = lanes-bits _ c.four_from-in-loop-q-2.ensures.lanes
+pub add_product-c2-requires-clause-x : goal.add_product-c2-requires-clause-x
+add_product-c2-requires-clause-x c = lanes-bits _ c.four_from-in-loop-q-2.ensures.lanes
 
-pub add_column-c2-requires-clause-y : goal.add_column-c2-requires-clause-y
-add_column-c2-requires-clause-y c = lanes-bits _ c.spread_from-factor.ensures.lanes
+pub add_product-c2-requires-clause-y : goal.add_product-c2-requires-clause-y
+add_product-c2-requires-clause-y c = lanes-bits _ c.spread_from-factor.ensures.lanes
 
-pub add_column-c3-requires-clause-x : goal.add_column-c3-requires-clause-x
-add_column-c3-requires-clause-x c = lanes-bits _ c.four_from-in-loop-q-3.ensures.lanes
+pub add_product-c3-requires-clause-x : goal.add_product-c3-requires-clause-x
+add_product-c3-requires-clause-x c = lanes-bits _ c.four_from-in-loop-q-3.ensures.lanes
 
-pub add_column-c3-requires-clause-y : goal.add_column-c3-requires-clause-y
-add_column-c3-requires-clause-y c = lanes-bits _ c.spread_from-factor.ensures.lanes
+pub add_product-c3-requires-clause-y : goal.add_product-c3-requires-clause-y
+add_product-c3-requires-clause-y c = lanes-bits _ c.spread_from-factor.ensures.lanes
 
 pub loop-q-preserved : goal.loop-q-preserved
 loop-q-preserved c =
@@ -41,42 +41,42 @@ loop-q-preserved c =
     let f : ℕ → ℕ → ℤ = λ x. product_of a x c.args.offsets.now b c.args.y c.args.others.now in
     let factor = c.spread_from-factor.ensures in
     record {
-      lanes_0 = lanes-bits _ c.add_column-c0.ensures.lanes;
-      lanes_1 = lanes-bits _ c.add_column-c1.ensures.lanes;
-      lanes_2 = lanes-bits _ c.add_column-c2.ensures.lanes;
-      lanes_3 = lanes-bits _ c.add_column-c3.ensures.lanes;
+      lanes_0 = lanes-bits _ c.add_product-c0.ensures.lanes;
+      lanes_1 = lanes-bits _ c.add_product-c1.ensures.lanes;
+      lanes_2 = lanes-bits _ c.add_product-c2.ensures.lanes;
+      lanes_3 = lanes-bits _ c.add_product-c3.ensures.lanes;
       rows_0 = λ r h.
           let here = add_right_comm c.args.x offset r in
           let left = c.four_from.ensures.each r h ∙ ap (value_in a) here in
           let right = factor.each r h in
           next_lane (f (c.args.x + r)) (map (to_z w64) c.loop-q.c0) c.four_from.result
-          c.spread_from-factor.result c.add_column-c0.result r q h c.four_from.ensures.lanes
-          factor.lanes c.add_column-c0.ensures.lanes (c.loop-q.invariant.rows_0 r h)
-          (same-factors left right) (c.add_column-c0.ensures.each r h);
+          c.spread_from-factor.result c.add_product-c0.result r q h c.four_from.ensures.lanes
+          factor.lanes c.add_product-c0.ensures.lanes (c.loop-q.invariant.rows_0 r h)
+          (same-factors left right) (c.add_product-c0.ensures.each r h);
       rows_1 = λ r h.
           let here = turned c.args.x offset 4 r in
           let left = c.four_from-in-loop-q.ensures.each r h ∙ ap (value_in a) here in
           let right = factor.each r h in
           next_lane (f (c.args.x + 4 + r)) (map (to_z w64) c.loop-q.c1) c.four_from-in-loop-q.result
-          c.spread_from-factor.result c.add_column-c1.result r q h c.four_from-in-loop-q.ensures.lanes
-          factor.lanes c.add_column-c1.ensures.lanes (c.loop-q.invariant.rows_1 r h)
-          (same-factors left right) (c.add_column-c1.ensures.each r h);
+          c.spread_from-factor.result c.add_product-c1.result r q h c.four_from-in-loop-q.ensures.lanes
+          factor.lanes c.add_product-c1.ensures.lanes (c.loop-q.invariant.rows_1 r h)
+          (same-factors left right) (c.add_product-c1.ensures.each r h);
       rows_2 = λ r h.
           let here = turned c.args.x offset 8 r in
           let left = c.four_from-in-loop-q-2.ensures.each r h ∙ ap (value_in a) here in
           let right = factor.each r h in
           next_lane (f (c.args.x + 8 + r)) (map (to_z w64) c.loop-q.c2) c.four_from-in-loop-q-2.result
-          c.spread_from-factor.result c.add_column-c2.result r q h c.four_from-in-loop-q-2.ensures.lanes
-          factor.lanes c.add_column-c2.ensures.lanes (c.loop-q.invariant.rows_2 r h)
-          (same-factors left right) (c.add_column-c2.ensures.each r h);
+          c.spread_from-factor.result c.add_product-c2.result r q h c.four_from-in-loop-q-2.ensures.lanes
+          factor.lanes c.add_product-c2.ensures.lanes (c.loop-q.invariant.rows_2 r h)
+          (same-factors left right) (c.add_product-c2.ensures.each r h);
       rows_3 = λ r h.
           let here = turned c.args.x offset 12 r in
           let left = c.four_from-in-loop-q-3.ensures.each r h ∙ ap (value_in a) here in
           let right = factor.each r h in
           next_lane (f (c.args.x + 12 + r)) (map (to_z w64) c.loop-q.c3) c.four_from-in-loop-q-3.result
-          c.spread_from-factor.result c.add_column-c3.result r q h c.four_from-in-loop-q-3.ensures.lanes
-          factor.lanes c.add_column-c3.ensures.lanes (c.loop-q.invariant.rows_3 r h)
-          (same-factors left right) (c.add_column-c3.ensures.each r h);
+          c.spread_from-factor.result c.add_product-c3.result r q h c.four_from-in-loop-q-3.ensures.lanes
+          factor.lanes c.add_product-c3.ensures.lanes (c.loop-q.invariant.rows_3 r h)
+          (same-factors left right) (c.add_product-c3.ensures.each r h);
     }
 
 pub returns : goal.returns

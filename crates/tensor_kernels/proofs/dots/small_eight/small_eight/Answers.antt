@@ -7,17 +7,17 @@ use Rattle.tensor_kernels.proofs.LaneSums.{turned, same-factors, next_lane}
 use Rattle.tensor_kernels.proofs.SimdLanes.{lanes-bits}
 use Rattle.tensor_kernels.proofs.dots.small_eight.small_eight.Goals as goal
 
-pub add_column-low-requires-clause-x : goal.add_column-low-requires-clause-x
-add_column-low-requires-clause-x c = lanes-bits _ c.four_from.ensures.lanes
+pub add_product-low-requires-clause-x : goal.add_product-low-requires-clause-x
+add_product-low-requires-clause-x c = lanes-bits _ c.four_from.ensures.lanes
 
-pub add_column-low-requires-clause-y : goal.add_column-low-requires-clause-y
-add_column-low-requires-clause-y c = lanes-bits _ c.spread_from-factor.ensures.lanes
+pub add_product-low-requires-clause-y : goal.add_product-low-requires-clause-y
+add_product-low-requires-clause-y c = lanes-bits _ c.spread_from-factor.ensures.lanes
 
-pub add_column-high-requires-clause-x : goal.add_column-high-requires-clause-x
-add_column-high-requires-clause-x c = lanes-bits _ c.four_from-in-loop-q.ensures.lanes
+pub add_product-high-requires-clause-x : goal.add_product-high-requires-clause-x
+add_product-high-requires-clause-x c = lanes-bits _ c.four_from-in-loop-q.ensures.lanes
 
-pub add_column-high-requires-clause-y : goal.add_column-high-requires-clause-y
-add_column-high-requires-clause-y c = lanes-bits _ c.spread_from-factor.ensures.lanes
+pub add_product-high-requires-clause-y : goal.add_product-high-requires-clause-y
+add_product-high-requires-clause-y c = lanes-bits _ c.spread_from-factor.ensures.lanes
 
 pub loop-q-preserved : goal.loop-q-preserved
 loop-q-preserved c =
@@ -28,22 +28,22 @@ loop-q-preserved c =
     let f : ℕ → ℕ → ℤ = λ x. product_of a x c.args.offsets.now b c.args.y c.args.others.now in
     let factor = c.spread_from-factor.ensures in
     record {
-      lanes_low = lanes-bits _ c.add_column-low.ensures.lanes;
-      lanes_high = lanes-bits _ c.add_column-high.ensures.lanes;
+      lanes_low = lanes-bits _ c.add_product-low.ensures.lanes;
+      lanes_high = lanes-bits _ c.add_product-high.ensures.lanes;
       low = λ r h.
           let here = add_right_comm c.args.x offset r in
           let left = c.four_from.ensures.each r h ∙ ap (value_in a) here in
           let right = factor.each r h in
           next_lane (f (c.args.x + r)) (map (to_z w64) c.loop-q.low) c.four_from.result
-          c.spread_from-factor.result c.add_column-low.result r q h c.four_from.ensures.lanes
-          factor.lanes c.add_column-low.ensures.lanes (c.loop-q.invariant.low r h) (same-factors left right)
-          (c.add_column-low.ensures.each r h);
+          c.spread_from-factor.result c.add_product-low.result r q h c.four_from.ensures.lanes
+          factor.lanes c.add_product-low.ensures.lanes (c.loop-q.invariant.low r h) (same-factors left right)
+          (c.add_product-low.ensures.each r h);
       high = λ r h.
           let here = turned c.args.x offset 4 r in
           let left = c.four_from-in-loop-q.ensures.each r h ∙ ap (value_in a) here in
           let right = factor.each r h in
           next_lane (f (c.args.x + 4 + r)) (map (to_z w64) c.loop-q.high)
-          c.four_from-in-loop-q.result c.spread_from-factor.result c.add_column-high.result r q h
-          c.four_from-in-loop-q.ensures.lanes factor.lanes c.add_column-high.ensures.lanes
-          (c.loop-q.invariant.high r h) (same-factors left right) (c.add_column-high.ensures.each r h);
+          c.four_from-in-loop-q.result c.spread_from-factor.result c.add_product-high.result r q h
+          c.four_from-in-loop-q.ensures.lanes factor.lanes c.add_product-high.ensures.lanes
+          (c.loop-q.invariant.high r h) (same-factors left right) (c.add_product-high.ensures.each r h);
     }

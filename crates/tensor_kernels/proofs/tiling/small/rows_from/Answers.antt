@@ -1,31 +1,35 @@
-use Rattle.std.proofs.Common.{◌≡◌, ◌+◌, pos, ap, sym, subst, ◌∙◌, length, map, of_z, to_z}
-use Rattle.std.proofs.Common.{FitsSigned, arith}
-use Rattle.std.specs.Int.{w32, w64}
-use Rattle.std.proofs.lemmas.List.{get_or-map, length-map}
-use Rattle.std.proofs.lemmas.Simd.{get_or-chunk, length-chunk}
-use lib.Lanes.{chunk}
+use Rattle.std.proofs.Common.{ap, ◌∙◌, add-zero, arith}
 use Rattle.tensor_values.specs.Values.{value_in}
-use Rattle.tensor_kernels.proofs.SimdLanes.{wide, widened}
+use Rattle.tensor_kernels.proofs.SimdLanes.{lanes-bits, value_in-lanes, value_in-spread, swizzled}
 use Rattle.tensor_kernels.proofs.tiling.small.rows_from.Goals as goal
 
+pub returns-clause-lanes_0 : goal.returns-clause-lanes_0
+returns-clause-lanes_0 c = lanes-bits _ c.even_values.ensures.lanes
+
+pub returns-clause-lanes_1 : goal.returns-clause-lanes_1
+returns-clause-lanes_1 c = lanes-bits _ c.even_values-2.ensures.lanes
+
+pub returns-clause-lanes_2 : goal.returns-clause-lanes_2
+returns-clause-lanes_2 c = lanes-bits _ c.even_values-3.ensures.lanes
+
+pub returns-clause-lanes_3 : goal.returns-clause-lanes_3
+returns-clause-lanes_3 c = lanes-bits _ c.even_values-4.ensures.lanes
+
 pub returns-clause-each : goal.returns-clause-each
-returns-clause-each c r h =
+returns-clause-each c j h =
     let a = c.args.a.now in
     let i = c.args.i in
-    let long : length (chunk i 4 a) ≡ 4 = length-chunk i 4 a c.requires.inside in
-    let long' : length (map (of_z w32) (chunk i 4 a)) ≡ 4 = simp length-map long in
-    get_or-map (to_z w64) _ r 0 (pos 0) (simp length-map (omega arith))
-    ∙ ap (to_z w64)
-    (get_or-map _ (map (of_z w32) (chunk i 4 a)) r 0 0 (omega arith)
-    ∙ ap (λ n. of_z w64 (to_z w32 n))
-    (get_or-map (of_z w32) (chunk i 4 a) r (pos 0) 0 (omega arith)
-    ∙ ap (of_z w32) (get_or-chunk i 4 a r (pos 0) h)))
-    ∙ widened (value_in a (i + r)) (c.requires.small (i + r) (omega (arith, c.requires.inside)))
-
-pub returns-clause-lanes : goal.returns-clause-lanes
-returns-clause-lanes c =
-    let long = length-chunk c.args.i 4 c.args.a.now c.requires.inside in (
-      simp length-map long,
-      λ r h. subst (FitsSigned w64) (sym (returns-clause-each c r h))
-          (wide _ (c.requires.small (c.args.i + r) (omega (arith, c.requires.inside)))),
+    let x0 = c.even_values in
+    let x1 = c.even_values-2 in
+    let x2 = c.even_values-3 in
+    let x3 = c.even_values-4 in (
+      value_in-lanes _ x0.ensures.lanes j h ∙ x0.ensures.each j h ∙ value_in-spread _ j h
+          ∙ swizzled a i 0 c.requires.small c.requires.inside (omega arith)
+          ∙ ap (λ k. value_in a k) (add-zero i),
+      value_in-lanes _ x1.ensures.lanes j h ∙ x1.ensures.each j h ∙ value_in-spread _ j h
+          ∙ swizzled a i 1 c.requires.small c.requires.inside (omega arith),
+      value_in-lanes _ x2.ensures.lanes j h ∙ x2.ensures.each j h ∙ value_in-spread _ j h
+          ∙ swizzled a i 2 c.requires.small c.requires.inside (omega arith),
+      value_in-lanes _ x3.ensures.lanes j h ∙ x3.ensures.each j h ∙ value_in-spread _ j h
+          ∙ swizzled a i 3 c.requires.small c.requires.inside (omega arith),
     )

@@ -1,7 +1,7 @@
 use Rattle.std.proofs.Common.{◌∙◌}
 use Rattle.std.proofs.lemmas.List.{length-map}
 use Rattle.tensor_kernels.proofs.SimdLanes.{bits-product, wrapped_fits, length-lanes, value_in-zipped}
-use Rattle.tensor_kernels.proofs.tiling.small.add_column.Goals as goal
+use Rattle.tensor_kernels.proofs.tiling.small.add_product.Goals as goal
 
 pub returns-clause-each : goal.returns-clause-each
 returns-clause-each c r h =

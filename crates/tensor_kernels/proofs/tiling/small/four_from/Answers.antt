@@ -4,7 +4,7 @@ use Rattle.std.specs.Int.{w32, w64}
 use Rattle.std.proofs.lemmas.Int.{to_z-of_z}
 use Rattle.tensor_values.specs.Values.{value_in}
 use Rattle.tensor_kernels.proofs.SimdLanes.{wide, widened}
-use Rattle.tensor_kernels.proofs.dots.small_eight.four_from.Goals as goal
+use Rattle.tensor_kernels.proofs.tiling.small.four_from.Goals as goal
 
 -- each of four values
 value_in-four : (f : ℕ → ℤ) (w x y z : ℤ) → w ≡ f 0 → x ≡ f 1 → y ≡ f 2 → z ≡ f 3 → (r : ℕ)
