@@ -24,7 +24,7 @@ abbrev pub first_cells : Panels → List ℤ
 first_cells (Wide a) = a.cells.items
 first_cells (Small a) = a.items
 
--- the cells of a panel of the second operand that are as wide
+-- the cells of a panel of the second operand that are multiplied with these
 abbrev pub second_cells : Panels → Columns → List ℤ
 second_cells (Wide a) columns = columns.wide.items
 second_cells (Small a) columns = columns.small.items

@@ -58,8 +58,8 @@ impl Panels {
         }
     }
 
-    /// Packs the first four rows of the second operand, in cells as wide as these. Takes a cell for
-    /// each value, as far as the room isn't there.
+    /// Packs the first four rows of the second operand, to be multiplied with these. Takes a cell
+    /// of 64 bits for each value, as far as the room isn't there.
     pub(crate) fn pack(
         &self,
         columns: &mut Columns,
