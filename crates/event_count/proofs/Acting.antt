@@ -4,7 +4,8 @@ use Rattle.std.proofs.Common.{ne_eqb, append-nil}
 use Rattle.std.proofs.lemmas.Bool.{cond-true, cond-false}
 use Rattle.std.proofs.lemmas.List.Elements.{filter-append}
 use Rattle.event_word.specs.declared.event.Event.{Event}
-use Rattle.event_word.specs.World.{World, phase_of, owed_by}
+use Rattle.event_word.specs.World.{World, phase_of, owed_by, has_passed_flag, rows_passed_by}
+use Rattle.event_word.specs.World.{is_announcing}
 use Rattle.event_word.specs.Step.{actor_of, effect}
 use Rattle.event_word.specs.Runs.{Runs}
 use Rattle.event_word.proofs.Frames.{alone_effect}
@@ -15,16 +16,34 @@ abbrev pub AreBy : ℕ → List Event → Type 0
 AreBy actor [] = Unit {0}
 AreBy actor (e ∷ events) = (actor_of e ≡ actor) × AreBy actor events
 
--- they leave the phase and the debts of another number alone
+-- what is another number's own
+pub record AreAlone (w u : World) (n : ℕ) : Type 0 where
+  pub phase : phase_of u n ≡ phase_of w n
+  pub owed : owed_by u n ≡ owed_by w n
+  pub flag : has_passed_flag u n ≡ has_passed_flag w n
+  pub rows : rows_passed_by u n ≡ rows_passed_by w n
+  pub announcing : is_announcing u n ≡ is_announcing w n
+
+-- they leave it alone
 pub left_alone : (actor n : ℕ) → n ≢ actor → (w : World) (events : List Event) (u : World)
-    → AreBy actor events → Runs w events u
-    → (phase_of u n ≡ phase_of w n) × (owed_by u n ≡ owed_by w n)
-left_alone actor n ne w [] u by runs =
-    (ap (λ x. phase_of x n) (sym runs), ap (λ x. owed_by x n) (sym runs))
+    → AreBy actor events → Runs w events u → AreAlone w u n
+left_alone actor n ne w [] u by runs = record {
+  phase = ap (λ x. phase_of x n) (sym runs);
+  owed = ap (λ x. owed_by x n) (sym runs);
+  flag = ap (λ x. has_passed_flag x n) (sym runs);
+  rows = ap (λ x. rows_passed_by x n) (sym runs);
+  announcing = ap (λ x. is_announcing x n) (sym runs);
+}
 left_alone actor n ne w (e ∷ events) u by runs =
     let alone = alone_effect n w e (λ is. ne (is ∙ by.0)) in
     let rest = left_alone actor n ne (effect w e) events u by.1 runs.1 in
-    (rest.0 ∙ alone.phase, rest.1 ∙ alone.owed)
+    record {
+      phase = rest.phase ∙ alone.phase;
+      owed = rest.owed ∙ alone.owed;
+      flag = rest.flag ∙ alone.flag;
+      rows = rest.rows ∙ alone.rows;
+      announcing = rest.announcing ∙ alone.announcing;
+    }
 
 all_mine : (actor : ℕ) (events : List Event) → AreBy actor events
     → events_of actor events ≡ events

@@ -4,7 +4,7 @@ use mathlib.Core.Option.{none}
 use prog.Atomic.{either}
 use Rattle.atomic_table.specs.Table.{step}
 use Rattle.event_count.specs.declared.rule.TheConstants.{STATE}
-use Rattle.event_count.specs.declared.rule.Sizes.{Sizes}
+use Rattle.event_count.specs.declared.rule.RowSizes.{RowSizes}
 use Rattle.event_count.specs.Places.{next_place, parker_place}
 use Rattle.event_count.specs.Cards.{only, card_in}
 use Rattle.event_count.specs.Plays.{Sat, Told, Gain, exchanges, looks, reads, follows, stores}
@@ -17,9 +17,9 @@ use Rattle.event_count.proofs.Stacking.{store_adds, push_adds, read_adds, pop_ad
 use Rattle.event_count.proofs.Unparking.{unpark_adds, wake_adds, follow_adds}
 use Rattle.event_count.proofs.TakingAll.{all_adds}
 
-module _ (k : Sizes) (slots : ℕ) (me : Sat) (is : me.0 ≡ only (card_in me.0)) where
+module _ (k : RowSizes) (slots : ℕ) (me : Sat) (is : me.0 ≡ only (card_in me.0)) where
   -- a step of the seat, whichever number its view has
-  adds : (place a b : ℕ) (f : ℕ → ℕ) (told : Told)
+  pub adds : (place a b : ℕ) (f : ℕ → ℕ) (told : Told)
       → ((id : ℕ) → Advances k slots id me is place a b f told)
       → AddsEvents k slots me (step slots place a b none) f told
   adds place a b f told advances s history w r id at small =
@@ -34,18 +34,19 @@ module _ (k : Sizes) (slots : ℕ) (me : Sat) (is : me.0 ≡ only (card_in me.0)
 
   steps : StepsOf k slots me (card_in me.0)
   steps = record {
-    look = adds STATE 0 0 (λ n. n) looks (λ id. look_adds k slots id me is);
+    look = λ rowed kind. adds STATE 0 0 (λ n. n) (looks rowed)
+        (λ id. look_adds k slots id me is rowed kind);
     read = λ there. adds _ 0 0 (λ n. n) reads (λ id. read_adds k slots id me is there);
     follow = λ seat rest owing. adds (next_place seat) 0 0 (λ n. n) follows
         (λ id. follow_adds k slots id me is seat rest owing);
     store = λ word pre waiter. adds _ word 0 (λ _. word) stores
         (λ id. store_adds k slots id me is word pre waiter);
-    prewait = λ waiter running none_owed. adds STATE (2 ^ 14) 0 (λ n. (n + 2 ^ 14) % 2 ^ 64)
-        prewaits (λ id. prewait_adds k slots id me is waiter running none_owed);
-    consume = λ old new pre there offered. exchange consumes old new
-        (λ id. consume_adds k slots id me is old new pre there offered);
-    push = λ old new pre none_given offered stored. exchange pushes old new
-        (λ id. push_adds k slots id me is old new pre none_given offered stored);
+    prewait = λ rowed kind silent waiter running none_owed. adds STATE (2 ^ 14) 0 (λ n. (n + 2 ^ 14) % 2 ^ 64)
+        prewaits (λ id. prewait_adds k slots id me is rowed kind silent waiter running none_owed);
+    consume = λ rowed old new kind may pre there offered. exchange (consumes rowed) old new
+        (λ id. consume_adds k slots id me is rowed old new kind may pre there offered);
+    push = λ rowed old new kind may pre none_given offered stored. exchange (pushes rowed) old new
+        (λ id. push_adds k slots id me is rowed old new kind may pre none_given offered stored);
     cancel = λ old new pre offered. exchange cancels old new
         (λ id. cancel_adds k slots id me is old new pre offered);
     signal = λ old new running none_owed room offered. exchange signals old new

@@ -18,7 +18,7 @@ use Rattle.event_word.proofs.Lists.{one_if-same, one_if-other, times-le-length}
 use Rattle.event_word.proofs.Histories.{lawful_history}
 use Rattle.event_word.proofs.Balancing.{balance}
 use Rattle.event_count.specs.declared.rule.TheConstants.{STATE}
-use Rattle.event_count.specs.declared.rule.Sizes.{Sizes}
+use Rattle.event_count.specs.declared.rule.RowSizes.{RowSizes}
 use Rattle.event_count.specs.declared.view.Card.{Card}
 use Rattle.event_count.specs.declared.view.View.{View}
 use Rattle.event_count.specs.declared.seat.Seat.{Seat}
@@ -27,15 +27,18 @@ use Rattle.event_count.specs.Known.{numbers_in, Agrees, next_epoch}
 use Rattle.event_count.specs.Written.{Leads, shown_fields}
 use Rattle.event_count.specs.Laws.{ShowsLawfulWorld, SignalsAreAnswered}
 use Rattle.event_count.specs.Seats.{card_of, IsIdle}
-use Rattle.event_count.specs.Counts.{AreEven, Ends}
+use Rattle.event_count.specs.Counts.{AreEven}
+use Rattle.event_count.specs.Tickets.{card_credits}
+use Rattle.event_count.specs.Rows.Ending.{EndsRows}
+use Rattle.event_count.proofs.RowSteps.Counting.{some_of_all, card_credits-reverse}
 use Rattle.event_count.proofs.Cards.{numbers, All-only}
 use Rattle.event_count.proofs.Totals.{two_le_total, total_some}
 use Rattle.event_count.proofs.Words.{word_shows}
 
 -- the World that is shown is lawful
-pub is_lawful : (k : Sizes) (s : CountState) (shows : ShowsWorld k s)
-    → Lawful shows.1 × HasSizes k.waiters (k.waiters + k.notifiers) 0 shows.1
-is_lawful k s shows = lawful_history k.waiters k.notifiers 0 shows.0 shows.1 shows.2.runs
+pub is_lawful : (k : RowSizes) (s : CountState) (shows : ShowsWorld k s)
+    → Lawful shows.1 × HasSizes k.waiters (k.waiters + k.notifiers) k.rows shows.1
+is_lawful k s shows = lawful_history k.waiters k.notifiers k.rows shows.0 shows.1 shows.2.runs
 
 pub shows_lawful : ShowsLawfulWorld ShowsWorld
 shows_lawful k s shows =
@@ -61,7 +64,7 @@ sleeps-cases Stacked = (omega arith, λ more. refl)
 sleeps-cases Ended = (omega arith, λ more. absurd (omega arith))
 
 -- a number that stands among cards is one card's
-card_there : (P : Card → Type 0) (n : ℕ) (cards : List Card) → All P cards
+pub card_there : (P : Card → Type 0) (n : ℕ) (cards : List Card) → All P cards
     → 0 < times n (numbers cards) → (c : Card) × (c.number ≡ n) × P c
 card_there P n [] all more = absurd (omega arith)
 card_there P n (c ∷ cards) all more = ⊎_elim
@@ -75,7 +78,7 @@ nobody_there [] none = refl
 nobody_there (x ∷ xs) none = let here = one_if-same x x refl in absurd (none x (omega arith))
 
 -- while the seat that has all cards runs, so does each worker
-all_run : (k : Sizes) (s : CountState) (id : ℕ) (v : View) → (shows : ShowsWorld k s)
+all_run : (k : RowSizes) (s : CountState) (id : ℕ) (v : View) → (shows : ShowsWorld k s)
     → get_elem? s.views id ≡ some v → length v.cards ≡ k.waiters + k.notifiers
     → All (λ c. c.phase ≡ Running) v.cards → (n : ℕ) → n < k.waiters
     → phase_of shows.1 n ≡ Running
@@ -102,7 +105,7 @@ all_run k s id v shows at whole running n less =
     (cases_eq there.0 id)
 
 -- and then nobody waits, and nobody stands on the stack
-nobody_waits : (k : Sizes) (s : CountState) (id : ℕ) (v : View) → (shows : ShowsWorld k s)
+nobody_waits : (k : RowSizes) (s : CountState) (id : ℕ) (v : View) → (shows : ShowsWorld k s)
     → get_elem? s.views id ≡ some v → length v.cards ≡ k.waiters + k.notifiers
     → All (λ c. c.phase ≡ Running) v.cards → (shows.1.pre ≡ []) × (shows.1.stack ≡ [])
 nobody_waits k s id v shows at whole running =
@@ -120,14 +123,14 @@ nobody_waits k s id v shows at whole running =
     )
 
 -- and the seats were all taken off the stack, unparked and woken as often as they were pushed
-pub all_even : (k : Sizes) (s : CountState) (id : ℕ) (v : View) → (shows : ShowsWorld k s)
+pub all_even : (k : RowSizes) (s : CountState) (id : ℕ) (v : View) → (shows : ShowsWorld k s)
     → get_elem? s.views id ≡ some v → length v.cards ≡ k.waiters + k.notifiers
     → All (λ c. c.phase ≡ Running) v.cards → (seat : ℕ) → seat < k.waiters
     → AreEven k shows.0 seat
 all_even k s id v shows at whole running seat less =
     let runs = all_run k s id v shows at whole running seat less in
     let nowhere = (is_lawful k s shows).0.standing seat ∙ ap sleeps runs in
-    let counts = balance k.waiters k.notifiers 0 shows.0 shows.1 shows.2.runs seat in
+    let counts = balance k.waiters k.notifiers k.rows shows.0 shows.1 shows.2.runs seat in
     let p = counts.pushes in let t = counts.takings in let u = counts.unparks in
     record { taken = omega arith; unparked = omega arith; woken = omega arith }
 
@@ -138,21 +141,27 @@ All-reverse P (c ∷ cards) all =
     (All-append P (reverse cards) (c ∷ []) (All-reverse P cards (All-tail P c cards all))
     (All-only P c (All-head P c cards all)))
 
--- once all cards came back, their seats have one history
-pub has_ended : (k : Sizes) (s : CountState) (id : ℕ) (v : View) (cards : List Card)
+-- once all cards came back, their seats have one history, and no row has more jobs than credits
+-- haven't come back
+pub has_ended : (k : RowSizes) (s : CountState) (id : ℕ) (v : View) (cards : List Card)
     → ShowsWorld k s → get_elem? s.views id ≡ some v → v.cards ≡ reverse cards
     → length v.cards ≡ k.waiters + k.notifiers → All (λ c. c.phase ≡ Running) v.cards
-    → Ends k cards
+    → EndsRows k cards
 has_ended k s id v cards shows at back whole running =
     let P : Card → Type 0 = Agrees k shows.0 shows.1 in (
       shows.0,
       shows.1,
       record {
-        runs = shows.2.runs;
-        known = All-same P cards (reverse (reverse cards)) (sym (reverse-reverse cards))
-            (All-reverse P (reverse cards) (All-same P (reverse cards) v.cards (sym back)
-            (shows.2.known id v at)));
-        even = all_even k s id v shows at whole running;
+        ended = record {
+          runs = shows.2.runs;
+          known = All-same P cards (reverse (reverse cards)) (sym (reverse-reverse cards))
+              (All-reverse P (reverse cards) (All-same P (reverse cards) v.cards (sym back)
+              (shows.2.known id v at)));
+          even = all_even k s id v shows at whole running;
+        };
+        left = λ row. let jobs = shows.2.counted.tickets row in let all = shows.2.counted.credits in
+            let some_there = some_of_all row s.views id v at in
+            let here = ap card_credits back ∙ card_credits-reverse cards in omega arith;
       },
     )
 
@@ -173,7 +182,7 @@ at_index (x ∷ words) zero word at = some-injective x word at
 at_index (x ∷ words) (suc i) word at = at_index words i word at
 
 -- and then the word is the first one again
-pub last_word : (k : Sizes) (s : CountState) (id : ℕ) (v : View) (words : List ℕ) (word : ℕ)
+pub last_word : (k : RowSizes) (s : CountState) (id : ℕ) (v : View) (words : List ℕ) (word : ℕ)
     → ShowsWorld k s → get_elem? s.views id ≡ some v → length v.cards ≡ k.waiters + k.notifiers
     → All (λ c. c.phase ≡ Running) v.cards → s.words ≡ words → get_elem? words STATE ≡ some word
     → word < 2 ^ 64 → word ≡ 16383

@@ -1,61 +1,56 @@
 -- What each kind of event does to the World that a count shows, and to its word.
-use Rattle.std.proofs.Common.{◌≡◌, ℕ, ◌+◌, ◌-◌, ◌≤◌, ◌<◌, ◌==◌, ◌++◌, if◌then◌else◌, nat_lt, true}
+use Rattle.std.proofs.Common.{◌≡◌, ℕ, ◌+◌, ◌≤◌, ◌<◌, ◌==◌, ◌++◌, if◌then◌else◌, nat_lt, true}
 use Rattle.std.proofs.Common.{false, List, [], ◌∷◌, length, sym, ap, refl, ◌∙◌, ⊎_elim, arith}
-use Rattle.std.proofs.Common.{get_or-set_same, get_or-set_other, get_or}
-use Rattle.std.proofs.lemmas.Bool.{cases_eq, cases_lt, cond-true, cond-false, lt-ltb, le-ltb}
+use Rattle.std.proofs.Common.{Bool, append-nil, replicate, get_or-set_same, get_or-set_other, get_or}
+use Rattle.std.proofs.lemmas.Bool.{cases_eq, cases_lt, cond-true, lt-ltb}
 use mathlib.Core.Option.{some}
 use lib.ListN.{get_elem?}
 use Rattle.event_word.specs.declared.phase.Phase.TheVariants.{Running, Pre, Stacked, Ended}
 use Rattle.event_word.specs.declared.event.Event.{Event}
-use Rattle.event_word.specs.declared.event.Event.TheVariants.{Prewait, PassFlag, Cancel, Commit}
+use Rattle.event_word.specs.declared.event.Event.TheVariants.{Prewait, Cancel}
 use Rattle.event_word.specs.declared.event.Event.TheVariants.{Notify, NotifyAll, Unpark, Wake}
 use Rattle.event_word.specs.declared.word.Fields.{Fields}
-use Rattle.event_word.specs.Word.{prewaited, cancelled, consumed, signalled, pushed, popped}
+use Rattle.event_word.specs.Word.{prewaited, cancelled, signalled, popped}
 use Rattle.event_word.specs.Word.{all_notified}
 use Rattle.event_word.specs.Shown.{shown, top_of}
 use Rattle.event_word.specs.World.{World, phase_of, owed_by, has_token, is_announcing}
-use Rattle.event_word.specs.Step.{Possible, IsFree, effect, leave, park, announced, signal, pop}
+use Rattle.event_word.specs.Step.{IsFree, effect, announced, signal, pop}
 use Rattle.event_word.specs.Step.{unpark}
 use Rattle.event_word.specs.Lawful.{Lawful, HasSizes}
-use Rattle.event_word.proofs.Keeps.{lawful_effect, pre_known, stacked_known, owed_is_stacked}
-use Rattle.event_word.proofs.Lists.{get_or-set_default, one_if-same}
+use Rattle.event_word.proofs.Keeps.{pre_known, stacked_known, owed_is_stacked}
+use Rattle.event_word.proofs.Lists.{get_or-set_default}
 use Rattle.event_word.proofs.Rooms.{length-pre}
 use Rattle.event_word.proofs.Histories.{lawful_history}
 use Rattle.event_word.proofs.Following.{word_follows, notify-pop}
-use Rattle.event_word.specs.Balance.{push_of}
-use Rattle.event_word.specs.Lists.{one_if}
 use Rattle.event_word.specs.Fields.{fields_of}
-use Rattle.event_count.specs.declared.rule.Sizes.{Sizes}
+use Rattle.event_count.specs.declared.rule.RowSizes.{RowSizes}
 use Rattle.event_count.specs.declared.view.Exchange.{Exchange}
 use Rattle.event_count.specs.declared.view.Card.{Card}
 use Rattle.event_count.specs.declared.view.View.{View}
-use Rattle.event_count.specs.Cards.{only}
-use Rattle.event_count.specs.Gains.{polling, prewaiting, consuming, cancelling, signalling, pushing}
-use Rattle.event_count.specs.Gains.{popping, unparking, waking, behind, taking}
+use Rattle.event_count.specs.Cards.{exchange_of}
+use Rattle.event_count.specs.Gains.{polling, prewaiting, cancelling, signalling, popping, unparking}
+use Rattle.event_count.specs.Gains.{waking, behind, taking, loading_by}
 use Rattle.event_count.specs.Shown.{HasNoRows, CountState, Shows}
 use Rattle.event_count.specs.Known.{Agrees}
+use Rattle.event_count.specs.Kinds.{IsKind, MayPrewait}
 use Rattle.event_count.proofs.Cards.{is_seat}
 use Rattle.event_count.proofs.Steps.{Fitting, truth}
-
--- the World after a commit that takes a signal
-abbrev pub taken : World → ℕ → World
-taken w seat = leave (effect w (PassFlag seat)) seat Running (w.signals - 1)
 
 -- the World after a notification that gives one
 abbrev pub answered : World → ℕ → World
 answered w actor = signal (announced w actor)
 
-module _ (k : Sizes) (s : CountState) (history : List Event) (w : World)
+module _ (k : RowSizes) (s : CountState) (history : List Event) (w : World)
     (r : Shows k s history w) (id : ℕ) (v : View) (c : Card)
-    (at : get_elem? s.views id ≡ some v) (is : v ≡ only c) where
+    (at : get_elem? s.views id ≡ some v) (is : v.cards ≡ c ∷ []) where
   pub law : Lawful w
-  law = (lawful_history k.waiters k.notifiers 0 history w r.runs).0
+  law = (lawful_history k.waiters k.notifiers k.rows history w r.runs).0
 
-  pub sizes : HasSizes k.waiters (k.waiters + k.notifiers) 0 w
-  sizes = (lawful_history k.waiters k.notifiers 0 history w r.runs).1
+  pub sizes : HasSizes k.waiters (k.waiters + k.notifiers) k.rows w
+  sizes = (lawful_history k.waiters k.notifiers k.rows history w r.runs).1
 
   -- what its card says
-  told : Agrees k history w c
+  pub told : Agrees k history w c
   told = truth k s history w r id v c at is
 
   -- a count has at most so many pre-waiters
@@ -78,83 +73,49 @@ module _ (k : Sizes) (s : CountState) (history : List Event) (w : World)
     runs = λ less. let phases = sizes.phases in sym (told.waits (omega arith)) ∙ running;
   }
 
-  -- where nobody's rows, stop and announcements change
-  rowless_on : (u : World) → u.stop ≡ w.stop → u.announcing ≡ w.announcing → HasNoRows u
-  rowless_on u stop announcing = record {
-    stop = stop ∙ r.rowless.stop;
-    silent = λ actor. ap (λ xs. get_or xs actor false) announcing ∙ r.rowless.silent actor;
+  -- where nobody's stop and announcements change, at a count alone
+  pub rowless_on : (u : World) → u.stop ≡ w.stop → u.announcing ≡ w.announcing
+      → k.rows ≡ 0 → HasNoRows u
+  rowless_on u stop announcing none = let plain = r.plain none in record {
+    stop = stop ∙ plain.stop;
+    silent = λ actor. ap (λ xs. get_or xs actor false) announcing ∙ plain.silent actor;
   }
 
-  pub prewait_fits : c.number < k.waiters → c.phase ≡ Running → c.owing ≡ []
+  -- a seat that may prewait announces nothing
+  pub silent_in : (rowed : Bool) → IsKind rowed k → MayPrewait rowed c
+      → is_announcing w c.number ≡ false
+  silent_in true kind silent = sym told.announcing ∙ silent
+  silent_in false kind silent = (r.plain kind).silent c.number
+
+  pub prewait_fits : is_announcing w c.number ≡ false → c.number < k.waiters
+      → c.phase ≡ Running → c.owing ≡ []
       → Fitting k w (effect w (Prewait c.number)) (Prewait c.number ∷ []) c (prewaiting c)
-  prewait_fits waiter running none = let phases = sizes.phases in record {
-    runs = ((omega arith, (free running none, r.rowless.silent c.number)), refl);
-    by = (refl, tt);
-    waiters = refl;
-    number = refl;
-    gains = refl;
-    waits = λ less. sym (get_or-set_same w.phases c.number Pre Ended (omega arith));
-    notifies = λ le. absurd (omega arith);
-    owing = told.owing;
-    epoch = omega arith;
-    rowless = rowless_on (effect w (Prewait c.number)) refl refl;
-  }
+  prewait_fits silent waiter running none =
+      let phases = sizes.phases in let flags = sizes.flags in let lists = sizes.passed in
+      let each = sizes.passed_rows c.number waiter in let lengths = sizes.lengths in
+      let as_many : length c.passed ≡ length w.lengths = ap length told.passed ∙ (each ∙ sym lengths) in
+      record {
+        runs = ((omega arith, (free running none, silent)), refl);
+        by = (refl, tt);
+        waiters = refl;
+        number = refl;
+        gains = refl;
+        waits = λ less. sym (get_or-set_same w.phases c.number Pre Ended (omega arith));
+        notifies = λ le. absurd (omega arith);
+        owing = told.owing;
+        epoch = omega arith;
+        rows = refl;
+        flag = sym (get_or-set_same w.flags c.number false false (omega arith));
+        passed = ap (λ n. replicate n false) as_many
+            ∙ sym (get_or-set_same w.passed c.number (replicate (length w.lengths) false) []
+            (omega arith));
+        announcing = told.announcing;
+        plain = rowless_on (effect w (Prewait c.number)) refl refl;
+      }
 
   pub prewait_shows : (f : Fields) (e : ℕ) → f ≡ shown w e
       → prewaited f ≡ shown (effect w (Prewait c.number)) e
   prewait_shows f e here = ap prewaited here ∙ (word_follows w e law).prewait c.number
-
-  -- the World once the seat has passed the flag
-  abbrev pub passed : World
-  passed = effect w (PassFlag c.number)
-
-  may_pass : c.phase ≡ Pre → Possible w (PassFlag c.number)
-  may_pass pre = (is_pre pre, r.rowless.stop)
-
-  may_commit : c.phase ≡ Pre → Possible passed (Commit c.number)
-  may_commit pre =
-      let flags = sizes.flags in let phases = sizes.phases in let rows = sizes.lengths in
-      let known = pre_known w c.number (is_pre pre) in (
-        is_pre pre,
-        record {
-          flag = get_or-set_same w.flags c.number true false (omega arith);
-          rows = λ row less. absurd (omega arith);
-        },
-      )
-
-  -- a commit with a signal takes it
-  takes : 0 < w.signals → effect passed (Commit c.number) ≡ taken w c.number
-  takes there = cond-true (nat_lt 0 w.signals) (taken w c.number) (park passed c.number)
-      (lt-ltb 0 w.signals there)
-
-  -- and pushes nobody
-  pushes_not : (x : World) → 0 < x.signals → push_of c.number x (Commit c.number) ≡ 0
-  pushes_not x there = cond-true (nat_lt 0 x.signals) 0 (one_if (c.number == c.number))
-      (lt-ltb 0 x.signals there)
-
-  pub consume_fits : (x : Exchange) → c.phase ≡ Pre → 0 < w.signals
-      → Fitting k w (taken w c.number) (PassFlag c.number ∷ Commit c.number ∷ []) c (consuming c x)
-  consume_fits x pre there = let known = pre_known w c.number (is_pre pre) in record {
-    runs = (may_pass pre, (may_commit pre, takes there));
-    by = (refl, (refl, tt));
-    waiters = refl;
-    number = refl;
-    gains = refl;
-    waits = λ less. sym (get_or-set_same w.phases c.number Running Ended known);
-    notifies = λ le. refl;
-    owing = told.owing;
-    epoch = let none = pushes_not passed there in omega arith;
-    rowless = rowless_on (taken w c.number) refl refl;
-  }
-
-  pub consume_shows : (f : Fields) (e : ℕ) → f ≡ shown w e → c.phase ≡ Pre → 0 < w.signals
-      → consumed f ≡ shown (taken w c.number) e
-  consume_shows f e here pre there =
-      let phases = sizes.phases in
-      let lawful =
-      lawful_effect w (PassFlag c.number) (sizes.tokens ∙ sym phases) law (may_pass pre) in
-      ap consumed here ∙ ((word_follows passed e lawful).consume c.number (may_commit pre) there
-      ∙ ap (λ u. shown u e) (takes there))
 
   pub cancel_fits : (x : Exchange) → c.phase ≡ Pre
       → Fitting k w (effect w (Cancel c.number)) (Cancel c.number ∷ []) c (cancelling c x)
@@ -168,7 +129,11 @@ module _ (k : Sizes) (s : CountState) (history : List Event) (w : World)
     notifies = λ le. refl;
     owing = told.owing;
     epoch = omega arith;
-    rowless = rowless_on (effect w (Cancel c.number)) refl refl;
+    rows = refl;
+    flag = told.flag;
+    passed = told.passed;
+    announcing = told.announcing;
+    plain = rowless_on (effect w (Cancel c.number)) refl refl;
   }
 
   pub cancel_shows : (f : Fields) (e : ℕ) → f ≡ shown w e → c.phase ≡ Pre
@@ -183,11 +148,12 @@ module _ (k : Sizes) (s : CountState) (history : List Event) (w : World)
       (lt-ltb w.signals (length w.pre) less)
 
   -- and then nobody announces anything
-  still_silent : (actor : ℕ) → is_announcing (answered w c.number) actor ≡ false
-  still_silent actor = ⊎_elim
+  pub still_silent : k.rows ≡ 0 → (actor : ℕ) → is_announcing (answered w c.number) actor ≡ false
+  still_silent none_there actor = ⊎_elim
       (λ same. ap (λ n. is_announcing (answered w c.number) n) same
       ∙ get_or-set_default w.announcing c.number false)
-      (λ ne. get_or-set_other w.announcing c.number actor false false ne ∙ r.rowless.silent actor)
+      (λ ne. get_or-set_other w.announcing c.number actor false false ne
+      ∙ (r.plain none_there).silent actor)
       (cases_eq actor c.number)
 
   pub signal_fits : (x : Exchange) → c.phase ≡ Running → c.owing ≡ [] → w.signals < length w.pre
@@ -202,48 +168,17 @@ module _ (k : Sizes) (s : CountState) (history : List Event) (w : World)
     notifies = told.notifies;
     owing = told.owing;
     epoch = omega arith;
-    rowless = record { stop = r.rowless.stop; silent = still_silent };
+    rows = refl;
+    flag = told.flag;
+    passed = told.passed;
+    announcing = sym (get_or-set_default w.announcing c.number false);
+    plain = λ none_there. record { stop = (r.plain none_there).stop; silent = still_silent none_there };
   }
 
   pub signal_shows : (f : Fields) (e : ℕ) → f ≡ shown w e → w.signals < length w.pre
       → signalled f ≡ shown (answered w c.number) e
   signal_shows f e here less = ap signalled here
       ∙ ((word_follows w e law).signal c.number less ∙ ap (λ u. shown u e) (gives less))
-
-  -- a commit without a signal pushes
-  parks : w.signals ≡ 0 → effect passed (Commit c.number) ≡ park passed c.number
-  parks none = cond-false (nat_lt 0 w.signals) (taken w c.number) (park passed c.number)
-      (le-ltb 0 w.signals (omega arith))
-
-  push_once : w.signals ≡ 0 → push_of c.number passed (Commit c.number) ≡ 1
-  push_once none = cond-false (nat_lt 0 w.signals) 0 (one_if (c.number == c.number))
-      (le-ltb 0 w.signals (omega arith)) ∙ one_if-same c.number c.number refl
-
-  pub push_fits : (x : Exchange) → c.phase ≡ Pre → w.signals ≡ 0
-      → Fitting k w (park passed c.number) (PassFlag c.number ∷ Commit c.number ∷ []) c
-      (pushing c x)
-  push_fits x pre none = let known = pre_known w c.number (is_pre pre) in record {
-    runs = (may_pass pre, (may_commit pre, parks none));
-    by = (refl, (refl, tt));
-    waiters = refl;
-    number = refl;
-    gains = refl;
-    waits = λ less. sym (get_or-set_same w.phases c.number Stacked Ended known);
-    notifies = λ le. let phases = sizes.phases in absurd (omega arith);
-    owing = told.owing;
-    epoch = let once = push_once none in omega arith;
-    rowless = rowless_on (park passed c.number) refl refl;
-  }
-
-  pub push_shows : (f : Fields) (e at : ℕ) → f ≡ shown w e → c.phase ≡ Pre → w.signals ≡ 0
-      → pushed f c.number at ≡ shown (park passed c.number) at
-  push_shows f e at here pre none =
-      let phases = sizes.phases in
-      let lawful =
-      lawful_effect w (PassFlag c.number) (sizes.tokens ∙ sym phases) law (may_pass pre) in
-      ap (λ g. pushed g c.number at) here
-      ∙ ((word_follows passed e lawful).push c.number at (may_commit pre) none
-      ∙ ap (λ u. shown u at) (parks none))
 
   -- a notification without a pre-waiter to answer pops
   abbrev pub taken_off : ℕ → List ℕ → World
@@ -266,7 +201,11 @@ module _ (k : Sizes) (s : CountState) (history : List Event) (w : World)
         owing = ap (λ xs. xs ++ (fields_of x.expected).top ∷ []) told.owing
             ∙ (ap (λ n. owed_by w c.number ++ n ∷ []) looked ∙ sym mine);
         epoch = omega arith;
-        rowless = record { stop = r.rowless.stop; silent = still_silent };
+        rows = refl;
+        flag = told.flag;
+        passed = told.passed;
+        announcing = sym (get_or-set_default w.announcing c.number false);
+        plain = λ none_there. record { stop = (r.plain none_there).stop; silent = still_silent none_there };
       }
 
   pub pop_shows : (f next : Fields) (e top : ℕ) (rest : List ℕ) → f ≡ shown w e
@@ -304,7 +243,11 @@ module _ (k : Sizes) (s : CountState) (history : List Event) (w : World)
         notifies = told.notifies;
         owing = ap behind owing ∙ sym (get_or-set_same w.owed c.number rest [] (omega arith));
         epoch = omega arith;
-        rowless = rowless_on (unparked seat rest) refl refl;
+        rows = refl;
+        flag = told.flag;
+        passed = told.passed;
+        announcing = told.announcing;
+        plain = rowless_on (unparked seat rest) refl refl;
       }
 
   -- a seat whose card says that it is stacked is
@@ -325,7 +268,11 @@ module _ (k : Sizes) (s : CountState) (history : List Event) (w : World)
     notifies = λ le. refl;
     owing = told.owing;
     epoch = omega arith;
-    rowless = rowless_on (effect w (Wake c.number)) refl refl;
+    rows = refl;
+    flag = told.flag;
+    passed = told.passed;
+    announcing = told.announcing;
+    plain = rowless_on (effect w (Wake c.number)) refl refl;
   }
 
   -- a notification of all, which nobody stops
@@ -347,11 +294,36 @@ module _ (k : Sizes) (s : CountState) (history : List Event) (w : World)
             ∙ sym (get_or-set_same w.owed c.number (owed_by w c.number ++ w.stack) []
             (omega arith));
         epoch = omega arith;
-        rowless = record {
-          stop = ap (λ m. if m == 1 then 2 else m) r.rowless.stop;
-          silent = still_silent;
+        rows = refl;
+        flag = told.flag;
+        passed = told.passed;
+        announcing = sym (get_or-set_default w.announcing c.number false);
+        plain = λ none_there. record {
+          stop = ap (λ m. if m == 1 then 2 else m) (r.plain none_there).stop;
+          silent = still_silent none_there;
         };
       }
 
   pub all_shows : (f : Fields) (e : ℕ) → f ≡ shown w e → all_notified f ≡ shown emptied 0
   all_shows f e here = ap all_notified here ∙ (word_follows w e law).all c.number
+
+  -- the same by a load that found nobody to notify
+  pub hear_fits : (word : ℕ) → c.phase ≡ Running → c.owing ≡ [] → w.stack ≡ []
+      → Fitting k w emptied (NotifyAll c.number ∷ []) c (loading_by true c word)
+  hear_fits word running none empty =
+      let f = all_fits (exchange_of 0 0 0) running none in record {
+        runs = f.runs;
+        by = f.by;
+        waiters = refl;
+        number = refl;
+        gains = refl;
+        waits = f.waits;
+        notifies = f.notifies;
+        owing = sym (append-nil c.owing) ∙ (ap (λ xs. c.owing ++ xs) (sym empty) ∙ f.owing);
+        epoch = f.epoch;
+        rows = refl;
+        flag = f.flag;
+        passed = f.passed;
+        announcing = f.announcing;
+        plain = f.plain;
+      }

@@ -1,8 +1,9 @@
 -- The rule holds when nobody has done anything.
-use Rattle.std.proofs.Common.{◌≡◌, ℕ, zero, suc, ◌+◌, ◌-◌, ◌++◌, ◌≤◌, ◌<◌, nat_lt, false, List, []}
+use Rattle.std.proofs.Common.{◌≡◌, ◌≢◌, ℕ, zero, suc, ◌+◌, ◌-◌, ◌*◌, ◌++◌, ◌≤◌, ◌<◌, nat_lt, false, List, []}
 use Rattle.std.proofs.Common.{◌∷◌, length, map, replicate, slice_index, sym, ap, refl, ◌∙◌, subst}
 use Rattle.std.proofs.Common.{⊎_elim, arith, All, length-set, get_or-set_same, get_or-set_other}
 use Rattle.std.specs.List.{range_with_len}
+use Rattle.std.proofs.Math.Nat.{suc-mul}
 use Rattle.std.proofs.lemmas.Bool.{cases_eq, cases_lt, lt-ltb, le-ltb}
 use Rattle.std.proofs.lemmas.List.{length-replicate, get_or-replicate}
 use Rattle.std.proofs.lemmas.List.FromFn.{length-map-range_with_len}
@@ -14,32 +15,35 @@ use Rattle.event_word.specs.Fields.{fields_of}
 use Rattle.event_word.specs.Word.{nobody}
 use Rattle.event_word.specs.Lists.{one_if, times}
 use Rattle.event_word.proofs.Lists.{one_if-same, one_if-other, get_or-replicate_same}
-use Rattle.event_count.specs.declared.rule.TheConstants.{STATE}
-use Rattle.event_count.specs.declared.rule.Sizes.{Sizes}
+use Rattle.event_count.specs.declared.rule.TheConstants.{STOP, STATE}
+use Rattle.event_count.specs.declared.rule.RowSizes.{RowSizes}
 use Rattle.event_count.specs.declared.view.Card.{Card}
 use Rattle.event_count.specs.declared.view.View.{View}
-use Rattle.event_count.specs.Places.{parker_place, next_place, words_for, words_at_first}
-use Rattle.event_count.specs.Cards.{fresh, view, first_card, other_cards, card_in, undealt}
+use Rattle.event_count.specs.Places.{parker_place, next_place, row_place, words_for}
+use Rattle.event_count.specs.Places.{words_at_first}
+use Rattle.event_count.specs.Cards.{opening_card, view, first_card, other_cards, card_in, undealt}
 use Rattle.event_count.specs.Cards.{after_deal}
 use Rattle.event_count.specs.Plays.{Sat}
 use Rattle.event_count.specs.Written.{Written}
-use Rattle.event_count.specs.Known.{first_world, next_epoch, Agrees, Each}
+use Rattle.event_count.specs.Known.{world_at_first, next_epoch, Agrees, Each}
 use Rattle.event_count.specs.Kept.{Knows, Links}
+use Rattle.event_word.specs.Step.{row_limit}
+use Rattle.event_count.specs.Tickets.{card_credits, credits_for}
 use Rattle.event_count.specs.Shown.{ShowsWorld}
 use Rattle.event_count.proofs.Cards.{numbers}
 
 -- the cards from a number on
-abbrev pub fresh_from : Sizes → ℕ → ℕ → List Card
-fresh_from k from count = map (fresh k) (range_with_len from count)
+abbrev pub fresh_from : RowSizes → ℕ → ℕ → List Card
+fresh_from k from count = map (opening_card k) (range_with_len from count)
 
-All-fresh : (k : Sizes) (P : Card → Type 0) → ((n : ℕ) → P (fresh k n)) → (from count : ℕ)
+All-fresh : (k : RowSizes) (P : Card → Type 0) → ((n : ℕ) → P (opening_card k n)) → (from count : ℕ)
     → All P (fresh_from k from count)
 All-fresh k P each from zero = All-nil P
 All-fresh k P each from (suc count) =
-    All-cons P (fresh k from) (fresh_from k (from + 1) count) (each from)
+    All-cons P (opening_card k from) (fresh_from k (from + 1) count) (each from)
     (All-fresh k P each (from + 1) count)
 
-module _ (k : Sizes) (n : ℕ) where
+module _ (k : RowSizes) (n : ℕ) where
   times-below : (from count : ℕ) → n < from → times n (numbers (fresh_from k from count)) ≡ 0
   times-below from zero less = refl
   times-below from (suc count) less = let other = one_if-other from n (λ e. absurd (omega arith)) in
@@ -80,50 +84,64 @@ pub length-words_at_first : (waiters : ℕ) → length (words_at_first waiters) 
 length-words_at_first waiters =
     length-set (no_words waiters) STATE nobody ∙ length-replicate (words_for waiters) 0
 
-written_first : (k : Sizes)
-    → Written k (words_at_first k.waiters) (first_world k) (next_epoch k [])
+written_first : (k : RowSizes)
+    → Written k (words_at_first (k.waiters + k.rows)) (world_at_first k) (next_epoch k [])
 written_first k =
-    let long : length (no_words k.waiters) ≡ words_for k.waiters =
-    length-replicate (words_for k.waiters) 0 in
-    let here : slice_index (words_at_first k.waiters) STATE ≡ nobody =
-    get_or-set_same (no_words k.waiters) STATE nobody 0 (omega arith) in
+    let lines = k.waiters + k.rows in
+    let long : length (no_words lines) ≡ words_for lines = length-replicate (words_for lines) 0 in
+    let here : slice_index (words_at_first lines) STATE ≡ nobody =
+    get_or-set_same (no_words lines) STATE nobody 0 (omega arith) in
+    let elsewhere : (place : ℕ) → STATE ≢ place → slice_index (words_at_first lines) place ≡ 0 =
+    λ place ne. get_or-set_other (no_words lines) STATE place nobody 0 (λ e. ne (sym e))
+    ∙ get_or-replicate_same (words_for lines) 0 place in
     record {
-      room = length-words_at_first k.waiters;
+      room = length-words_at_first lines;
       pre = ap (λ n. (fields_of n).pre) here;
       signals = ap (λ n. (fields_of n).signals) here;
       stack = (ap (λ n. (fields_of n).top) here, ap (λ n. (fields_of n).epoch) here);
-      tokens = λ seat less.
-          get_or-set_other (no_words k.waiters) STATE (parker_place seat) nobody 0
-          (λ e. absurd (omega arith))
-          ∙ (get_or-replicate_same (words_for k.waiters) 0 (parker_place seat)
-          ∙ sym (ap one_if (get_or-replicate_same k.waiters false seat)));
+      tokens = λ seat less. elsewhere (parker_place seat) (λ e. absurd (omega arith))
+          ∙ sym (ap one_if (get_or-replicate_same k.waiters false seat));
+      stop = (λ _. refl, λ _. elsewhere STOP (λ e. absurd (omega arith)));
+      rows = λ row less. elsewhere (row_place lines row) (λ e. absurd (omega arith))
+          ∙ sym (get_or-replicate_same k.rows 0 row);
     }
 
-true_first : (k : Sizes) (n : ℕ)
-    → Agrees k [] (first_world k) (fresh k n)
+true_first : (k : RowSizes) (n : ℕ)
+    → Agrees k [] (world_at_first k) (opening_card k n)
 true_first k n = record {
   waiters = refl;
+  rows = refl;
   waits = λ less. sym (get_or-replicate k.waiters n Running Ended less);
   notifies = λ le. refl;
   owing = sym (get_or-replicate_same (k.waiters + k.notifiers) [] n);
   events = refl;
   epoch = omega arith;
+  flag = sym (get_or-replicate_same k.waiters false n);
+  passed = refl;
+  announcing = sym (get_or-replicate_same (k.waiters + k.notifiers) false n);
 }
 
-known_first : (k : Sizes) (n : ℕ)
-    → Knows (words_at_first k.waiters) (first_world k) (next_epoch k []) (fresh k n)
-known_first k n = record {
-  stores = get_or-set_other (no_words k.waiters) STATE (next_place n) nobody 0
+known_first : (k : RowSizes) (n : ℕ) → Knows (words_at_first (k.waiters + k.rows))
+    (world_at_first k) (next_epoch k []) (opening_card k n)
+known_first k n = let lines = k.waiters + k.rows in record {
+  stores = get_or-set_other (no_words lines) STATE (next_place n) nobody 0
       (λ e. absurd (omega arith))
-      ∙ get_or-replicate_same (words_for k.waiters) 0 (next_place n);
+      ∙ get_or-replicate_same (words_for lines) 0 (next_place n);
   past = λ ne. absurd (ne refl);
 }
 
-pub opens : (k : Sizes) → k.waiters ≤ 16382
-    → ShowsWorld k (opening (words_at_first k.waiters) [] (undealt k))
-opens k few =
-    let w = first_world k in
-    let words = words_at_first k.waiters in
+-- the credits of fresh cards
+credits_first : (k : RowSizes) (from count : ℕ)
+    → card_credits (fresh_from k from count) ≡ count * k.credits
+credits_first k from zero = omega arith
+credits_first k from (suc count) = let rest = credits_first k (from + 1) count in
+    let more = suc-mul count k.credits in omega arith
+
+pub opens : (k : RowSizes) → k.waiters ≤ 16382 → credits_for k ≤ row_limit
+    → ShowsWorld k (opening (words_at_first (k.waiters + k.rows)) [] (undealt k))
+opens k few few_credits =
+    let w = world_at_first k in
+    let words = words_at_first (k.waiters + k.rows) in
     let count = k.waiters + k.notifiers in (
       [],
       w,
@@ -137,41 +155,46 @@ opens k few =
             (All-fresh k (Knows words w (next_epoch k [])) (known_first k) 0 count);
         dealt = record {
           once = λ n. let all = times-fresh k n count in omega arith;
-          all = let all = length-map-range_with_len (fresh k) 0 count in omega arith;
+          all = let all = length-map-range_with_len (opening_card k) 0 count in omega arith;
         };
-        rowless = record { stop = refl; silent = get_or-replicate_same count false };
+        counted = record {
+          tickets = λ row. sym (get_or-replicate_same k.rows 0 row);
+          credits = let sum = credits_first k 0 count in omega arith;
+        };
+        few_credits = few_credits;
+        plain = λ none. record { stop = refl; silent = get_or-replicate_same count false };
         linked = each_one (Links words) (undealt k)
             (All-fresh k (Links words) (λ n. omega arith) 0 count);
       },
     )
 
 -- the first of the cards that are left, and the others
-fresh_from-first : (k : Sizes) (from count : ℕ) → 0 < count
-    → fresh_from k from count ≡ fresh k from ∷ fresh_from k (from + 1) (count - 1)
+fresh_from-first : (k : RowSizes) (from count : ℕ) → 0 < count
+    → fresh_from k from count ≡ opening_card k from ∷ fresh_from k (from + 1) (count - 1)
 fresh_from-first k from zero more = absurd (omega arith)
 fresh_from-first k from (suc count) more =
     let same : count ≡ suc count - 1 = omega arith in
-    ap (λ n. fresh k from ∷ fresh_from k (from + 1) n) same
+    ap (λ n. opening_card k from ∷ fresh_from k (from + 1) n) same
 
 -- one card more
-pub fresh_from-more : (k : Sizes) (from count : ℕ)
-    → fresh_from k from (count + 1) ≡ fresh_from k from count ++ fresh k (from + count) ∷ []
+pub fresh_from-more : (k : RowSizes) (from count : ℕ)
+    → fresh_from k from (count + 1) ≡ fresh_from k from count ++ opening_card k (from + count) ∷ []
 fresh_from-more k from zero =
-    let same : from ≡ from + 0 = omega arith in ap (λ n. fresh k n ∷ []) same
+    let same : from ≡ from + 0 = omega arith in ap (λ n. opening_card k n ∷ []) same
 fresh_from-more k from (suc count) =
     let same : from + 1 + count ≡ from + suc count = omega arith in
     let one_more : suc count + 1 ≡ suc (count + 1) = omega arith in
     ap (λ n. fresh_from k from n) one_more
-    ∙ ap (λ cards. fresh k from ∷ cards) (fresh_from-more k (from + 1) count
-    ∙ ap (λ n. fresh_from k (from + 1) count ++ fresh k n ∷ []) same)
+    ∙ ap (λ cards. opening_card k from ∷ cards) (fresh_from-more k (from + 1) count
+    ∙ ap (λ n. fresh_from k (from + 1) count ++ opening_card k n ∷ []) same)
 
-module _ (k : Sizes) (me : Sat) (from count : ℕ) (is : me ≡ (view (fresh_from k from count), []))
+module _ (k : RowSizes) (me : Sat) (from count : ℕ) (is : me ≡ (view (fresh_from k from count), []))
     (more : 0 < count) where
   pub some_left : 0 < length me.0.cards
   some_left = let same = ap (λ x. length x.0.cards) is in
-      let all = length-map-range_with_len (fresh k) from count in omega arith
+      let all = length-map-range_with_len (opening_card k) from count in omega arith
 
-  pub next_card : card_in me.0 ≡ fresh k from
+  pub next_card : card_in me.0 ≡ opening_card k from
   next_card = ap (λ x. card_in x.0) is ∙ ap first_card (fresh_from-first k from count more)
 
   pub others_left : (after : Sat) → after ≡ (after_deal me.0, me.1)

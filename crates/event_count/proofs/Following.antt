@@ -18,9 +18,9 @@ use Rattle.event_word.specs.Balance.{wake_of, over}
 use Rattle.event_word.proofs.Keeps.{pre_known}
 use Rattle.event_word.proofs.Frames.{alone_effect}
 use Rattle.event_word.proofs.Balancing.{balance}
-use Rattle.event_count.specs.declared.rule.Sizes.{Sizes}
+use Rattle.event_count.specs.declared.rule.RowSizes.{RowSizes}
 use Rattle.event_count.specs.declared.view.Card.{Card}
-use Rattle.event_count.specs.Known.{first_world, events_of, Agrees}
+use Rattle.event_count.specs.Known.{world_at_first, events_of, Agrees}
 use Rattle.event_count.specs.Shown.{CountState, Shows}
 use Rattle.event_count.specs.Counts.{wakes_in, CardCounts}
 use Rattle.event_count.specs.Laws.{SeatsStandOnce, ExchangesFoundNoSignal, CommitsFoundNoSignal}
@@ -40,11 +40,11 @@ Runs-rest w (x ∷ before) after u last r whole =
     Runs-rest (effect w x) before after u last r.1 whole.1
 
 -- in a history that is shown, what comes after a World is a run from there
-rest_of : (k : Sizes) (s : CountState) (history : List Event) (w : World) → Shows k s history w
+rest_of : (k : RowSizes) (s : CountState) (history : List Event) (w : World) → Shows k s history w
     → (before after : List Event) (u : World) → history ≡ before ++ after
-    → Runs (first_world k) before u → Runs u after w
-rest_of k s history w r before after u is runs = Runs-rest (first_world k) before after u w runs
-    (subst (λ h. Runs (first_world k) h w) is r.runs)
+    → Runs (world_at_first k) before u → Runs u after w
+rest_of k s history w r before after u is runs = Runs-rest (world_at_first k) before after u w runs
+    (subst (λ h. Runs (world_at_first k) h w) is r.runs)
 
 -- a commit that leaves its seat stacked found no signal
 pushed_by_none : (u : World) (seat : ℕ) → Possible u (Commit seat)
@@ -134,16 +134,16 @@ module _ (n : ℕ) where
       let here = wakes_in-cons w e (events_of n history) in
       let rest = wakes_in-events_of (effect w e) history in omega arith
 
-card_counts : (k : Sizes) (history : List Event) (w : World) (c : Card) → Agrees k history w c
+card_counts : (k : RowSizes) (history : List Event) (w : World) (c : Card) → Agrees k history w c
     → CardCounts k history c
 card_counts k history w c agrees = record {
   pushes = agrees.epoch;
-  wakes = ap wakes_in agrees.events ∙ wakes_in-events_of c.number (first_world k) history;
+  wakes = ap wakes_in agrees.events ∙ wakes_in-events_of c.number (world_at_first k) history;
 }
 
 pub counts_follow : CountsFollow
 counts_follow k s history w r = (
-  λ seat _. balance k.waiters k.notifiers 0 history w r.runs seat,
+  λ seat _. balance k.waiters k.notifiers k.rows history w r.runs seat,
   λ id v at. All-weaker (Agrees k history w) (CardCounts k history)
       (card_counts k history w) v.cards (r.known id v at),
 )

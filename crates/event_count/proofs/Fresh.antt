@@ -6,39 +6,57 @@ use Rattle.std.proofs.lemmas.List.{length-map}
 use Rattle.std.proofs.lemmas.List.Elements.{All-nil, All-cons}
 use Rattle.std.proofs.lemmas.List.FromFn.{length-map-range_with_len}
 use Rattle.event_count.specs.declared.rule.Sizes.{Sizes}
+use Rattle.event_count.specs.declared.rule.RowSizes.{RowSizes}
 use Rattle.event_count.specs.declared.seat.Seat.{Seat}
-use Rattle.event_count.specs.Cards.{fresh, fresh_cards, first_card, other_cards}
+use Rattle.event_count.specs.Cards.{opening_card, fresh, fresh_cards, rowless, first_card}
+use Rattle.event_count.specs.Cards.{other_cards}
 use Rattle.event_count.specs.Seats.{card_of, IsIdle}
+use Rattle.event_count.specs.Rows.Seats.{IsSilent}
 
-module _ (k : Sizes) where
+module _ (k : RowSizes) where
   -- there is one for each fresh card
   pub as_many : (seats : List Seat) (n : ℕ)
-      → map card_of seats ≡ map (fresh k) (range_with_len 0 n) → length seats ≡ n
+      → map card_of seats ≡ map (opening_card k) (range_with_len 0 n) → length seats ≡ n
   as_many seats n cards = sym (length-map seats card_of)
-      ∙ (ap length cards ∙ length-map-range_with_len (fresh k) 0 n)
+      ∙ (ap length cards ∙ length-map-range_with_len (opening_card k) 0 n)
 
   -- and they are idle
   pub all_idle : (seats : List Seat) (numbers : List ℕ)
-      → map card_of seats ≡ map (fresh k) numbers → All IsIdle seats
+      → map card_of seats ≡ map (opening_card k) numbers → All IsIdle seats
   all_idle [] numbers cards = All-nil IsIdle
   all_idle (seat ∷ seats) [] cards = absurd (omega (arith, ap length cards))
   all_idle (seat ∷ seats) (n ∷ numbers) cards =
-      let card : card_of seat ≡ fresh k n = ap first_card cards in
+      let card : card_of seat ≡ opening_card k n = ap first_card cards in
       All-cons IsIdle seat seats
       (record { running = ap (λ c. c.phase) card; owes_none = ap (λ c. c.owing) card })
       (all_idle seats numbers (ap other_cards cards))
 
+  -- and announce nothing
+  pub all_silent : (seats : List Seat) (numbers : List ℕ)
+      → map card_of seats ≡ map (opening_card k) numbers → All IsSilent seats
+  all_silent [] numbers cards = All-nil IsSilent
+  all_silent (seat ∷ seats) [] cards = absurd (omega (arith, ap length cards))
+  all_silent (seat ∷ seats) (n ∷ numbers) cards =
+      All-cons IsSilent seat seats (ap (λ c. c.announcing) (ap first_card cards))
+      (all_silent seats numbers (ap other_cards cards))
+
   -- and have the cards' numbers
-  pub map-number : (seats : List Seat) (numbers : List ℕ)
-      → map card_of seats ≡ map (fresh k) numbers
+  pub map-number_at : (seats : List Seat) (numbers : List ℕ)
+      → map card_of seats ≡ map (opening_card k) numbers
       → map (λ seat. (card_of seat).number) seats ≡ numbers
-  map-number [] [] cards = refl
-  map-number [] (n ∷ numbers) cards = absurd (omega (arith, ap length cards))
-  map-number (seat ∷ seats) [] cards = absurd (omega (arith, ap length cards))
-  map-number (seat ∷ seats) (n ∷ numbers) cards =
-      let card : card_of seat ≡ fresh k n = ap first_card cards in
-      let rest = map-number seats numbers (ap other_cards cards) in
+  map-number_at [] [] cards = refl
+  map-number_at [] (n ∷ numbers) cards = absurd (omega (arith, ap length cards))
+  map-number_at (seat ∷ seats) [] cards = absurd (omega (arith, ap length cards))
+  map-number_at (seat ∷ seats) (n ∷ numbers) cards =
+      let card : card_of seat ≡ opening_card k n = ap first_card cards in
+      let rest = map-number_at seats numbers (ap other_cards cards) in
       λ i. (card i).number ∷ rest i
+
+-- the same at a count alone
+pub map-number : (k : Sizes) (seats : List Seat) (numbers : List ℕ)
+    → map card_of seats ≡ map (fresh k) numbers
+    → map (λ seat. (card_of seat).number) seats ≡ numbers
+map-number k seats numbers cards = map-number_at (rowless k) seats numbers cards
 
 -- the same of a count that was perhaps made
 pub numbers_from_zero : {X E : Type 0} (made : Result X E) (seats : X → List Seat)

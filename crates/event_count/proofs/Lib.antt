@@ -21,3 +21,4 @@ pub mod TakingAll
 pub mod Totals
 pub mod Unparking
 pub mod Words
+pub mod RowSteps

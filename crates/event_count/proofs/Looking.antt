@@ -1,6 +1,8 @@
 -- What a loaded word shows.
 use Rattle.std.proofs.Common.{◌≢◌, ◌≡◌, ℕ, ◌<◌, List, [], ◌∷◌, ap, refl, ◌∙◌, slice_index, arith}
-use Rattle.std.proofs.Common.{length}
+use Rattle.std.proofs.Common.{length, Option, Some, None, IsSome, MatchBool, subst, sym, ne_eqb}
+use Rattle.std.specs.Option.{ForSome}
+use Rattle.event_word.specs.Fields.{fields_of}
 use mathlib.Core.Option.{some}
 use lib.ListN.{get_elem?}
 use Rattle.event_word.specs.Word.{nobody}
@@ -11,11 +13,10 @@ use Rattle.event_word.specs.World.{World, phase_of}
 use Rattle.event_word.proofs.Keeps.{pre_known, is_waiting, seat_known}
 use Rattle.event_word.specs.Lawful.{sleeps}
 use Rattle.event_count.specs.declared.rule.TheConstants.{STATE}
-use Rattle.event_count.specs.declared.rule.Sizes.{Sizes}
+use Rattle.event_count.specs.declared.rule.RowSizes.{RowSizes}
 use Rattle.event_count.specs.declared.view.Card.{Card}
 use Rattle.event_count.specs.declared.view.View.{View}
-use Rattle.event_count.specs.Cards.{only}
-use Rattle.event_count.specs.Gains.{looking, Fits}
+use Rattle.event_count.specs.Gains.{looking, reading, IsRead, Fits}
 use Rattle.event_count.specs.Shown.{CountState, ShowsWorld}
 use Rattle.event_count.specs.Written.{Leads, shown_fields}
 use Rattle.event_count.specs.Known.{next_epoch}
@@ -28,8 +29,8 @@ pub sleeps_known : (w : World) (n : ℕ) → 0 < sleeps (phase_of w n) → n < l
 sleeps_known w n more = seat_known w n (λ e. let none_there = ap sleeps e in absurd (omega arith))
 
 -- what a loaded word shows
-pub look_fits : (k : Sizes) (s : CountState) (id : ℕ) (v : View) (c : Card) → ShowsWorld k s
-    → get_elem? s.views id ≡ some v → v ≡ only c
+pub look_fits : (k : RowSizes) (s : CountState) (id : ℕ) (v : View) (c : Card) → ShowsWorld k s
+    → get_elem? s.views id ≡ some v → v.cards ≡ c ∷ []
     → Fits (looking c (slice_index s.words STATE)) (slice_index s.words STATE)
 look_fits k s id v c shows at is =
     let history = shows.0 in let w = shows.1 in let r = shows.2 in
@@ -64,6 +65,26 @@ look_fits k s id v c shows at is =
         let phases = (sizes k s shows.0 w r id v c at is).phases in
         let waiters = (truth k s shows.0 w r id v c at is).waiters in omega arith
 
+-- a word that names nobody shows an empty stack
+pub stack_none : (k : RowSizes) (s : CountState) (shows : ShowsWorld k s) (id : ℕ) (v : View)
+    (c : Card) → get_elem? s.views id ≡ some v → v.cards ≡ c ∷ []
+    → (shown_fields s.words).top ≡ nobody → shows.1.stack ≡ []
+stack_none k s shows id v c at is top =
+    let w = shows.1 in let r = shows.2 in by_stack w.stack refl r.written.stack
+  where
+    by_stack : (stack : List ℕ) → shows.1.stack ≡ stack
+        → Leads s.words (next_epoch k shows.0) shows.1.stack (shown_fields s.words)
+        → shows.1.stack ≡ []
+    by_stack [] e leads = e
+    by_stack (seat ∷ rest) e leads =
+        let w = shows.1 in let r = shows.2 in
+        let here = leads_top s.words (next_epoch k shows.0) w.stack (shown_fields s.words) leads
+        ∙ ap top_of e in
+        let stands = (law k s shows.0 w r id v c at is).standing seat in
+        let among = ap (times seat) e in let one = one_if-same seat seat refl in
+        let known = sleeps_known w seat (omega arith) in let few = r.few in
+        let phases = (sizes k s shows.0 w r id v c at is).phases in absurd (omega arith)
+
 -- a word that is loaded has a top that was pushed
 pub look_past : (words : List ℕ) (es : ℕ → ℕ) (stack : List ℕ)
     → Leads words es stack (shown_fields words)
@@ -71,3 +92,15 @@ pub look_past : (words : List ℕ) (es : ℕ → ℕ) (stack : List ℕ)
     → (shown_fields words).epoch < es (shown_fields words).top
 look_past words es [] leads ne = absurd (ne leads.0)
 look_past words es (seat ∷ rest) leads ne = let e = ap es leads.0 in let f = leads.1 in omega arith
+
+-- a next word that was loaded
+pub read_some : (o : Option ℕ) (c d : Card) → IsSome o → ForSome o (λ n. d ≡ reading c n)
+    → (n : ℕ) × (d ≡ reading c n)
+read_some None c d there reads = absurd (cc)
+read_some (Some n) c d there reads = (n, reads n refl)
+
+pub read_of : (word : ℕ) (c d : Card) → (fields_of word).top ≢ nobody
+    → (n : ℕ) × (d ≡ reading c n) → IsRead c word d
+read_of word c d there reads =
+    subst (λ b. MatchBool b (d ≡ c) ((n : ℕ) × (d ≡ reading c n)))
+    (sym (ne_eqb (fields_of word).top nobody there)) reads

@@ -13,7 +13,7 @@ use Rattle.event_word.specs.World.{World, phase_of}
 use Rattle.event_word.specs.Lawful.{waits}
 use Rattle.event_word.proofs.Keeps.{pre_known}
 use Rattle.event_word.proofs.Lists.{one_if-same, one_if-other}
-use Rattle.event_count.specs.declared.rule.Sizes.{Sizes}
+use Rattle.event_count.specs.declared.rule.RowSizes.{RowSizes}
 use Rattle.event_count.specs.declared.view.Card.{Card}
 use Rattle.event_count.specs.declared.view.View.{View}
 use Rattle.event_count.specs.Known.{numbers_in}
@@ -72,7 +72,7 @@ module _ (n : ℕ) where
       )
 
 -- a card's phase is that of the World, where it counts
-waits-card : (k : Sizes) (w : World) (c : Card) (n : ℕ)
+waits-card : (k : RowSizes) (w : World) (c : Card) (n : ℕ)
     → (c.number < k.waiters → c.phase ≡ phase_of w c.number)
     → (k.waiters ≤ c.number → c.phase ≡ Running) → length w.phases ≡ k.waiters → c.number ≡ n
     → waits c.phase ≡ waits (phase_of w n)

@@ -1,5 +1,5 @@
 -- The steps that make the stack add their events, and so keep the rule: a store below it, a push, a read and a pop.
-use Rattle.std.proofs.Common.{◌≢◌, ◌≡◌, ℕ, ◌+◌, ◌<◌, ◌==◌, List, [], ◌∷◌, sym, ap, refl, ◌∙◌, subst}
+use Rattle.std.proofs.Common.{◌≢◌, ◌≡◌, ℕ, ◌+◌, ◌<◌, ◌==◌, Bool, List, [], ◌∷◌, sym, ap, refl, ◌∙◌, subst}
 use Rattle.std.proofs.Common.{slice_index, arith, ◌++◌, append-nil, slice_set, Some, IfSome, length}
 use Rattle.std.proofs.Common.{zero, suc, ⊎_elim, get_or-set_same}
 use Rattle.std.proofs.lemmas.Bool.{cases_eq, cases_lt}
@@ -9,7 +9,7 @@ use lib.ListN.{get_elem?}
 use Rattle.atomic_table.specs.Table.{step, Allows}
 use Rattle.event_word.specs.declared.phase.Phase.TheVariants.{Running, Pre}
 use Rattle.event_word.specs.declared.event.Event.{Event}
-use Rattle.event_word.specs.declared.event.Event.TheVariants.{PassFlag, Commit, Notify}
+use Rattle.event_word.specs.declared.event.Event.TheVariants.{Notify}
 use Rattle.event_word.specs.Fields.{fields_of}
 use Rattle.event_word.specs.Word.{pushed, popped, below, nobody}
 use Rattle.event_word.specs.Lists.{one_if, times}
@@ -20,11 +20,12 @@ use Rattle.event_word.specs.World.{owed_by}
 use Rattle.event_word.specs.Step.{park}
 use Rattle.event_word.specs.Lawful.{sleeps}
 use Rattle.event_count.specs.declared.rule.TheConstants.{STATE}
-use Rattle.event_count.specs.declared.rule.Sizes.{Sizes}
+use Rattle.event_count.specs.declared.rule.RowSizes.{RowSizes}
 use Rattle.event_count.specs.declared.view.Card.{Card}
 use Rattle.event_count.specs.Places.{next_place}
 use Rattle.event_count.specs.Cards.{exchange_of, only, card_in}
-use Rattle.event_count.specs.Gains.{pushing, popping, reading, storing}
+use Rattle.event_count.specs.Gains.{commit_events, pushing_in, popping, reading, storing}
+use Rattle.event_count.specs.Kinds.{IsKind, MayCommit}
 use Rattle.event_count.specs.Plays.{Sat, pushes, pops, reads, stores}
 use Rattle.event_count.specs.Shown.{CountState, ShowsWorld}
 use Rattle.event_count.specs.Kept.{Knows, IsKept, Links}
@@ -32,10 +33,10 @@ use Rattle.event_count.specs.Written.{Leads, shown_fields, next_fields, Written}
 use Rattle.event_count.specs.Known.{next_epoch}
 use Rattle.event_count.proofs.Words.{word_shows, knows_on, frame_same, frame_push, next_state}
 use Rattle.event_count.proofs.Words.{next_next, leads_top, written_push, written_pop, written_next}
-use Rattle.event_count.proofs.Words.{links_on}
+use Rattle.event_count.proofs.Words.{links_on, same_rows}
 use Rattle.event_count.proofs.Steps.{acts, fits_none, epochs_after, pushes_none, truth, knowledge}
-use Rattle.event_count.proofs.Events.{law, is_pre, passed, push_fits, push_shows, taken_off}
-use Rattle.event_count.proofs.Events.{pop_fits, pop_shows}
+use Rattle.event_count.proofs.Events.{law, is_pre, taken_off, pop_fits, pop_shows}
+use Rattle.event_count.proofs.RowSteps.Committing.{alike, ready, push_fits, push_shows}
 use Rattle.event_count.proofs.Stepping.{After, Advances, Exchanging, ExchangeAllowed, allowed}
 use Rattle.event_count.proofs.Stepping.{same_epochs, exchange_adds, exchange_allowed}
 
@@ -45,24 +46,28 @@ set_same [] i = refl
 set_same (x ∷ xs) zero = refl
 set_same (x ∷ xs) (suc i) = ap (λ ys. x ∷ ys) (set_same xs i)
 
-module _ (k : Sizes) (slots id : ℕ) (me : Sat) (is : me.0 ≡ only (card_in me.0)) where
+module _ (k : RowSizes) (slots id : ℕ) (me : Sat) (is : me.0 ≡ only (card_in me.0)) where
   -- the card of the seat that steps
   abbrev c : Card
   c = card_in me.0
+
+  -- its view has this one card
+  has : me.0.cards ≡ c ∷ []
+  has = ap (λ v. v.cards) is
 
   -- a seat that is no stacked one is not on the stack
   off_stack : (s : CountState) (shows : ShowsWorld k s) (at : get_elem? s.views id ≡ some me.0)
       → c.phase ≡ Pre → times c.number shows.1.stack ≡ 0
   off_stack s shows at pre = let history = shows.0 in let w = shows.1 in let r = shows.2 in
-      let stands = (law k s history w r id me.0 c at is).standing c.number in
-      let phase = ap sleeps (is_pre k s history w r id me.0 c at is pre) in omega arith
+      let stands = (law k s history w r id me.0 c at has).standing c.number in
+      let phase = ap sleeps (is_pre k s history w r id me.0 c at has pre) in omega arith
 
   -- nor does anybody owe it
   off_owed : (s : CountState) (shows : ShowsWorld k s) (at : get_elem? s.views id ≡ some me.0)
       → c.phase ≡ Pre → (actor : ℕ) → times c.number (owed_by shows.1 actor) ≡ 0
   off_owed s shows at pre actor = let history = shows.0 in let w = shows.1 in let r = shows.2 in
-      let stands = (law k s history w r id me.0 c at is).standing c.number in
-      let phase = ap sleeps (is_pre k s history w r id me.0 c at is pre) in ⊎_elim
+      let stands = (law k s history w r id me.0 c at has).standing c.number in
+      let phase = ap sleeps (is_pre k s history w r id me.0 c at has pre) in ⊎_elim
       (λ less. let among = at-le-total (times c.number) w.owed actor [] less in omega arith)
       (λ le. ap (times c.number) (get_or_past w.owed actor [] le))
       (cases_lt actor (length w.owed))
@@ -75,8 +80,8 @@ module _ (k : Sizes) (slots id : ℕ) (me : Sat) (is : me.0 ≡ only (card_in me
       let d = storing c n in let place = next_place c.number in
       let es = next_epoch k history in let es' = next_epoch k (history ++ []) in
       let words' = slice_set s.words place n in
-      let f = fits_none k s history w r id me.0 c at is d refl refl refl refl refl refl in
-      let epochs = same_epochs k s history w r id me.0 c at is [] w d f refl in
+      let f = fits_none k s history w r id me.0 c at has d refl refl refl refl refl refl refl refl refl refl in
+      let epochs = same_epochs k s history w r id me.0 c at has [] w d f refl in
       let off = off_stack s shows at pre in
       let room = r.written.room in
       let frame = frame_same s.words words' w w es es' epochs
@@ -89,8 +94,9 @@ module _ (k : Sizes) (slots id : ℕ) (me : Sat) (is : me.0 ≡ only (card_in me
         (
           [],
           w,
-          acts k s history w r id me.0 c at is [] w d place n me.1 f record {
-            written = written_next k s.words es w r.written w es' c.number n refl epochs off;
+          acts k s history w r id me.0 c at has [] w d place n me.1 is refl refl f record {
+            written = written_next k s.words es w r.written w es' c.number n waiter refl epochs
+                off;
             mine = λ was. knows_on s.words words' w w es es' c.number c.stored n c.looked c.next frame
                 (get_or-set_same s.words place n 0 (omega arith)) was;
             others = λ x ne was.
@@ -98,7 +104,7 @@ module _ (k : Sizes) (slots id : ℕ) (me : Sat) (is : me.0 ≡ only (card_in me
                 (next_next s.words n c.number x.number ne ∙ was.stores) was;
             links = λ was. links_on s.words words' c.linked c.owing
                 (λ m owed. next_next s.words n c.number m (λ eq.
-                let mine = truth k s history w r id me.0 c at is in
+                let mine = truth k s history w r id me.0 c at has in
                 let off_list = off_owed s shows at pre c.number in
                 let a = ap (λ j. times j c.owing) eq in let b = ap (times c.number) mine.owing in
                 absurd (omega arith))) was;
@@ -122,46 +128,50 @@ module _ (k : Sizes) (slots id : ℕ) (me : Sat) (is : me.0 ≡ only (card_in me
       (λ _. stores (step slots p n 0 none) me n)) (sym at)
       (allowed k slots id me is (next_place c.number) n 0 (λ _. n) stores
       (λ s shows there small. store_adds n pre
-      (let t = (truth k s shows.0 shows.1 shows.2 id me.0 c there is).waiters in omega arith)
+      (let t = (truth k s shows.0 shows.1 shows.2 id me.0 c there has).waiters in omega arith)
       s shows there small))
 
   -- a commit that pushes: the next word has the looked stack and epoch
-  pub push_adds : (old new : ℕ) → c.phase ≡ Pre → (fields_of old).signals ≡ 0
+  pub push_adds : (rowed : Bool) (old new : ℕ) → IsKind rowed k → MayCommit rowed k c
+      → c.phase ≡ Pre → (fields_of old).signals ≡ 0
       → fields_of new ≡ pushed (fields_of old) c.number c.epoch
       → fields_of c.stored ≡ below (fields_of old)
-      → Exchanging k slots id me is pushes old new
-  push_adds old new pre none_given offered stored = exchange_adds k slots id me is pushing old new
-      (λ s shows at hit.
+      → Exchanging k slots id me is (pushes rowed) old new
+  push_adds rowed old new kind may pre none_given offered stored =
+      exchange_adds k slots id me is (pushing_in rowed) old new (λ s shows at hit.
       let history = shows.0 in let w = shows.1 in let r = shows.2 in
       let x = exchange_of old new old in let e = (shown_fields s.words).epoch in
       let here = ap fields_of (sym hit) ∙ word_shows k s shows in
       let given = ap (λ f. f.signals) here in
-      let events : List Event = PassFlag c.number ∷ Commit c.number ∷ [] in
-      let u = park (passed k s history w r id me.0 c at is) c.number in
-      let d = pushing c x in
+      let events : List Event = commit_events rowed c.number in
+      let same = alike k s history w r id me.0 c at has rowed in
+      let u = park (ready k s history w r id me.0 c at has rowed) c.number in
+      let stack : u.stack ≡ c.number ∷ w.stack = ap (λ xs. c.number ∷ xs) same.stack in
+      let d = pushing_in rowed c x in
       let es = next_epoch k history in let es' = next_epoch k (history ++ events) in
       let words' = slice_set s.words STATE new in
-      let f = push_fits k s history w r id me.0 c at is x pre (omega arith) in
-      let mine = truth k s history w r id me.0 c at is in
+      let f = push_fits k s history w r id me.0 c at has rowed kind may pre x (omega arith) in
+      let mine = truth k s history w r id me.0 c at has in
       let epochs : (m : ℕ) → es' m ≡ es m + one_if (c.number == m) = λ m.
-      let more = epochs_after k s history w r id me.0 c at is events m in ⊎_elim
+      let more = epochs_after k s history w r id me.0 c at has events m in ⊎_elim
       (λ eq. let once = f.epoch in let one = one_if-same c.number m eq in
-      let same = ap (λ j. over (push_of j) w events) eq in omega arith)
+      let alike_here = ap (λ j. over (push_of j) w events) eq in omega arith)
       (λ ne. let none_more = pushes_none c.number m (λ eq. ne (sym eq)) w events f.by in
       let none_here = one_if-other c.number m ne in omega arith)
       (cases_eq c.number m) in
-      let knows = knowledge k s history w r id me.0 c at is in
+      let knows = knowledge k s history w r id me.0 c at has in
       let under : next_fields s.words c.number ≡ below (shown_fields s.words) =
       ap fields_of knows.stores ∙ (stored ∙ ap (λ m. below (fields_of m)) (sym hit)) in
-      let frame = frame_push s.words words' w u es es' c.number epochs refl
+      let frame = frame_push s.words words' w u es es' c.number epochs stack
       (λ m. next_state s.words new m) in (
         events,
         u,
-        acts k s history w r id me.0 c at is events u d STATE new me.1 f record {
-          written = written_push k s.words es w r.written u es' new c.number refl refl epochs
+        acts k s history w r id me.0 c at has events u d STATE new me.1 is refl same.lengths f record {
+          written = written_push k s.words es w r.written u es' new c.number
+              (same_rows w u same.lengths same.stop) stack same.tokens epochs
               (off_stack s shows at pre)
-              (offered ∙ (push_shows k s history w r id me.0 c at is (fields_of old) e c.epoch here
-              pre (omega arith) ∙ ap (λ m. shown u m) mine.epoch))
+              (offered ∙ (push_shows k s history w r id me.0 c at has rowed kind may pre
+              (fields_of old) e c.epoch here (omega arith) ∙ ap (λ m. shown u m) mine.epoch))
               (ap (λ g. g.top) under) (ap (λ g. g.epoch) under);
           mine = λ was.
               knows_on s.words words' w u es es' c.number c.stored c.stored c.looked c.next frame
@@ -187,14 +197,14 @@ module _ (k : Sizes) (slots id : ℕ) (me : Sat) (is : me.0 ≡ only (card_in me
       let es = next_epoch k history in let es' = next_epoch k (history ++ []) in
       let words' = slice_set s.words place n in
       let same : words' ≡ s.words = set_same s.words place in
-      let f = fits_none k s history w r id me.0 c at is d refl refl refl refl refl refl in
-      let epochs = same_epochs k s history w r id me.0 c at is [] w d f refl in
+      let f = fits_none k s history w r id me.0 c at has d refl refl refl refl refl refl refl refl refl refl in
+      let epochs = same_epochs k s history w r id me.0 c at has [] w d f refl in
       let again : history ++ [] ≡ history = append-nil history in (
         d,
         (
           [],
           w,
-          acts k s history w r id me.0 c at is [] w d place n me.1 f record {
+          acts k s history w r id me.0 c at has [] w d place n me.1 is refl refl f record {
             written = subst (λ ws. Written k ws w es') (sym same)
                 (subst (λ h. Written k s.words w (next_epoch k h)) (sym again) r.written);
             mine = λ was. subst (λ ws. Knows ws w es' d) (sym same)
@@ -244,18 +254,18 @@ module _ (k : Sizes) (slots id : ℕ) (me : Sat) (is : me.0 ≡ only (card_in me
           let here = ap fields_of (sym hit) ∙ word_shows k s shows in
           let pre = ap (λ f. f.pre) here in let given = ap (λ f. f.signals) here in
           let events : List Event = Notify c.number ∷ [] in
-          let u = taken_off k s history w r id me.0 c at is top rest in
+          let u = taken_off k s history w r id me.0 c at has top rest in
           let d = popping c x in
           let es = next_epoch k history in let es' = next_epoch k (history ++ events) in
           let words' = slice_set s.words STATE new in
           let is_top : (fields_of old).top ≡ top =
           ap (λ f. f.top) here ∙ ap top_of stack in
-          let f = pop_fits k s history w r id me.0 c at is x top rest running none_owed
+          let f = pop_fits k s history w r id me.0 c at has x top rest running none_owed
           (omega arith) stack is_top in
-          let epochs = same_epochs k s history w r id me.0 c at is events u d f refl in
+          let epochs = same_epochs k s history w r id me.0 c at has events u d f refl in
           let leads = subst (λ xs. Leads s.words es xs (shown_fields s.words)) stack
           r.written.stack in
-          let knows = knowledge k s history w r id me.0 c at is in
+          let knows = knowledge k s history w r id me.0 c at has in
           let was_top : (fields_of c.looked).top ≡ top =
           ap (λ m. (fields_of m).top) looked ∙ is_top in
           let was_epoch : (fields_of c.looked).epoch ≡ (shown_fields s.words).epoch =
@@ -275,10 +285,11 @@ module _ (k : Sizes) (slots id : ℕ) (me : Sat) (is : me.0 ≡ only (card_in me
           (λ m more. (let a = ap (times m) stack in omega arith, next_state s.words new m)) in (
             events,
             u,
-            acts k s history w r id me.0 c at is events u d STATE new me.1 f record {
-              written = written_pop k s.words es w r.written u es' new top rest stack refl refl epochs
+            acts k s history w r id me.0 c at has events u d STATE new me.1 is refl refl f record {
+              written = written_pop k s.words es w r.written u es' new top rest
+                  (same_rows w u refl refl) stack refl refl epochs
                   (offered ∙ (ap (λ m. popped (fields_of old) (fields_of m)) (sym right)
-                  ∙ pop_shows k s history w r id me.0 c at is (fields_of old)
+                  ∙ pop_shows k s history w r id me.0 c at has (fields_of old)
                   (next_fields s.words top) e top rest here (omega arith) stack
                   (leads_top s.words es rest (next_fields s.words top) leads.2)));
               mine = λ was.
@@ -294,13 +305,14 @@ module _ (k : Sizes) (slots id : ℕ) (me : Sat) (is : me.0 ≡ only (card_in me
             },
           )
 
-  pub push_keeps : (old new : ℕ) → c.phase ≡ Pre → (fields_of old).signals ≡ 0
+  pub push_keeps : (rowed : Bool) (old new : ℕ) → IsKind rowed k → MayCommit rowed k c
+      → c.phase ≡ Pre → (fields_of old).signals ≡ 0
       → fields_of new ≡ pushed (fields_of old) c.number c.epoch
       → fields_of c.stored ≡ below (fields_of old)
-      → ExchangeAllowed k slots id me is pushes old new
-  push_keeps old new pre none_given offered stored =
-      exchange_allowed k slots id me is pushes old new
-      (push_adds old new pre none_given offered stored)
+      → ExchangeAllowed k slots id me is (pushes rowed) old new
+  push_keeps rowed old new kind may pre none_given offered stored =
+      exchange_allowed k slots id me is (pushes rowed) old new
+      (push_adds rowed old new kind may pre none_given offered stored)
 
   pub pop_keeps : (old new next : ℕ) → c.phase ≡ Running → c.owing ≡ [] → c.looked ≡ old
       → c.next ≡ Some next → (fields_of old).top ≢ nobody

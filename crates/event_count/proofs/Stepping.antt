@@ -1,5 +1,5 @@
 -- A step on the state word, by the seat of a table, that finds what it expects or misses it.
-use Rattle.std.proofs.Common.{◌≢◌, ◌≡◌, ℕ, ◌==◌, List, [], sym, ap, refl, ◌∙◌, subst}
+use Rattle.std.proofs.Common.{◌≢◌, ◌≡◌, ℕ, ◌==◌, List, [], ◌∷◌, sym, ap, refl, ◌∙◌, subst}
 use Rattle.std.proofs.Common.{slice_index, arith, MatchBool, eq-eqb, ne_eqb, ◌++◌, slice_set}
 use Rattle.std.proofs.Common.{◌<◌, ◌^◌}
 use Rattle.std.proofs.Common.{⊎_elim}
@@ -16,7 +16,7 @@ use Rattle.event_word.specs.Balance.{push_of, over}
 use Rattle.event_word.specs.Shown.{shown}
 use Rattle.event_word.specs.World.{World}
 use Rattle.event_count.specs.declared.rule.TheConstants.{STATE}
-use Rattle.event_count.specs.declared.rule.Sizes.{Sizes}
+use Rattle.event_count.specs.declared.rule.RowSizes.{RowSizes}
 use Rattle.event_count.specs.declared.view.Exchange.{Exchange}
 use Rattle.event_count.specs.declared.view.Card.{Card}
 use Rattle.event_count.specs.declared.view.View.{View}
@@ -29,12 +29,12 @@ use Rattle.event_count.specs.Kept.{Knows, Links}
 use Rattle.event_count.specs.Written.{shown_fields}
 use Rattle.event_count.specs.Known.{next_epoch}
 use Rattle.event_count.proofs.Words.{word_shows, knows_on, frame_same, next_state, written_still}
-use Rattle.event_count.proofs.Words.{links_on}
+use Rattle.event_count.proofs.Words.{links_on, SameRows, same_rows}
 use Rattle.event_count.proofs.Steps.{Fitting, Wording, acts, fits_none, epochs_after, pushes_none}
 
-module _ (k : Sizes) (s : CountState) (history : List Event) (w : World)
+module _ (k : RowSizes) (s : CountState) (history : List Event) (w : World)
     (r : Shows k s history w) (id : ℕ) (v : View) (c : Card)
-    (at : get_elem? s.views id ≡ some v) (is : v ≡ only c) where
+    (at : get_elem? s.views id ≡ some v) (is : v.cards ≡ c ∷ []) where
   -- the epochs before
   abbrev es : ℕ → ℕ
   es = next_epoch k history
@@ -51,13 +51,14 @@ module _ (k : Sizes) (s : CountState) (history : List Event) (w : World)
 
   -- a new state word with the stack as it was
   pub state_still : (events : List Event) (u : World) (d : Card) (n : ℕ)
-      → Fitting k w u events c d → d.epoch ≡ c.epoch → u.stack ≡ w.stack → u.tokens ≡ w.tokens
+      → Fitting k w u events c d → SameRows w u → d.epoch ≡ c.epoch → u.stack ≡ w.stack
+      → u.tokens ≡ w.tokens
       → fields_of n ≡ shown u (shown_fields s.words).epoch
       → (Knows (slice_set s.words STATE n) u (next_epoch k (history ++ events)) c
       → Knows (slice_set s.words STATE n) u (next_epoch k (history ++ events)) d)
       → (Links s.words c → Links (slice_set s.words STATE n) d)
       → Wording k s.words (slice_set s.words STATE n) w u es (next_epoch k (history ++ events)) c d
-  state_still events u d n f still stack tokens shows reads links =
+  state_still events u d n f same still stack tokens shows reads links =
       let words' = slice_set s.words STATE n in let es' = next_epoch k (history ++ events) in
       let epochs = same_epochs events u d f still in
       let frame = frame_same s.words words' w u es es' epochs
@@ -65,7 +66,7 @@ module _ (k : Sizes) (s : CountState) (history : List Event) (w : World)
       let on : (x : Card) → Knows s.words w es x → Knows words' u es' x = λ x was.
       knows_on s.words words' w u es es' x.number x.stored x.stored x.looked x.next frame
       (next_state s.words n x.number ∙ was.stores) was in record {
-        written = written_still k s.words es w r.written u es' n stack tokens epochs shows;
+        written = written_still k s.words es w r.written u es' n same stack tokens epochs shows;
         mine = λ was. reads (on c was);
         others = λ x _ was. on x was;
         links = λ was. links was;
@@ -73,10 +74,14 @@ module _ (k : Sizes) (s : CountState) (history : List Event) (w : World)
             links_on s.words words' x.linked x.owing (λ m _. next_state s.words n m) was;
       }
 
-module _ (k : Sizes) (slots id : ℕ) (me : Sat) (is : me.0 ≡ only (card_in me.0)) where
+module _ (k : RowSizes) (slots id : ℕ) (me : Sat) (is : me.0 ≡ only (card_in me.0)) where
   -- the card of the seat that steps
   abbrev pub c : Card
   c = card_in me.0
+
+  -- its view has this one card
+  pub has : me.0.cards ≡ c ∷ []
+  has = ap (λ v. v.cards) is
 
   -- what the step adds, after which the word at a place is n and the card is d, and no slot is taken
   abbrev pub After : (s : CountState) → ShowsWorld k s → ℕ → ℕ → Card → Type 0
@@ -108,16 +113,19 @@ module _ (k : Sizes) (slots id : ℕ) (me : Sat) (is : me.0 ≡ only (card_in me
     -- a step on the state word that is these events, and leaves the stack
     pub acted : (d : Card) → ((ws : List ℕ) → Links ws c → Links ws d)
         → (events : List Event) (u : World) (n : ℕ)
-        → Fitting k shows.1 u events c d → d.epoch ≡ c.epoch → u.stack ≡ shows.1.stack
+        → Fitting k shows.1 u events c d → SameRows shows.1 u → d.credits ≡ c.credits
+        → d.epoch ≡ c.epoch → u.stack ≡ shows.1.stack
         → u.tokens ≡ shows.1.tokens → fields_of n ≡ shown u (shown_fields s.words).epoch
         → (Knows (slice_set s.words STATE n) u (next_epoch k (shows.0 ++ events)) c
         → Knows (slice_set s.words STATE n) u (next_epoch k (shows.0 ++ events)) d)
         → After s shows STATE n d
-    acted d same events u n f still stack tokens is' reads = (
+    acted d same events u n f rows credits still stack tokens is' reads = (
       events,
       u,
-      acts k s shows.0 shows.1 shows.2 id me.0 c at is events u d STATE n me.1 f
-          (state_still k s shows.0 shows.1 shows.2 id me.0 c at is events u d n f still stack tokens
+      acts k s shows.0 shows.1 shows.2 id me.0 c at has events u d STATE n me.1 is credits
+          rows.lengths f
+          (state_still k s shows.0 shows.1 shows.2 id me.0 c at has events u d n f rows still stack
+          tokens
           is' reads
           (λ was. same (slice_set s.words STATE n)
           (links_on s.words (slice_set s.words STATE n) c.linked c.owing
@@ -127,9 +135,10 @@ module _ (k : Sizes) (slots id : ℕ) (me : Sat) (is : me.0 ≡ only (card_in me
     -- an exchange that found another word
     pub missed : (x : Exchange) → After s shows STATE (slice_index s.words STATE) (exchanging c x)
     missed x = acted (exchanging c x) (λ ws was. was) [] shows.1 (slice_index s.words STATE)
-        (fits_none k s shows.0 shows.1 shows.2 id me.0 c at is (exchanging c x)
-        refl refl refl refl refl refl)
-        refl refl refl (word_shows k s shows) (λ was. was)
+        (fits_none k s shows.0 shows.1 shows.2 id me.0 c at has (exchanging c x)
+        refl refl refl refl refl refl refl refl refl refl)
+        (same_rows shows.1 shows.1 refl refl) refl refl refl refl (word_shows k s shows)
+        (λ was. was)
 
   -- an exchange of the state word
   abbrev pub Exchanging : Gain → ℕ → ℕ → Type 0

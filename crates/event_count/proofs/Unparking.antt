@@ -19,7 +19,7 @@ use Rattle.event_word.specs.Shown.{top_of}
 use Rattle.event_word.specs.World.{World, phase_of, has_token, owed_by}
 use Rattle.event_word.specs.Step.{effect}
 use Rattle.event_word.proofs.Keeps.{stacked_known}
-use Rattle.event_count.specs.declared.rule.Sizes.{Sizes}
+use Rattle.event_count.specs.declared.rule.RowSizes.{RowSizes}
 use Rattle.event_count.specs.declared.view.Card.{Card}
 use Rattle.event_count.specs.Places.{next_place, parker_place}
 use Rattle.event_count.specs.Cards.{only, card_in}
@@ -30,7 +30,7 @@ use Rattle.event_count.specs.Kept.{Knows, Links, AreLinked, Chain}
 use Rattle.event_count.specs.Known.{next_epoch}
 use Rattle.event_count.specs.Written.{Written}
 use Rattle.event_count.proofs.Words.{knows_on, frame_same, next_parker, written_parker, links_on}
-use Rattle.event_count.proofs.Words.{links_behind}
+use Rattle.event_count.proofs.Words.{links_behind, SameRows, same_rows}
 use Rattle.event_count.proofs.Steps.{Fitting, acts, fits_none, truth, linkage}
 use Rattle.event_count.proofs.Events.{law, sizes, unparked, owed_known, unpark_fits}
 use Rattle.event_count.proofs.Events.{is_stacked, wake_fits}
@@ -43,26 +43,31 @@ set_token [] i e = refl
 set_token (x ∷ xs) zero e = ap (λ y. y ∷ xs) (sym e)
 set_token (x ∷ xs) (suc i) e = ap (λ ys. x ∷ ys) (set_token xs i e)
 
-module _ (k : Sizes) (slots id : ℕ) (me : Sat) (is : me.0 ≡ only (card_in me.0)) where
+module _ (k : RowSizes) (slots id : ℕ) (me : Sat) (is : me.0 ≡ only (card_in me.0)) where
   -- the card of the seat that steps
   abbrev c : Card
   c = card_in me.0
 
+  -- its view has this one card
+  has : me.0.cards ≡ c ∷ []
+  has = ap (λ v. v.cards) is
+
   -- a parker word of a seat, with its token
   parked : (s : CountState) (shows : ShowsWorld k s) (at : get_elem? s.views id ≡ some me.0)
       → (events : List Event) (u : World) (d : Card) (seat : ℕ) (b : Bool)
-      → Fitting k shows.1 u events c d → d.epoch ≡ c.epoch → u.stack ≡ shows.1.stack
+      → Fitting k shows.1 u events c d → SameRows shows.1 u → d.credits ≡ c.credits
+      → d.epoch ≡ c.epoch → u.stack ≡ shows.1.stack
       → u.pre ≡ shows.1.pre → u.signals ≡ shows.1.signals
       → u.tokens ≡ slice_set shows.1.tokens seat b → seat < k.waiters
       → ((words : List ℕ) (es : ℕ → ℕ) → Knows words u es c → Knows words u es d)
       → ((words : List ℕ) → Links words c → Links words d)
       → After k slots id me is s shows (parker_place seat) (one_if b) d
-  parked s shows at events u d seat b f still stack pre signals tokens known reads linked =
+  parked s shows at events u d seat b f rows credits still stack pre signals tokens known reads linked =
       let history = shows.0 in let w = shows.1 in let r = shows.2 in
       let es = next_epoch k history in let es' = next_epoch k (history ++ events) in
       let n = one_if b in
       let words' = slice_set s.words (parker_place seat) n in
-      let epochs = same_epochs k s history w r id me.0 c at is events u d f still in
+      let epochs = same_epochs k s history w r id me.0 c at has events u d f still in
       let frame = frame_same s.words words' w u es es' epochs
       (λ m there. (let e = ap (times m) stack in omega arith, next_parker s.words n seat m)) in
       let on : (x : Card) → Knows s.words w es x → Knows words' u es' x = λ x was.
@@ -70,9 +75,9 @@ module _ (k : Sizes) (slots id : ℕ) (me : Sat) (is : me.0 ≡ only (card_in me
       (next_parker s.words n seat x.number ∙ was.stores) was in (
         events,
         u,
-        acts k s history w r id me.0 c at is events u d (parker_place seat) n me.1 f record {
-          written = written_parker k s.words es w r.written u es' seat b stack (ap length pre) signals
-              tokens known (sizes k s history w r id me.0 c at is).tokens epochs;
+        acts k s history w r id me.0 c at has events u d (parker_place seat) n me.1 is credits rows.lengths f record {
+          written = written_parker k s.words es w r.written u es' seat b rows stack (ap length pre) signals
+              tokens known (sizes k s history w r id me.0 c at has).tokens epochs;
           mine = λ was. reads words' es' (on c was);
           others = λ x _ was. on x was;
           links = λ was. linked words'
@@ -89,9 +94,10 @@ module _ (k : Sizes) (slots id : ℕ) (me : Sat) (is : me.0 ≡ only (card_in me
       let history = shows.0 in let w = shows.1 in let r = shows.2 in (
         unparking c,
         parked s shows at (Unpark c.number ∷ [])
-            (unparked k s history w r id me.0 c at is seat rest) (unparking c) seat true
-            (unpark_fits k s history w r id me.0 c at is seat rest owing) refl
-            refl refl refl refl (owed_known k s history w r id me.0 c at is seat rest owing)
+            (unparked k s history w r id me.0 c at has seat rest) (unparking c) seat true
+            (unpark_fits k s history w r id me.0 c at has seat rest owing)
+            (same_rows w (unparked k s history w r id me.0 c at has seat rest) refl refl) refl refl
+            refl refl refl refl (owed_known k s history w r id me.0 c at has seat rest owing)
             (λ words es was. was) (λ words was. links_behind words c.linked c.owing was),
         (ap (λ xs. parker_place (foremost xs)) (sym owing), refl),
       )
@@ -102,9 +108,9 @@ module _ (k : Sizes) (slots id : ℕ) (me : Sat) (is : me.0 ≡ only (card_in me
   wake_adds stacked s shows at _ =
       let history = shows.0 in let w = shows.1 in let r = shows.2 in
       let place = parker_place c.number in let word = slice_index s.words place in
-      let phase = is_stacked k s history w r id me.0 c at is stacked in
+      let phase = is_stacked k s history w r id me.0 c at has stacked in
       let waiter : c.number < k.waiters = let known = stacked_known w c.number phase in
-      let phases = (sizes k s history w r id me.0 c at is).phases in omega arith in
+      let phases = (sizes k s history w r id me.0 c at has).phases in omega arith in
       let token = r.written.tokens c.number waiter in
       by_token s shows at phase waiter token (has_token w c.number) refl
     where
@@ -120,7 +126,8 @@ module _ (k : Sizes) (slots id : ℕ) (me : Sat) (is : me.0 ≡ only (card_in me
           let d = polling c in let won = only (waking d) in let one = token ∙ ap one_if there in (
             waking d,
             parked s shows at (Wake c.number ∷ []) (effect w (Wake c.number)) (waking d) c.number
-                false (wake_fits k s history w r id me.0 c at is stacked there) refl
+                false (wake_fits k s history w r id me.0 c at has stacked there)
+                (same_rows w (effect w (Wake c.number)) refl refl) refl refl
                 refl refl refl refl waiter (λ words es was. was) (λ words was. was),
             (refl, refl, subst (λ m. MatchBool (m == 0) (won ≡ only d) (won ≡ won)) (sym one) refl),
           )
@@ -130,8 +137,8 @@ module _ (k : Sizes) (slots id : ℕ) (me : Sat) (is : me.0 ≡ only (card_in me
           let none_there = token ∙ ap one_if there in (
             d,
             parked s shows at [] w d c.number false
-                (fits_none k s history w r id me.0 c at is d refl refl refl refl refl refl) refl
-                refl refl refl (sym (set_token w.tokens c.number there)) waiter
+                (fits_none k s history w r id me.0 c at has d refl refl refl refl refl refl refl refl refl refl)
+                (same_rows w w refl refl) refl refl refl refl refl (sym (set_token w.tokens c.number there)) waiter
                 (λ words es was. was) (λ words was. was),
             (
               refl,
@@ -163,15 +170,15 @@ module _ (k : Sizes) (slots id : ℕ) (me : Sat) (is : me.0 ≡ only (card_in me
   owed_waiter : (s : CountState) (shows : ShowsWorld k s) (at : get_elem? s.views id ≡ some me.0)
       → (n : ℕ) → 0 < times n c.owing → (n < c.waiters) × (c.waiters < nobody)
   owed_waiter s shows at n more = let history = shows.0 in let w = shows.1 in let r = shows.2 in
-      let stands = (law k s history w r id me.0 c at is).standing n in
-      let mine = truth k s history w r id me.0 c at is in
+      let stands = (law k s history w r id me.0 c at has).standing n in
+      let mine = truth k s history w r id me.0 c at has in
       let owed = ap (times n) mine.owing in let waiters = mine.waiters in let few = r.few in
       let among : times n (owed_by w c.number) ≤ total (times n) w.owed = ⊎_elim
       (λ less. at-le-total (times n) w.owed c.number [] less)
       (λ le. let none_there = ap (times n) (get_or_past w.owed c.number [] le) in omega arith)
       (cases_lt c.number (length w.owed)) in
       let known = sleeps_known w n (omega arith) in
-      let phases = (sizes k s history w r id me.0 c at is).phases in (omega arith, omega arith)
+      let phases = (sizes k s history w r id me.0 c at has).phases in (omega arith, omega arith)
 
   pub names_first : (s : CountState) (shows : ShowsWorld k s)
       (at : get_elem? s.views id ≡ some me.0)
@@ -191,17 +198,17 @@ module _ (k : Sizes) (slots id : ℕ) (me : Sat) (is : me.0 ≡ only (card_in me
       let words' = slice_set s.words place n in
       let same : words' ≡ s.words = set_same s.words place in
       let es' = next_epoch k (history ++ []) in
-      let f = fits_none k s history w r id me.0 c at is c refl refl refl refl refl refl in
+      let f = fits_none k s history w r id me.0 c at has c refl refl refl refl refl refl refl refl refl refl in
       let again : history ++ [] ≡ history = append-nil history in
       let on : (x : Card) → Knows s.words w (next_epoch k history) x → Knows words' w es' x =
       λ x was. subst (λ ws. Knows ws w es' x) (sym same)
       (subst (λ h. Knows s.words w (next_epoch k h) x) (sym again) was) in
-      let links = linkage k s history w r id me.0 c at is in (
+      let links = linkage k s history w r id me.0 c at has in (
         c,
         (
           [],
           w,
-          acts k s history w r id me.0 c at is [] w c place n me.1 f record {
+          acts k s history w r id me.0 c at has [] w c place n me.1 is refl refl f record {
             written = subst (λ ws. Written k ws w es') (sym same)
                 (subst (λ h. Written k s.words w (next_epoch k h)) (sym again) r.written);
             mine = λ was. on c was;

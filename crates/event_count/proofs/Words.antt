@@ -1,5 +1,6 @@
 -- What each kind of step does to the words, and to what cards know of them.
-use Rattle.std.proofs.Common.{◌≡◌, ◌≢◌, ℕ, ◌+◌, ◌%◌, ◌/◌, ◌^◌, ◌<◌, ◌≤◌, ◌==◌, List, [], ◌∷◌, set}
+use Rattle.std.proofs.Common.{◌≡◌, ◌≢◌, ◌↔◌, ℕ, ◌+◌, ◌%◌, ◌/◌, ◌^◌, ◌<◌, ◌≤◌, ◌==◌, List, []}
+use Rattle.std.proofs.Common.{◌∷◌, set}
 use Rattle.std.proofs.Common.{sym, ap, ◌∙◌, refl, slice_index, Option, Some, None, IfSome, Bool}
 use Rattle.std.proofs.Common.{true, false, subst, arith, length-set, get_or-set_same}
 use Rattle.std.proofs.Common.{get_or-set_other, length, get_or, ⊎_elim}
@@ -9,11 +10,11 @@ use Rattle.event_word.specs.Fields.{fields, fields_of}
 use Rattle.event_word.specs.Word.{prewaited}
 use Rattle.event_word.specs.Lists.{one_if, times}
 use Rattle.event_word.specs.Shown.{top_of, shown}
-use Rattle.event_word.specs.World.{World, has_token}
+use Rattle.event_word.specs.World.{World, has_token, length_of}
 use Rattle.event_word.proofs.Lists.{one_if-same, one_if-other}
-use Rattle.event_count.specs.declared.rule.TheConstants.{STATE}
-use Rattle.event_count.specs.declared.rule.Sizes.{Sizes}
-use Rattle.event_count.specs.Places.{next_place, parker_place}
+use Rattle.event_count.specs.declared.rule.TheConstants.{STOP, STATE}
+use Rattle.event_count.specs.declared.rule.RowSizes.{RowSizes}
+use Rattle.event_count.specs.Places.{next_place, parker_place, row_place}
 use Rattle.event_count.specs.Shown.{CountState, ShowsWorld}
 use Rattle.event_count.specs.Written.{shown_fields, next_fields, Leads, Written}
 use Rattle.event_count.specs.Kept.{IsKept, KnowsWords, Chain, AreLinked}
@@ -184,7 +185,32 @@ module _ (words : List ℕ) (n : ℕ) where
   state_parker seat =
       get_or-set_other words (parker_place seat) STATE n 0 (λ e. absurd (omega arith))
 
-module _ (k : Sizes) (words : List ℕ) (es : ℕ → ℕ) (w : World) (r : Written k words w es) where
+-- an event leaves the rows and the stop word
+pub record SameRows (w u : World) : Type 0 where
+  pub lengths : u.lengths ≡ w.lengths
+  pub stop : (u.stop ≡ 0) ↔ (w.stop ≡ 0)
+
+pub same_rows : (w u : World) → u.lengths ≡ w.lengths → u.stop ≡ w.stop → SameRows w u
+same_rows w u lengths stop =
+    record { lengths = lengths; stop = (λ e. sym stop ∙ e, λ e. stop ∙ e) }
+
+module _ (k : RowSizes) (words : List ℕ) (es : ℕ → ℕ) (w : World) (r : Written k words w es) where
+  module _ (u : World) (same : SameRows w u) (place n : ℕ) where
+    -- so do other words than the stop word and those of rows
+    pub stop_kept : place ≢ STOP
+        → (slice_index (set words place n) STOP ≡ 0) ↔ (u.stop ≡ 0)
+    stop_kept ne = let other = get_or-set_other words place STOP n 0 (λ e. ne (sym e)) in (
+      λ e. same.stop.1 (r.stop.0 (sym other ∙ e)),
+      λ e. other ∙ r.stop.1 (same.stop.0 e),
+    )
+
+    pub rows_kept : ((row : ℕ) → row < k.rows → row_place (k.waiters + k.rows) row ≢ place)
+        → (row : ℕ) → row < k.rows
+        → slice_index (set words place n) (row_place (k.waiters + k.rows) row) ≡ length_of u row
+    rows_kept apart row less =
+        get_or-set_other words place (row_place (k.waiters + k.rows) row) n 0 (apart row less)
+        ∙ (r.rows row less ∙ ap (λ ls. slice_index ls row) (sym same.lengths))
+
   -- the epoch of the top
   abbrev pub top_epoch : ℕ
   top_epoch = (shown_fields words).epoch
@@ -196,27 +222,30 @@ module _ (k : Sizes) (words : List ℕ) (es : ℕ → ℕ) (w : World) (r : Writ
 
   module _ (u : World) (es' : ℕ → ℕ) (n : ℕ) where
     -- another state word, whose fields lead down the stack of another World
-    pub written_state : u.tokens ≡ w.tokens → (e : ℕ) → fields_of n ≡ shown u e
+    pub written_state : SameRows w u → u.tokens ≡ w.tokens → (e : ℕ) → fields_of n ≡ shown u e
         → Leads (set words STATE n) es' u.stack (fields_of n) → Written k (set words STATE n) u es'
-    written_state tokens e is leads =
+    written_state same tokens e is leads =
         let room = r.room in
-        let same = get_or-set_same words STATE n 0 (omega arith) in
-        let here = ap fields_of same ∙ is in
+        let placed = get_or-set_same words STATE n 0 (omega arith) in
+        let here = ap fields_of placed ∙ is in
         record {
           room = length-set words STATE n ∙ r.room;
           pre = ap (λ f. f.pre) here;
           signals = ap (λ f. f.signals) here;
-          stack = subst (λ m. Leads (set words STATE n) es' u.stack (fields_of m)) (sym same) leads;
+          stack = subst (λ m. Leads (set words STATE n) es' u.stack (fields_of m)) (sym placed)
+              leads;
           tokens = λ seat less.
               get_or-set_other words STATE (parker_place seat) n 0 (λ e. absurd (omega arith))
               ∙ (r.tokens seat less
               ∙ ap (λ ts. one_if (get_or ts seat false)) (sym tokens));
+          stop = stop_kept u same STATE n (λ e. absurd (omega arith));
+          rows = rows_kept u same STATE n (λ row less e. absurd (omega arith));
         }
 
     -- the same where the stack is as it was
-    pub written_still : u.stack ≡ w.stack → u.tokens ≡ w.tokens → ((m : ℕ) → es' m ≡ es m)
+    pub written_still : SameRows w u → u.stack ≡ w.stack → u.tokens ≡ w.tokens → ((m : ℕ) → es' m ≡ es m)
         → fields_of n ≡ shown u top_epoch → Written k (set words STATE n) u es'
-    written_still stack tokens epochs is = written_state tokens top_epoch is
+    written_still same stack tokens epochs is = written_state same tokens top_epoch is
         (subst (λ xs. Leads (set words STATE n) es' xs (fields_of n)) (sym stack)
         (leads_fields (set words STATE n) es' w.stack (shown_fields words) (fields_of n)
         (ap (λ f. f.top) is ∙ (ap top_of stack
@@ -226,15 +255,15 @@ module _ (k : Sizes) (words : List ℕ) (es : ℕ → ℕ) (w : World) (r : Writ
         (λ m _. (epochs m, next_state words n m)) r.stack)))
 
     -- a push, whose next word has the stack and epoch that were there
-    pub written_push : (seat : ℕ) → u.stack ≡ seat ∷ w.stack → u.tokens ≡ w.tokens
+    pub written_push : (seat : ℕ) → SameRows w u → u.stack ≡ seat ∷ w.stack → u.tokens ≡ w.tokens
         → ((m : ℕ) → es' m ≡ es m + one_if (seat == m)) → times seat w.stack ≡ 0
         → fields_of n ≡ shown u (es seat)
         → (next_fields words seat).top ≡ (shown_fields words).top
         → (next_fields words seat).epoch ≡ (shown_fields words).epoch
         → Written k (set words STATE n) u es'
-    written_push seat stack tokens epochs apart is top epoch =
+    written_push seat kept stack tokens epochs apart is top epoch =
         let more = epochs seat in let one = one_if-same seat seat refl in
-        written_state tokens (es seat) is
+        written_state kept tokens (es seat) is
         (subst (λ xs. Leads (set words STATE n) es' xs (fields_of n)) (sym stack) (
           ap (λ f. f.top) is ∙ ap top_of stack,
           let at = ap (λ f. f.epoch) is in omega arith,
@@ -253,12 +282,12 @@ module _ (k : Sizes) (words : List ℕ) (es : ℕ → ℕ) (w : World) (r : Writ
         ))
 
     -- a pop, where the word is made of the next word of the top
-    pub written_pop : (seat : ℕ) (rest : List ℕ) → w.stack ≡ seat ∷ rest → u.stack ≡ rest
+    pub written_pop : (seat : ℕ) (rest : List ℕ) → SameRows w u → w.stack ≡ seat ∷ rest → u.stack ≡ rest
         → u.tokens ≡ w.tokens → ((m : ℕ) → es' m ≡ es m)
         → fields_of n ≡ shown u (next_fields words seat).epoch → Written k (set words STATE n) u es'
-    written_pop seat rest was stack tokens epochs is =
+    written_pop seat rest same was stack tokens epochs is =
         let old = subst (λ xs. Leads words es xs (shown_fields words)) was r.stack in
-        written_state tokens (next_fields words seat).epoch is
+        written_state same tokens (next_fields words seat).epoch is
         (subst (λ xs. Leads (set words STATE n) es' xs (fields_of n)) (sym stack)
         (leads_fields (set words STATE n) es' rest (next_fields words seat) (fields_of n)
         (ap (λ f. f.top) is ∙ (ap top_of stack
@@ -268,9 +297,9 @@ module _ (k : Sizes) (words : List ℕ) (es : ℕ → ℕ) (w : World) (r : Writ
         (λ m _. (epochs m, next_state words n m)) old.2)))
 
   -- the next word of a seat that is not on the stack
-  pub written_next : (u : World) (es' : ℕ → ℕ) (seat n : ℕ) → u ≡ w → ((m : ℕ) → es' m ≡ es m)
+  pub written_next : (u : World) (es' : ℕ → ℕ) (seat n : ℕ) → seat < k.waiters → u ≡ w → ((m : ℕ) → es' m ≡ es m)
       → times seat w.stack ≡ 0 → Written k (set words (next_place seat) n) u es'
-  written_next u es' seat n same epochs apart =
+  written_next u es' seat n waiter same epochs apart =
       let here = ap fields_of (state_next words n seat) in
       let words' = set words (next_place seat) n in subst (λ x. Written k words' x es') (sym same)
       record {
@@ -287,14 +316,18 @@ module _ (k : Sizes) (words : List ℕ) (es : ℕ → ℕ) (w : World) (r : Writ
         tokens = λ other less.
             get_or-set_other words (next_place seat) (parker_place other) n 0
             (λ e. absurd (omega arith)) ∙ r.tokens other less;
+        stop = stop_kept w (same_rows w w refl refl) (next_place seat) n
+            (λ e. absurd (omega arith));
+        rows = rows_kept w (same_rows w w refl refl) (next_place seat) n
+            (λ row less e. absurd (omega arith));
       }
 
   -- the parker word of a seat, with its token
-  pub written_parker : (u : World) (es' : ℕ → ℕ) (seat : ℕ) (b : Bool) → u.stack ≡ w.stack
+  pub written_parker : (u : World) (es' : ℕ → ℕ) (seat : ℕ) (b : Bool) → SameRows w u → u.stack ≡ w.stack
       → length u.pre ≡ length w.pre → u.signals ≡ w.signals → u.tokens ≡ set w.tokens seat b
       → seat < k.waiters → length w.tokens ≡ k.waiters → ((m : ℕ) → es' m ≡ es m)
       → Written k (set words (parker_place seat) (one_if b)) u es'
-  written_parker u es' seat b stack pre signals tokens known sized epochs =
+  written_parker u es' seat b same stack pre signals tokens known sized epochs =
       let n = one_if b in
       let here = ap fields_of (state_parker words n seat) in
       let words' = set words (parker_place seat) n in
@@ -318,9 +351,11 @@ module _ (k : Sizes) (words : List ℕ) (es : ℕ → ℕ) (w : World) (r : Writ
             ∙ (sym (ap one_if (get_or-set_other w.tokens seat other b false ne))
             ∙ ap (λ ts. one_if (get_or ts other false)) (sym tokens))))
             (cases_eq other seat);
+        stop = stop_kept u same (parker_place seat) n (λ e. absurd (omega arith));
+        rows = rows_kept u same (parker_place seat) n (λ row less e. absurd (omega arith));
       }
 
 -- the same of a table
-pub word_shows : (k : Sizes) (s : CountState) (shows : ShowsWorld k s)
+pub word_shows : (k : RowSizes) (s : CountState) (shows : ShowsWorld k s)
     → shown_fields s.words ≡ shown shows.1 (shown_fields s.words).epoch
 word_shows k s shows = shown_fields-shown k s.words (next_epoch k shows.0) shows.1 shows.2.written

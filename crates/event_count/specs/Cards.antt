@@ -1,9 +1,11 @@
 -- What a seat knows, and how its knowledge is dealt out and put together.
-use Rattle.std.specs.Prelude.{ℕ, ◌+◌, List, [], ◌∷◌, ◌++◌, map, None, false}
+use Rattle.std.specs.Prelude.{ℕ, ◌+◌, List, [], ◌∷◌, ◌++◌, map, replicate, slice_index_or, None}
+use Rattle.std.specs.Prelude.{false}
 use Rattle.std.specs.List.{range_with_len}
 use Rattle.event_word.specs.declared.phase.Phase.TheVariants.{Running}
 use Rattle.event_word.specs.Word.{nobody}
 use Rattle.event_count.specs.declared.rule.Sizes.{Sizes}
+use Rattle.event_count.specs.declared.rule.RowSizes.{RowSizes}
 use Rattle.event_count.specs.declared.view.Exchange.{Exchange}
 use Rattle.event_count.specs.declared.view.Card.{Card}
 use Rattle.event_count.specs.declared.view.View.{View}
@@ -12,11 +14,26 @@ abbrev pub exchange_of : ℕ → ℕ → ℕ → Exchange
 exchange_of expected offered found =
     record { expected = expected; offered = offered; found = found }
 
+-- the sizes of a count alone
+abbrev pub rowless : Sizes → RowSizes
+rowless k = record {
+  waiters = k.waiters;
+  notifiers = k.notifiers;
+  first = k.first;
+  rows = 0;
+  credits = 0;
+}
+
+-- the sizes without those of rows
+abbrev pub sizes_in : RowSizes → Sizes
+sizes_in k = record { waiters = k.waiters; notifiers = k.notifiers; first = k.first }
+
 -- A seat of this number that has done nothing. Its looked word is that of an empty stack, so that
 -- it names no seat as the top.
-abbrev pub fresh : Sizes → ℕ → Card
-fresh k number = record {
+abbrev pub opening_card : RowSizes → ℕ → Card
+opening_card k number = record {
   waiters = k.waiters;
+  rows = k.rows;
   number = number;
   phase = Running;
   owing = [];
@@ -30,10 +47,23 @@ fresh k number = record {
   exchanges = 0;
   exchange = exchange_of 0 0 0;
   polls = 0;
+  passed_flag = false;
+  passed = slice_index_or (replicate k.waiters (replicate k.rows false)) number [];
+  announcing = false;
+  credits = k.credits;
+  found = 0;
 }
 
+-- the same at a count alone
+abbrev pub fresh : Sizes → ℕ → Card
+fresh k number = opening_card (rowless k) number
+
 abbrev pub view : List Card → View
-view cards = record { cards = cards }
+view cards = record { cards = cards; tickets = []; credits = 0 }
+
+-- the view of a seat that has these tickets too
+abbrev pub holding : List ℕ → Card → View
+holding tickets card = record { cards = card ∷ []; tickets = tickets; credits = 0 }
 
 -- the view of a seat in use
 abbrev pub only : Card → View
@@ -54,24 +84,32 @@ abbrev pub card_in : View → Card
 card_in v = first_card v.cards
 
 -- the cards of all seats, by number
+abbrev pub opening_cards : RowSizes → List Card
+opening_cards k = map (opening_card k) (range_with_len 0 (k.waiters + k.notifiers))
+
+-- the same at a count alone
 abbrev pub fresh_cards : Sizes → List Card
-fresh_cards k = map (fresh k) (range_with_len 0 (k.waiters + k.notifiers))
+fresh_cards k = opening_cards (rowless k)
 
 -- before any card is dealt
-abbrev pub undealt : Sizes → View
-undealt k = view (fresh_cards k)
+abbrev pub undealt : RowSizes → View
+undealt k = view (opening_cards k)
 
 -- what is left where the first card is dealt
 abbrev pub after_deal : View → View
-after_deal v = view (other_cards v.cards)
+after_deal v = record v { cards = other_cards v.cards }
 
 -- the view of the seat that it is dealt to
 abbrev pub dealt : View → View
 dealt v = only (card_in v)
 
--- a seat that takes another in has the cards of both
+-- a seat that takes another in has the cards, tickets and credits of both
 abbrev pub together : View → View → View
-together v w = view (v.cards ++ w.cards)
+together v w = record {
+  cards = v.cards ++ w.cards;
+  tickets = v.tickets ++ w.tickets;
+  credits = v.credits + w.credits;
+}
 
 -- and the other has none
 abbrev pub spent : View

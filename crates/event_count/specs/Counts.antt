@@ -6,8 +6,10 @@ use Rattle.event_word.specs.World.{World}
 use Rattle.event_word.specs.Runs.{Runs}
 use Rattle.event_word.specs.Balance.{push_of, taking_of, unpark_of, wake_of, over}
 use Rattle.event_count.specs.declared.rule.Sizes.{Sizes}
+use Rattle.event_count.specs.declared.rule.RowSizes.{RowSizes}
 use Rattle.event_count.specs.declared.view.Card.{Card}
-use Rattle.event_count.specs.Known.{first_world, Agrees}
+use Rattle.event_count.specs.Cards.{rowless}
+use Rattle.event_count.specs.Known.{world_at_first, Agrees}
 
 -- how often the events of a list are a wake
 abbrev pub wakes_in : List Event → ℕ
@@ -17,26 +19,30 @@ wakes_in (e ∷ events) = wakes_in events
 
 -- A card tells how often its seat was pushed and woken: the epochs that it has used, and the wakes
 -- among its events.
-pub record CardCounts (k : Sizes) (history : List Event) (c : Card) : Type 0 where
-  pub pushes : c.epoch ≡ k.first + over (push_of c.number) (first_world k) history
-  pub wakes : wakes_in c.events ≡ over (wake_of c.number) (first_world k) history
+pub record CardCounts (k : RowSizes) (history : List Event) (c : Card) : Type 0 where
+  pub pushes : c.epoch ≡ k.first + over (push_of c.number) (world_at_first k) history
+  pub wakes : wakes_in c.events ≡ over (wake_of c.number) (world_at_first k) history
 
 -- the seat was taken off the stack as often as it was pushed, unparked as often, and woken as often
-pub record AreEven (k : Sizes) (history : List Event) (seat : ℕ) : Type 0 where
-  pub taken : over (taking_of seat) (first_world k) history
-      ≡ over (push_of seat) (first_world k) history
-  pub unparked : over (unpark_of seat) (first_world k) history
-      ≡ over (taking_of seat) (first_world k) history
-  pub woken : over (wake_of seat) (first_world k) history
-      ≡ over (unpark_of seat) (first_world k) history
+pub record AreEven (k : RowSizes) (history : List Event) (seat : ℕ) : Type 0 where
+  pub taken : over (taking_of seat) (world_at_first k) history
+      ≡ over (push_of seat) (world_at_first k) history
+  pub unparked : over (unpark_of seat) (world_at_first k) history
+      ≡ over (taking_of seat) (world_at_first k) history
+  pub woken : over (wake_of seat) (world_at_first k) history
+      ≡ over (unpark_of seat) (world_at_first k) history
 
 -- what the cards of a count that has ended say: one history of which they have their parts, and in
 -- which the four counts of each waiter are equal
-pub record HasEnded (k : Sizes) (cards : List Card) (history : List Event) (w : World)
+pub record HasEnded (k : RowSizes) (cards : List Card) (history : List Event) (w : World)
     : Type 0 where
-  pub runs : Runs (first_world k) history w
+  pub runs : Runs (world_at_first k) history w
   pub known : All (Agrees k history w) cards
   pub even : (seat : ℕ) → seat < k.waiters → AreEven k history seat
 
+abbrev pub HaveEnded : RowSizes → List Card → Type 0
+HaveEnded k cards = (history : List Event) × (w : World) × HasEnded k cards history w
+
+-- the same of a count alone
 abbrev pub Ends : Sizes → List Card → Type 0
-Ends k cards = (history : List Event) × (w : World) × HasEnded k cards history w
+Ends k cards = HaveEnded (rowless k) cards

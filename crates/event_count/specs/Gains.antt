@@ -1,32 +1,26 @@
 -- What each step makes of the card of the seat that takes it.
-use Rattle.std.specs.Prelude.{◌≡◌, ◌≢◌, ℕ, ◌+◌, ◌<◌, ◌≤◌, ◌==◌, true, false, List, [], ◌∷◌, ◌++◌}
-use Rattle.std.specs.Prelude.{length, replicate, Option, Some, None, MatchBool}
+-- A step that a count with rows takes otherwise is told whether it is one.
+use Rattle.std.specs.Prelude.{◌≡◌, ◌≢◌, ℕ, ◌+◌, ◌<◌, ◌≤◌, ◌==◌, ◌&&◌, Bool, true, false, List, []}
+use Rattle.std.specs.Prelude.{◌∷◌, ◌++◌, length, replicate, Option, Some, None, MatchBool}
 use Rattle.event_word.specs.declared.event.Event.{Event}
 use Rattle.event_word.specs.declared.event.Event.TheVariants.{Prewait, PassFlag, Cancel, Commit}
 use Rattle.event_word.specs.declared.event.Event.TheVariants.{Notify, NotifyAll, Unpark, Wake}
 use Rattle.event_word.specs.declared.phase.Phase.{Phase}
-use Rattle.event_word.specs.declared.phase.Phase.TheVariants.{Running, Pre, Stacked}
+use Rattle.event_word.specs.declared.phase.Phase.TheVariants.{Running, Pre, Stacked, Ended}
+use Rattle.event_word.specs.declared.word.Fields.{Fields}
 use Rattle.event_word.specs.Fields.{fields_of}
-use Rattle.event_word.specs.Word.{nobody}
+use Rattle.event_word.specs.Word.{nobody, IsSettled}
 use Rattle.event_count.specs.declared.view.Exchange.{Exchange}
 use Rattle.event_count.specs.declared.view.Card.{Card}
+use Rattle.event_count.specs.Kinds.{without_rows}
 
 -- after a load that gave this word
 abbrev pub looking : Card → ℕ → Card
 looking c word = record c { loads = c.loads + 1; looked = word; next = None }
 
--- a load that gave this word
-abbrev pub IsLoad : Card → ℕ → Card → Type 0
-IsLoad c word d = d ≡ looking c word
-
 -- after a load of the next word of its top
 abbrev pub reading : Card → ℕ → Card
 reading c word = record c { next = Some word }
-
--- after a look: where somebody is on the stack, the top's next word was loaded too
-abbrev pub IsLook : Card → ℕ → Card → Type 0
-IsLook c word d = MatchBool ((fields_of word).top == nobody) (d ≡ looking c word)
-    ((next : ℕ) × (d ≡ reading (looking c word) next))
 
 -- after a store in the seat's own next word
 abbrev pub storing : Card → ℕ → Card
@@ -44,19 +38,88 @@ exchanging c x = record c { exchanges = c.exchanges + 1; exchange = x }
 abbrev pub gaining : Card → Phase → List Event → Card
 gaining c phase events = record c { phase = phase; events = c.events ++ events }
 
--- after a prewait
-abbrev pub prewaiting : Card → Card
-prewaiting c = gaining c Pre (Prewait c.number ∷ [])
+-- there is nobody to notify
+abbrev pub is_settled : Fields → Bool
+is_settled f = (f.top == nobody) && (f.signals == f.pre)
 
--- after a commit that took a signal: the seat has passed the flag too, since nothing stops a count
+abbrev pub is_running : Phase → Bool
+is_running Running = true
+is_running Pre = false
+is_running Stacked = false
+is_running Ended = false
+
+abbrev pub is_none : List ℕ → Bool
+is_none [] = true
+is_none (seat ∷ seats) = false
+
+-- the seat is to notify, and may
+abbrev pub may_notify : Card → Bool
+may_notify c = c.announcing && (is_running c.phase && is_none c.owing)
+
+-- a load of the state word that ends an announcement or doesn't
+abbrev pub loading_by : Bool → Card → ℕ → Card
+loading_by true c word =
+    record (gaining (looking c word) c.phase (NotifyAll c.number ∷ [])) { announcing = false }
+loading_by false c word = looking c word
+
+-- After a load of the state word at a count with rows: where the seat is to notify, and finds nobody
+-- to notify, all are notified.
+abbrev pub hearing : Card → ℕ → Card
+hearing c word = loading_by (may_notify c && is_settled (fields_of word)) c word
+
+-- after a load of the state word
+abbrev pub loading : Bool → Card → ℕ → Card
+loading true c word = hearing c word
+loading false c word = looking c word
+
+-- a load that gave this word
+abbrev pub IsLoadIn : Bool → Card → ℕ → Card → Type 0
+IsLoadIn rowed c word d = d ≡ loading rowed c word
+
+abbrev pub IsLoad : Card → ℕ → Card → Type 0
+IsLoad c word d = IsLoadIn without_rows c word d
+
+-- where this word has somebody on the stack, the top's next word was loaded
+abbrev pub IsRead : Card → ℕ → Card → Type 0
+IsRead c word d = MatchBool ((fields_of word).top == nobody) (d ≡ c)
+    ((next : ℕ) × (d ≡ reading c next))
+
+-- after a look: where somebody is on the stack, the top's next word was loaded too
+abbrev pub IsLookIn : Bool → Card → ℕ → Card → Type 0
+IsLookIn rowed c word d = IsRead (loading rowed c word) word d
+
+abbrev pub IsLook : Card → ℕ → Card → Type 0
+IsLook c word d = IsLookIn without_rows c word d
+
+-- after a prewait: the seat has passed nothing since
+abbrev pub prewaiting : Card → Card
+prewaiting c = record (gaining c Pre (Prewait c.number ∷ [])) {
+  passed_flag = false;
+  passed = replicate (length c.passed) false;
+}
+
+-- the events of a commit: at a count alone the seat passes the flag too, since nothing stops it
+abbrev pub commit_events : Bool → ℕ → List Event
+commit_events true seat = Commit seat ∷ []
+commit_events false seat = PassFlag seat ∷ Commit seat ∷ []
+
+-- after a commit that took a signal
+abbrev pub consuming_in : Bool → Card → Exchange → Card
+consuming_in rowed c x = record
+    (gaining (exchanging c x) Running (commit_events rowed c.number)) { passed_flag = true }
+
 abbrev pub consuming : Card → Exchange → Card
-consuming c x = gaining (exchanging c x) Running (PassFlag c.number ∷ Commit c.number ∷ [])
+consuming c x = consuming_in without_rows c x
 
 -- after a commit that pushed the seat, which used its epoch
+abbrev pub pushing_in : Bool → Card → Exchange → Card
+pushing_in rowed c x = record (gaining (exchanging c x) Stacked (commit_events rowed c.number)) {
+  passed_flag = true;
+  epoch = c.epoch + 1;
+}
+
 abbrev pub pushing : Card → Exchange → Card
-pushing c x = record
-    (gaining (exchanging c x) Stacked (PassFlag c.number ∷ Commit c.number ∷ []))
-    { epoch = c.epoch + 1 }
+pushing c x = pushing_in without_rows c x
 
 -- after a cancel, or a commit that is spent
 abbrev pub cancelling : Card → Exchange → Card
@@ -64,13 +127,15 @@ cancelling c x = gaining (exchanging c x) Running (Cancel c.number ∷ [])
 
 -- after a notification that gave a signal
 abbrev pub signalling : Card → Exchange → Card
-signalling c x = gaining (exchanging c x) c.phase (Notify c.number ∷ [])
+signalling c x =
+    record (gaining (exchanging c x) c.phase (Notify c.number ∷ [])) { announcing = false }
 
 -- after a notification that popped the top of the looked word
 abbrev pub popping : Card → Exchange → Card
 popping c x = record (gaining (exchanging c x) c.phase (Notify c.number ∷ [])) {
   owing = c.owing ++ (fields_of x.expected).top ∷ [];
   linked = false;
+  announcing = false;
 }
 
 -- after a notification of all that took these seats, top first
@@ -78,6 +143,7 @@ abbrev pub taking : List ℕ → Card → Exchange → Card
 taking taken c x = record (gaining (exchanging c x) c.phase (NotifyAll c.number ∷ [])) {
   owing = c.owing ++ taken;
   linked = true;
+  announcing = false;
 }
 
 -- the first seat
@@ -121,6 +187,11 @@ pub record FitsWord (phase : Phase) (number waiters word : ℕ) : Type 0 where
 -- the same of a card
 abbrev pub Fits : Card → ℕ → Type 0
 Fits c word = FitsWord c.phase c.number c.waiters word
+
+-- a free seat whose loaded word has nobody to notify announces nothing
+abbrev pub IsHeard : Card → ℕ → Type 0
+IsHeard c word = IsSettled (fields_of word) → c.phase ≡ Running → c.owing ≡ []
+    → c.announcing ≡ false
 
 -- the top of a word is the first of these seats, or nobody where there is none
 abbrev pub NamesFirst : ℕ → ℕ → List ℕ → Type 0

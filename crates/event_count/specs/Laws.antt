@@ -14,31 +14,31 @@ use Rattle.event_word.specs.Runs.{Runs}
 use Rattle.event_word.specs.Balance.{Balance}
 use Rattle.event_word.specs.World.{World, phase_of}
 use Rattle.event_word.specs.Step.{effect}
-use Rattle.event_count.specs.declared.rule.Sizes.{Sizes}
+use Rattle.event_count.specs.declared.rule.RowSizes.{RowSizes}
 use Rattle.event_count.specs.declared.answers.TryCommit.TheVariants as commit
 use Rattle.event_count.specs.declared.view.Card.{Card}
 use Rattle.event_count.specs.declared.view.View.{View}
 use Rattle.event_count.specs.Written.{shown_fields}
-use Rattle.event_count.specs.Known.{first_world, events_of, Each}
+use Rattle.event_count.specs.Known.{world_at_first, events_of, Each}
 use Rattle.event_count.specs.Shown.{CountState, Shows}
 use Rattle.event_count.specs.Tries.{IsTryCommit}
 use Rattle.event_count.specs.Counts.{CardCounts}
 
 -- a rule for counts, by their sizes
-abbrev Rule : Type 1
-Rule = Sizes → CountState → Type 0
+abbrev pub Rule : Type 1
+Rule = RowSizes → CountState → Type 0
 
 -- the table shows a lawful World, to which one history leads
 abbrev pub ShowsLawfulWorld : Rule → Type 0
 ShowsLawfulWorld holds =
-    (k : Sizes) (s : CountState) → holds k s
+    (k : RowSizes) (s : CountState) → holds k s
     → (history : List Event) × (w : World)
-    × Shows k s history w × Lawful w × HasSizes k.waiters (k.waiters + k.notifiers) 0 w
+    × Shows k s history w × Lawful w × HasSizes k.waiters (k.waiters + k.notifiers) k.rows w
 
 -- the state word has no more signals than pre-waiters
 abbrev pub SignalsAreAnswered : Rule → Type 0
 SignalsAreAnswered holds =
-    (k : Sizes) (s : CountState) → holds k s
+    (k : RowSizes) (s : CountState) → holds k s
     → (shown_fields s.words).signals ≤ (shown_fields s.words).pre
 
 -- the phase is that of a pre-waiter
@@ -55,14 +55,14 @@ pre_numbers_in v = map (λ c. c.number) (filter (λ c. is_pre c.phase) v.cards)
 -- the World's pre-waiters are the seats whose phase says so, each once
 abbrev pub PreSeatsWait : Type 0
 PreSeatsWait =
-    (k : Sizes) (s : CountState) (history : List Event) (w : World) → Shows k s history w
+    (k : RowSizes) (s : CountState) (history : List Event) (w : World) → Shows k s history w
     → (n : ℕ) → (times n w.pre ≤ 1)
     × (times n w.pre ≡ total (λ v. times n (pre_numbers_in v)) s.views)
 
 -- each seat stands on the stack once at most
 abbrev pub SeatsStandOnce : Type 0
 SeatsStandOnce =
-    (k : Sizes) (s : CountState) (history : List Event) (w : World) → Shows k s history w
+    (k : RowSizes) (s : CountState) (history : List Event) (w : World) → Shows k s history w
     → (seat : ℕ) → times seat w.stack ≤ 1
 
 -- an exchange that pushed its seat found the looked word, and no signal in it
@@ -73,18 +73,18 @@ ExchangesFoundNoSignal = (c d : Card) (word : ℕ) → IsTryCommit c word commit
 -- wherever a commit in the history pushed its seat, there was no signal before it
 abbrev pub CommitsFoundNoSignal : Type 0
 CommitsFoundNoSignal =
-    (k : Sizes) (s : CountState) (history : List Event) (w : World) → Shows k s history w
+    (k : RowSizes) (s : CountState) (history : List Event) (w : World) → Shows k s history w
     → (before after : List Event) (seat : ℕ) (u : World) → history ≡ before ++ Commit seat ∷ after
-    → Runs (first_world k) before u → phase_of (effect u (Commit seat)) seat ≡ Stacked
+    → Runs (world_at_first k) before u → phase_of (effect u (Commit seat)) seat ≡ Stacked
     → u.signals ≡ 0
 
 -- From a notification of all on, until its seat's next event, the seat owes the whole stack that
 -- there was before it, top first.
 abbrev pub TakenStacksAreOwed : Type 0
 TakenStacksAreOwed =
-    (k : Sizes) (s : CountState) (history : List Event) (w : World) → Shows k s history w
+    (k : RowSizes) (s : CountState) (history : List Event) (w : World) → Shows k s history w
     → (before after : List Event) (actor : ℕ) (u : World)
-    → history ≡ before ++ NotifyAll actor ∷ after → Runs (first_world k) before u
+    → history ≡ before ++ NotifyAll actor ∷ after → Runs (world_at_first k) before u
     → events_of actor after ≡ [] → Each (λ c. c.number ≡ actor → c.owing ≡ u.stack) s.views
 
 -- Each waiter was taken off the stack as often as it was pushed, but for once where it is on it;
@@ -92,6 +92,6 @@ TakenStacksAreOwed =
 -- unparked, but for once where it has a token. Its card tells its pushes and its wakes.
 abbrev pub CountsFollow : Type 0
 CountsFollow =
-    (k : Sizes) (s : CountState) (history : List Event) (w : World) → Shows k s history w
-    → ((seat : ℕ) → seat < k.waiters → Balance (first_world k) history w seat)
+    (k : RowSizes) (s : CountState) (history : List Event) (w : World) → Shows k s history w
+    → ((seat : ℕ) → seat < k.waiters → Balance (world_at_first k) history w seat)
     × Each (CardCounts k history) s.views

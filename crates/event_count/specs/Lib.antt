@@ -8,9 +8,13 @@ pub use Rattle.event_word.specs.Runs
 pub use Rattle.event_word.specs.Balance
 pub use Rattle.atomic_table.specs.Table
 pub use Rattle.atomic_table.specs.Seated
+pub use Rattle.event_word.specs.Waking
+pub use Rattle.event_word.specs.Present
 pub mod Limits
 pub mod Places
 pub mod Cards
+pub mod Kinds
+pub mod Tickets
 pub mod Gains
 pub mod Plays
 pub mod Written
@@ -24,3 +28,4 @@ pub mod Waits
 pub mod Counts
 pub mod Laws
 pub mod LockedCount
+pub mod Rows

@@ -1,5 +1,6 @@
--- Where the words of a count's table lie: a line for the state word, and then one for each waiter.
-use Rattle.std.specs.Prelude.{ℕ, ◌+◌, ◌*◌, List, replicate, slice_set}
+-- Where the words of a count's table lie: the stop word, the state word, and those of waiters and rows.
+-- Each has a line of its own, the two of a waiter one together.
+use Rattle.std.specs.Prelude.{ℕ, ◌+◌, ◌-◌, ◌*◌, List, replicate, slice_set}
 use Rattle.event_word.specs.Word.{nobody}
 use Rattle.event_count.specs.declared.rule.TheConstants.{LINE, STATE}
 
@@ -11,10 +12,15 @@ next_place seat = LINE * (2 + seat)
 abbrev pub parker_place : ℕ → ℕ
 parker_place seat = LINE * (2 + seat) + 1
 
--- as many words as the state word and the waiters' lines need
+-- the word of a row, its length, where there are so many waiters and rows: the rows' lines lie from
+-- the last one down, and in each the word has a place that a waiter's line doesn't use
+abbrev pub row_place : ℕ → ℕ → ℕ
+row_place lines row = LINE * (1 + lines - row) + 2
+
+-- as many words as the stop word, the state word and the lines of waiters and rows need
 abbrev pub words_for : ℕ → ℕ
-words_for waiters = LINE * (2 + waiters)
+words_for lines = LINE * (2 + lines)
 
 -- nobody waits, and no other word says anything
 abbrev pub words_at_first : ℕ → List ℕ
-words_at_first waiters = slice_set (replicate (words_for waiters) 0) STATE nobody
+words_at_first lines = slice_set (replicate (words_for lines) 0) STATE nobody

@@ -1,5 +1,5 @@
 -- What each step tells the seat that makes it, and on which word it is.
-use Rattle.std.specs.Prelude.{◌≡◌, ◌≢◌, ℕ, ◌==◌, true, List, [], MatchBool}
+use Rattle.std.specs.Prelude.{◌≡◌, ◌≢◌, ℕ, ◌==◌, Bool, true, List, [], MatchBool}
 use Rattle.atomic_table.specs.Table.{Me, Step}
 use Rattle.event_word.specs.Fields.{fields_of}
 use Rattle.event_count.specs.declared.rule.TheConstants.{STATE}
@@ -8,9 +8,10 @@ use Rattle.event_count.specs.declared.view.Card.{Card}
 use Rattle.event_count.specs.declared.view.View.{View}
 use Rattle.event_count.specs.Places.{next_place, parker_place}
 use Rattle.event_count.specs.Cards.{exchange_of, spent, only, card_in}
-use Rattle.event_count.specs.Gains.{looking, reading, storing, polling, exchanging, prewaiting}
-use Rattle.event_count.specs.Gains.{consuming, pushing, cancelling, signalling, popping, taking}
-use Rattle.event_count.specs.Gains.{foremost, behind, unparking, waking, Fits, NamesFirst}
+use Rattle.event_count.specs.Gains.{loading, reading, storing, polling, exchanging, prewaiting}
+use Rattle.event_count.specs.Gains.{consuming_in, pushing_in, cancelling, signalling, popping}
+use Rattle.event_count.specs.Gains.{taking, foremost, behind, unparking, waking, Fits, IsHeard}
+use Rattle.event_count.specs.Gains.{NamesFirst}
 
 -- a seat's view, and the slots that it holds: none
 abbrev pub Sat : Type 0
@@ -24,10 +25,11 @@ abbrev pub arrives : Told
 arrives step before found after = after ≡ (spent, [])
 
 -- the state word is counted and kept, and shows what every word shows
-abbrev pub looks : Told
-looks step before found after =
-    (step.word ≡ STATE) × (after ≡ (only (looking (card_in before.0) found), before.1))
-    × Fits (looking (card_in before.0) found) found
+abbrev pub looks : Bool → Told
+looks rowed step before found after =
+    (step.word ≡ STATE) × (after ≡ (only (loading rowed (card_in before.0) found), before.1))
+    × Fits (loading rowed (card_in before.0) found) found
+    × IsHeard (loading rowed (card_in before.0) found) found
 
 -- the next word of the looked top is kept
 abbrev pub reads : Told
@@ -57,11 +59,11 @@ exchanges gain step before found after =
 abbrev pub becomes : (Card → Exchange → Card) → Gain
 becomes gains c x after = after ≡ only (gains c x)
 
-abbrev pub consumes : Gain
-consumes = becomes consuming
+abbrev pub consumes : Bool → Gain
+consumes rowed = becomes (consuming_in rowed)
 
-abbrev pub pushes : Gain
-pushes = becomes pushing
+abbrev pub pushes : Bool → Gain
+pushes rowed = becomes (pushing_in rowed)
 
 abbrev pub cancels : Gain
 cancels = becomes cancelling

@@ -3,10 +3,12 @@ use Rattle.std.specs.Prelude.{◌≡◌, ℕ, ◌+◌, [], Option, None}
 use Rattle.atomic_table.specs.Seated.{TableId}
 use Rattle.event_word.specs.declared.phase.Phase.TheVariants.{Running}
 use Rattle.event_count.specs.declared.rule.Sizes.{Sizes}
+use Rattle.event_count.specs.declared.rule.RowSizes.{RowSizes}
 use Rattle.event_count.specs.declared.view.Card.{Card}
 use Rattle.event_count.specs.declared.seat.Seat.{Seat}
+use Rattle.event_count.specs.declared.counter.Counter.{Counter}
 use Rattle.event_count.specs.declared.count.EventCount.{EventCount}
-use Rattle.event_count.specs.Cards.{card_in}
+use Rattle.event_count.specs.Cards.{card_in, sizes_in}
 
 -- what a seat has done, and what it knows of itself
 abbrev pub card_of : Seat → Card
@@ -30,9 +32,19 @@ pub record IsIdle (seat : Seat) : Type 0 where
   pub owes_none : (card_of seat).owing ≡ []
 
 module _ {A : Type 0} where
+  -- the sizes of what lies under a count of either kind, which it is, and whose seats are its own
+  abbrev pub key_of : Counter A → RowSizes
+  key_of counter = counter.table.shared.key
+
+  abbrev pub counter_id : Counter A → TableId
+  counter_id counter = counter.table.shared.table_id
+
+  abbrev pub IsAt : Counter A → Seat → Type 0
+  IsAt counter seat = seat_id seat ≡ counter_id counter
+
   -- how many seats a count was made with, by kind
   abbrev pub sizes_of : EventCount A → Sizes
-  sizes_of count = count.table.shared.key
+  sizes_of count = sizes_in (key_of count.counter)
 
   -- how many seats a count was made with
   abbrev pub seats_of : EventCount A → ℕ
@@ -40,7 +52,7 @@ module _ {A : Type 0} where
 
   -- which count it is
   abbrev pub count_id : EventCount A → TableId
-  count_id count = count.table.shared.table_id
+  count_id count = counter_id count.counter
 
   -- the seat was made by the count
   abbrev pub IsSeatOf : EventCount A → Seat → Type 0

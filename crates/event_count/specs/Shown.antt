@@ -3,13 +3,15 @@ use Rattle.std.specs.Prelude.{◌≡◌, ℕ, ◌≤◌, false, List}
 use Rattle.atomic_table.specs.Table.{State}
 use Rattle.event_word.specs.declared.event.Event.{Event}
 use Rattle.event_word.specs.World.{World, is_announcing}
+use Rattle.event_word.specs.Step.{row_limit}
 use Rattle.event_word.specs.Runs.{Runs}
-use Rattle.event_count.specs.declared.rule.Sizes.{Sizes}
+use Rattle.event_count.specs.declared.rule.RowSizes.{RowSizes}
 use Rattle.event_count.specs.declared.view.View.{View}
 use Rattle.event_count.specs.Limits.{most_waiters}
 use Rattle.event_count.specs.Written.{Written}
-use Rattle.event_count.specs.Known.{first_world, next_epoch, Agrees, AreDealt, Each}
+use Rattle.event_count.specs.Known.{world_at_first, next_epoch, Agrees, AreDealt, Each}
 use Rattle.event_count.specs.Kept.{Knows, Links}
+use Rattle.event_count.specs.Tickets.{credits_for, AreCounted}
 
 -- the words of a count's table, and what each of its seats knows
 abbrev pub CountState : Type 0
@@ -21,16 +23,18 @@ pub record HasNoRows (w : World) : Type 0 where
   pub silent : (actor : ℕ) → is_announcing w actor ≡ false
 
 -- the table shows this World, to which this history leads
-pub record Shows (k : Sizes) (s : CountState) (history : List Event) (w : World) : Type 0 where
-  pub runs : Runs (first_world k) history w
+pub record Shows (k : RowSizes) (s : CountState) (history : List Event) (w : World) : Type 0 where
+  pub runs : Runs (world_at_first k) history w
   pub few : k.waiters ≤ most_waiters
   pub written : Written k s.words w (next_epoch k history)
   pub known : Each (Agrees k history w) s.views
   pub kept : Each (Knows s.words w (next_epoch k history)) s.views
   pub linked : Each (Links s.words) s.views
   pub dealt : AreDealt k s.views
-  pub rowless : HasNoRows w
+  pub counted : AreCounted (credits_for k) w s.views
+  pub few_credits : credits_for k ≤ row_limit
+  pub plain : k.rows ≡ 0 → HasNoRows w
 
 -- the table shows a World
-abbrev pub ShowsWorld : Sizes → CountState → Type 0
+abbrev pub ShowsWorld : RowSizes → CountState → Type 0
 ShowsWorld k s = (history : List Event) × (w : World) × Shows k s history w

@@ -1,5 +1,5 @@
 -- What each step of a seat adds to the history that the table shows.
-use Rattle.std.specs.Prelude.{◌≡◌, ◌≢◌, ℕ, ◌+◌, ◌<◌, ◌%◌, ◌^◌, ◌==◌, List, [], ◌∷◌, ◌++◌}
+use Rattle.std.specs.Prelude.{◌≡◌, ◌≢◌, ℕ, ◌+◌, ◌<◌, ◌%◌, ◌^◌, ◌==◌, Bool, List, [], ◌∷◌, ◌++◌}
 use Rattle.std.specs.Prelude.{slice_index, Some}
 use mathlib.Core.Option.{some, none}
 use lib.ListN.{get_elem?}
@@ -13,10 +13,11 @@ use Rattle.event_word.specs.Word.{all_notified}
 use Rattle.event_word.specs.World.{World}
 use Rattle.event_word.specs.Runs.{Runs}
 use Rattle.event_count.specs.declared.rule.TheConstants.{STATE}
-use Rattle.event_count.specs.declared.rule.Sizes.{Sizes}
+use Rattle.event_count.specs.declared.rule.RowSizes.{RowSizes}
 use Rattle.event_count.specs.declared.view.Card.{Card}
 use Rattle.event_count.specs.Places.{next_place, parker_place}
-use Rattle.event_count.specs.Cards.{only, card_in}
+use Rattle.event_count.specs.Cards.{holding, only, card_in}
+use Rattle.event_count.specs.Kinds.{IsKind, MayCommit, MayPrewait}
 use Rattle.event_count.specs.Plays.{Sat, Told, Gain, exchanges, looks, reads, follows, stores}
 use Rattle.event_count.specs.Plays.{prewaits, consumes, pushes, cancels, signals, pops, takes_all}
 use Rattle.event_count.specs.Plays.{unparks, wakes}
@@ -24,23 +25,28 @@ use Rattle.event_count.specs.Shown.{CountState, Shows}
 
 -- The seat's card c became d, with these events behind those of c. They lead from the World to
 -- another, which the table then shows, with the same events behind the history.
-pub record Adds (k : Sizes) (history : List Event) (w : World) (c d : Card) (after : CountState)
+pub record Adds (k : RowSizes) (history : List Event) (w : World) (c d : Card) (after : CountState)
     (events : List Event) (u : World) : Type 0 where
   pub gains : d.events ≡ c.events ++ events
   pub runs : Runs w events u
   pub shows : Shows k after (history ++ events) u
 
-module _ (k : Sizes) (slots : ℕ) (me : Sat) where
+module _ (k : RowSizes) (slots : ℕ) (me : Sat) where
   -- Whatever World and history the table shows when the seat takes the step, which makes f of the
-  -- word: the step tells what its play says, and adds its events.
-  abbrev pub AddsEvents : Step (Unit {0}) → (ℕ → ℕ) → Told → Type 0
-  AddsEvents step f told =
+  -- word: the step tells what its play says, adds its events, and leaves the seat these tickets.
+  abbrev pub AddsWith : List ℕ → Step (Unit {0}) → (ℕ → ℕ) → Told → Type 0
+  AddsWith tickets step f told =
       (s : CountState) (history : List Event) (w : World) → Shows k s history w
       → (id : ℕ) → get_elem? s.views id ≡ some me.0 → slice_index s.words step.word < 2 ^ 64
       → (d : Card) × (events : List Event) × (u : World)
       × Adds k history w (card_in me.0) d
-      (stepped s step.word (f (slice_index s.words step.word)) id me.1 (only d) keeps) events u
-      × told step me (slice_index s.words step.word) (only d, me.1)
+      (stepped s step.word (f (slice_index s.words step.word)) id me.1 (holding tickets d) keeps)
+      events u
+      × told step me (slice_index s.words step.word) (holding tickets d, me.1)
+
+  -- the same of a step that has to do with no ticket
+  abbrev pub AddsEvents : Step (Unit {0}) → (ℕ → ℕ) → Told → Type 0
+  AddsEvents step f told = AddsWith [] step f told
 
   -- the step is a load of the word at this place
   abbrev pub Loads : ℕ → Told → Type 0
@@ -56,22 +62,25 @@ module _ (k : Sizes) (slots : ℕ) (me : Sat) where
       AddsEvents (step slots STATE old new none) (λ n. either (n == old) new n) (exchanges gain)
 
 -- each step of a seat whose card is c, where it may be taken
-pub record StepsOf (k : Sizes) (slots : ℕ) (me : Sat) (c : Card) : Type 0 where
-  pub look : Loads k slots me STATE looks
+pub record StepsOf (k : RowSizes) (slots : ℕ) (me : Sat) (c : Card) : Type 0 where
+  pub look : (rowed : Bool) → IsKind rowed k → Loads k slots me STATE (looks rowed)
   pub read : (fields_of c.looked).top ≢ nobody
       → Loads k slots me (next_place (fields_of c.looked).top) reads
   pub follow : (seat : ℕ) (rest : List ℕ) → c.owing ≡ seat ∷ rest
       → Loads k slots me (next_place seat) follows
   pub store : (word : ℕ) → c.phase ≡ Pre → c.number < k.waiters
       → Stores k slots me (next_place c.number) word stores
-  pub prewait : c.number < k.waiters → c.phase ≡ Running → c.owing ≡ []
+  pub prewait : (rowed : Bool) → IsKind rowed k → MayPrewait rowed c
+      → c.number < k.waiters → c.phase ≡ Running → c.owing ≡ []
       → AddsEvents k slots me (step slots STATE (2 ^ 14) 0 none) (λ n. (n + 2 ^ 14) % 2 ^ 64)
       prewaits
-  pub consume : (old new : ℕ) → c.phase ≡ Pre → 0 < (fields_of old).signals
-      → fields_of new ≡ consumed (fields_of old) → Exchanges k slots me old new consumes
-  pub push : (old new : ℕ) → c.phase ≡ Pre → (fields_of old).signals ≡ 0
+  pub consume : (rowed : Bool) (old new : ℕ) → IsKind rowed k → MayCommit rowed k c
+      → c.phase ≡ Pre → 0 < (fields_of old).signals
+      → fields_of new ≡ consumed (fields_of old) → Exchanges k slots me old new (consumes rowed)
+  pub push : (rowed : Bool) (old new : ℕ) → IsKind rowed k → MayCommit rowed k c
+      → c.phase ≡ Pre → (fields_of old).signals ≡ 0
       → fields_of new ≡ pushed (fields_of old) c.number c.epoch
-      → fields_of c.stored ≡ below (fields_of old) → Exchanges k slots me old new pushes
+      → fields_of c.stored ≡ below (fields_of old) → Exchanges k slots me old new (pushes rowed)
   pub cancel : (old new : ℕ) → c.phase ≡ Pre → fields_of new ≡ cancelled (fields_of old)
       → Exchanges k slots me old new cancels
   pub signal : (old new : ℕ) → c.phase ≡ Running → c.owing ≡ []
@@ -91,5 +100,5 @@ pub record StepsOf (k : Sizes) (slots : ℕ) (me : Sat) (c : Card) : Type 0 wher
 
 -- the same of every seat in use
 abbrev pub StepsAddTheirEvents : Type 0
-StepsAddTheirEvents = (k : Sizes) (slots : ℕ) (me : Sat) → me.0 ≡ only (card_in me.0)
+StepsAddTheirEvents = (k : RowSizes) (slots : ℕ) (me : Sat) → me.0 ≡ only (card_in me.0)
     → StepsOf k slots me (card_in me.0)

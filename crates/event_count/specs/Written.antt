@@ -1,13 +1,13 @@
 -- What the words of a count's table say of the World.
-use Rattle.std.specs.Prelude.{◌≡◌, ℕ, ◌+◌, ◌<◌, List, [], ◌∷◌, length, slice_index}
+use Rattle.std.specs.Prelude.{◌≡◌, ◌↔◌, ℕ, ◌+◌, ◌<◌, List, [], ◌∷◌, length, slice_index}
 use Rattle.event_word.specs.declared.word.Fields.{Fields}
 use Rattle.event_word.specs.Fields.{fields_of}
 use Rattle.event_word.specs.Word.{nobody}
 use Rattle.event_word.specs.Lists.{one_if}
-use Rattle.event_word.specs.World.{World, has_token}
-use Rattle.event_count.specs.declared.rule.TheConstants.{STATE}
-use Rattle.event_count.specs.declared.rule.Sizes.{Sizes}
-use Rattle.event_count.specs.Places.{next_place, parker_place, words_for}
+use Rattle.event_word.specs.World.{World, has_token, length_of}
+use Rattle.event_count.specs.declared.rule.TheConstants.{STOP, STATE}
+use Rattle.event_count.specs.declared.rule.RowSizes.{RowSizes}
+use Rattle.event_count.specs.Places.{next_place, parker_place, row_place, words_for}
 
 -- the fields of the state word
 abbrev pub shown_fields : List ℕ → Fields
@@ -26,10 +26,13 @@ Leads words epochs (seat ∷ rest) f =
     × Leads words epochs rest (next_fields words seat)
 
 -- what the words of the table say of the World, where each waiter's next push has this epoch
-pub record Written (k : Sizes) (words : List ℕ) (w : World) (epochs : ℕ → ℕ) : Type 0 where
-  pub room : length words ≡ words_for k.waiters
+pub record Written (k : RowSizes) (words : List ℕ) (w : World) (epochs : ℕ → ℕ) : Type 0 where
+  pub room : length words ≡ words_for (k.waiters + k.rows)
   pub pre : (shown_fields words).pre ≡ length w.pre
   pub signals : (shown_fields words).signals ≡ w.signals
   pub stack : Leads words epochs w.stack (shown_fields words)
   pub tokens : (seat : ℕ) → seat < k.waiters
       → slice_index words (parker_place seat) ≡ one_if (has_token w seat)
+  pub stop : (slice_index words STOP ≡ 0) ↔ (w.stop ≡ 0)
+  pub rows : (row : ℕ) → row < k.rows
+      → slice_index words (row_place (k.waiters + k.rows) row) ≡ length_of w row

@@ -67,3 +67,14 @@ pub enum TryNotifyAll {
     /// Another step came between the look and the exchange: nothing has changed.
     Contended,
 }
+
+/// How a look at the stop word and all rows ended.
+#[derive(Clone, Copy, Debug, PartialEq, Eq)]
+pub enum PassAll {
+    /// Nobody has stopped the count, and each row was found empty.
+    Passed,
+    /// Somebody has stopped the count.
+    Stopped,
+    /// This row has jobs.
+    Jobs(u16),
+}

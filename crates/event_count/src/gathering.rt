@@ -2,7 +2,7 @@
 ghost use Rattle.std.specs.Prelude.{◌≡◌, ◌<◌, [], map, reverse, All};
 ghost use Rattle.event_count.specs.Seats.{card_of, seat_id};
 
-use crate::rule::{Law, Sizes, TakesIn};
+use crate::rule::{Law, RowSizes, TakesIn};
 use crate::seat::Seat;
 use crate::view::View;
 use atomic_table::Shared;
@@ -10,7 +10,7 @@ use std::alloc::Allocator;
 
 // A keeper that has no card takes in the seats, the last first.
 pub(crate) fn gather<B: Allocator>(
-    shared: &Shared<(), View, Sizes, Law>,
+    shared: &Shared<(), View, RowSizes, Law>,
     keeper: &mut atomic_table::Seat<(), View>,
     seats: &mut Vec<Seat, B>,
 )

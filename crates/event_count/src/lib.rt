@@ -26,6 +26,22 @@
 //! `LockedCount` is the same behind a lock, over a plain `World`. A pool is generic over both, by
 //! the trait `WaitPoint`.
 //!
+//! `RowCount` is a count whose condition lies in its own table: rows of jobs, by their lengths, and
+//! a stop. A waiter passes all of them, or gives up waiting:
+//!
+//!     count.prewait(&mut seat);
+//!     match count.pass_all(&mut seat) {
+//!         PassAll::Passed => { count.commit(rt, &mut seat); }
+//!         PassAll::Stopped | PassAll::Jobs(_) => count.cancel(rt, &mut seat),
+//!     }
+//!
+//! Who has a job publishes it, lays it down with its ticket, and notifies; who has taken the job
+//! gives the ticket back. So no row with jobs is forgotten, whatever threads do in between:
+//!
+//!     let ticket = count.publish(&mut seat, row)?;
+//!     lay_down(job, ticket);
+//!     count.notify(rt, &mut seat);
+//!
 //! # Words and tokens
 //!
 //! | Word | Bits | Says |
@@ -36,6 +52,8 @@
 //! | | 42 to 63 | the epoch of the top's push, or 0 |
 //! | next word of a waiter | all | the top and the epoch that were there when it was pushed |
 //! | parker word of a waiter | all | 1 where it has a token |
+//! | length word of a row | all | how many jobs the row has, by their tickets |
+//! | stop word | all | 0 until somebody stops the count |
 //!
 //! | Who waits | Its answer | Who gives it | Who takes it |
 //! |---|---|---|---|
@@ -63,33 +81,41 @@
 
 mod answers;
 mod count;
+mod counter;
 mod exchanges;
 mod fault;
 mod gathering;
+mod kind;
 mod laws;
 mod loads;
 mod locked_count;
 mod opening;
 mod plays;
+mod row_count;
+mod rows;
 mod rule;
 mod seat;
 mod stepped_world;
+mod tokens;
 mod tries;
 mod unparks;
 mod view;
 mod wait_point;
 mod waits;
 
-pub use answers::{Committed, TryCancel, TryCommit, TryNotify, TryNotifyAll};
+pub use answers::{Committed, PassAll, TryCancel, TryCommit, TryNotify, TryNotifyAll};
 pub use count::EventCount;
 pub use event_word::{Event, Phase};
-pub use fault::CountFault;
+pub use fault::{CountFault, RowFault};
 pub use laws::{
-    counts_follow, pre_seats_wait, pushes_found_no_signal, seats_stand_once, signals_are_answered,
-    steps_add_their_events, table_shows_a_lawful_world, taken_stacks_are_owed,
+    counts_follow, lengths_are_tickets, pre_seats_wait, pushes_found_no_signal,
+    row_steps_add_their_events, rows_stay_awake, seats_stand_once, signals_are_answered,
+    steps_add_their_events, stop_wakes_all, table_shows_a_lawful_world, taken_stacks_are_owed,
 };
 pub use locked_count::{LockedCount, LockedSeat};
-pub use rule::{EPOCHS, Law, MOST_WAITERS, Sizes};
+pub use row_count::RowCount;
+pub use rule::{EPOCHS, Law, MOST_CREDITS, MOST_WAITERS, RowSizes, Sizes};
 pub use seat::Seat;
+pub use tokens::{Credit, Ticket};
 pub use view::{Card, Exchange, View};
 pub use wait_point::WaitPoint;

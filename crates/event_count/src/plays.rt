@@ -3,6 +3,7 @@ ghost use Rattle.event_count.specs.declared.view.Exchange.{Exchange};
 ghost use Rattle.event_count.specs.declared.view.Card.{Card};
 ghost use Rattle.event_count.specs.declared.view.View.{View};
 
+use crate::kind::Kind;
 use crate::view::View;
 use atomic_table::Play;
 use std::marker::PhantomData;
@@ -34,12 +35,14 @@ impl Play<(), View> for Arrives {
 }
 
 /// The word is loaded.
-pub struct Looks;
+pub struct Looks<K> {
+    marker: PhantomData<K>,
+}
 
-impl Play<(), View> for Looks {
+impl<K: Kind> Play<(), View> for Looks<K> {
     ghost use Rattle.event_count.specs.Plays.{looks};
 
-    ghost then = { looks };
+    ghost then = { looks K.rowed };
 }
 
 /// A seat becomes a pre-waiter.
@@ -52,12 +55,14 @@ impl Play<(), View> for Prewaits {
 }
 
 /// A pre-waiter takes a signal.
-pub struct Consumes;
+pub struct Consumes<K> {
+    marker: PhantomData<K>,
+}
 
-impl Gains for Consumes {
+impl<K: Kind> Gains for Consumes<K> {
     ghost use Rattle.event_count.specs.Plays.{consumes};
 
-    ghost gain = { consumes };
+    ghost gain = { consumes K.rowed };
 }
 
 /// A pre-waiter leaves.
@@ -97,12 +102,14 @@ impl Play<(), View> for Stores {
 }
 
 /// A pre-waiter goes onto the stack.
-pub struct Pushes;
+pub struct Pushes<K> {
+    marker: PhantomData<K>,
+}
 
-impl Gains for Pushes {
+impl<K: Kind> Gains for Pushes<K> {
     ghost use Rattle.event_count.specs.Plays.{pushes};
 
-    ghost gain = { pushes };
+    ghost gain = { pushes K.rowed };
 }
 
 /// The top is popped.

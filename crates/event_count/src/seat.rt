@@ -1,5 +1,5 @@
 //! The right to use a count.
-ghost use Rattle.std.specs.Prelude.{◌≡◌, ◌≢◌, ◌<◌, ◌≤◌, ◌↔◌, [], false, Some, None};
+ghost use Rattle.std.specs.Prelude.{◌≡◌, ◌≢◌, ◌+◌, ◌<◌, ◌≤◌, ◌↔◌, [], false, Some, None};
 ghost use Rattle.std.specs.Prelude.{IsSome, IsTrue};
 ghost use Rattle.std.specs.Option.{ForSome};
 ghost use Rattle.event_word.specs.declared.phase.Phase.TheVariants.{Stacked, Ended};
@@ -8,7 +8,8 @@ ghost use Rattle.event_word.specs.Word.{nobody};
 ghost use Rattle.event_count.specs.Limits.{epoch_limit};
 ghost use Rattle.event_count.specs.Places.{words_for};
 ghost use Rattle.event_count.specs.Cards.{only, card_in};
-ghost use Rattle.event_count.specs.Gains.{first_of, behind, Fits};
+ghost use Rattle.event_word.specs.Step.{row_limit};
+ghost use Rattle.event_count.specs.Gains.{first_of, behind, Fits, IsHeard};
 
 use crate::view::View;
 use event_word::Phase;
@@ -33,10 +34,12 @@ pub struct Seat {
     pub(crate) looked: Option<u64>,
     // The next word of that word's top, where there is one.
     pub(crate) next: Option<u64>,
+    // How many more jobs it may publish.
+    pub(crate) credits: u32,
     ghost alone: { seat.me.0 ≡ only (card_in seat.me.0) },
     ghost none_held: { seat.me.1 ≡ [] },
     ghost sized: { (card_in seat.me.0).waiters ≡ waiters },
-    ghost placed: { seat.table_id.words ≡ words_for waiters },
+    ghost placed: { seat.table_id.words ≡ words_for (waiters + (card_in seat.me.0).rows) },
     ghost numbered: { (card_in seat.me.0).number ≡ number },
     ghost phased: { (card_in seat.me.0).phase ≡ phase },
     ghost never_ended: { phase ≢ Ended },
@@ -50,6 +53,9 @@ pub struct Seat {
     ghost below: { (card_in seat.me.0).next ≡ next },
     ghost reads: { ForSome looked (λ word. (fields_of word).top ≢ nobody → IsSome next) },
     ghost fits: { ForSome looked (Fits (card_in seat.me.0)) },
+    ghost heard: { ForSome looked (IsHeard (card_in seat.me.0)) },
+    ghost credited: { (card_in seat.me.0).credits ≡ credits },
+    ghost few_credits: { credits ≤ row_limit },
 }
 
 impl Seat {
@@ -84,12 +90,20 @@ impl Seat {
         self.looked.is_some()
     }
 
+    /// How many more jobs it may publish, at a count with rows.
+    pub fn credits(&self) -> u32
+        ensures { result ≡ (card_of self.now).credits }
+    {
+        self.credits
+    }
+
     /// The looked word, which is used up.
     pub(crate) fn take_look(&mut self) -> u64
         requires { IsSome (looked_of self.old) }
         ensures looked { looked_of self.old ≡ Some result }
         ensures used { looked_of self.new ≡ None }
         ensures fits { Fits (card_of self.old) result }
+        ensures heard { IsHeard (card_of self.old) result }
         ensures word { (card_of self.old).looked ≡ result }
         ensures reads { (fields_of result).top ≢ nobody → IsSome self.new.next }
         ensures next { self.new.next ≡ self.old.next }
@@ -97,6 +111,7 @@ impl Seat {
         ensures number { self.new.number ≡ self.old.number }
         ensures epoch { self.new.epoch ≡ self.old.epoch }
         ensures waiters { self.new.waiters ≡ self.old.waiters }
+        ensures credits { self.new.credits ≡ self.old.credits }
     {
         let Some(word) = self.looked else {
             unreachable!()

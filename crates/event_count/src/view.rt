@@ -14,6 +14,8 @@ pub struct Exchange {
 pub struct Card {
     /// How many seats of the count may wait.
     pub waiters: u64,
+    /// How many rows the count has.
+    pub rows: u64,
     pub number: u64,
     pub phase: Phase,
     /// The seats that it has popped or taken and not unparked, the next one first.
@@ -37,9 +39,22 @@ pub struct Card {
     pub exchange: Exchange,
     /// How often it swapped its parker word.
     pub polls: u64,
+    /// Whether it has found no stop since its prewait, and of each row whether it has found it
+    /// empty.
+    pub passed_flag: bool,
+    pub passed: LinkedList<bool>,
+    /// Whether it has published or stopped, and not notified since.
+    pub announcing: bool,
+    /// How many more jobs it may publish.
+    pub credits: u64,
+    /// The length, or the stop word, that it last found.
+    pub found: u64,
 }
 
-/// The cards of the seats that a view stands for. A seat in use has its own card alone.
+/// The cards of the seats that a view stands for, the rows of its tickets, and the credits that lie
+/// on no card. A seat in use has its own card alone.
 pub struct View {
     pub cards: LinkedList<Card>,
+    pub tickets: LinkedList<u64>,
+    pub credits: u64,
 }

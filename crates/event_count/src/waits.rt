@@ -1,33 +1,38 @@
 //! The calls that may wait: each looks and tries until no other step comes between the two. Only a
 //! notification may pop, and so it alone looks at the top's next word too.
-ghost use Rattle.std.specs.Prelude.{◌≡◌, [], None};
+ghost use Rattle.std.specs.Prelude.{◌≡◌, [], false, None};
 ghost use Rattle.event_word.specs.declared.phase.Phase.TheVariants.{Running, Pre, Stacked};
 
 use crate::answers::{Committed, TryCancel, TryCommit, TryNotify, TryNotifyAll};
-use crate::count::EventCount;
+use crate::counter::Counter;
+use crate::kind::Kind;
 use crate::rule::parker_word_of;
 use crate::seat::Seat;
 use std::alloc::Allocator;
 use std::sync::Wait;
 
-impl<A: Allocator> EventCount<A> {
+impl<A: Allocator> Counter<A> {
     ghost use Rattle.event_count.specs.Gains.{settling};
-    ghost use Rattle.event_count.specs.Seats.{card_of, looked_of, IsSeatOf};
-    ghost use Rattle.event_count.specs.Waits.{RestsOnCommit, RestsOnCancel, RestsOnNotify};
-    ghost use Rattle.event_count.specs.Waits.{RestsOnNotifyAll, Sleeps};
+    ghost use Rattle.event_count.specs.Seats.{card_of, looked_of, key_of, IsAt};
+    ghost use Rattle.event_count.specs.Kinds.{IsKind, MayCommit};
+    ghost use Rattle.event_count.specs.Waits.{RestsOnCommitIn, RestsOnCancelIn, RestsOnNotifyIn};
+    ghost use Rattle.event_count.specs.Waits.{RestsOnNotifyAllIn, Sleeps};
 
-    /// A pre-waiter takes a signal, or where there is none goes onto the stack and sleeps until it
-    /// is unparked. Where its epochs are used up, it cancels.
-    pub fn commit<R: Wait>(&self, rt: &R, seat: &mut Seat) -> Committed
-        requires of { IsSeatOf self.now seat.old }
+    // A pre-waiter takes a signal, or where there is none goes onto the stack and sleeps until it
+    // is unparked. Where its epochs are used up, it cancels.
+    pub(crate) fn commit<K: Kind, R: Wait>(&self, rt: &R, seat: &mut Seat) -> Committed
+        requires kind { IsKind K.rowed (key_of self.now) }
+        requires of { IsAt self.now seat.old }
+        requires passed { MayCommit K.rowed (key_of self.now) (card_of seat.old) }
         requires pre { (card_of seat.old).phase ≡ Pre }
-        ensures of { IsSeatOf self.now seat.new }
+        ensures of { IsAt self.now seat.new }
         ensures used { looked_of seat.new ≡ None }
-        ensures answer { RestsOnCommit (card_of seat.old) result (card_of seat.new) }
+        ensures answer { RestsOnCommitIn K.rowed (card_of seat.old) result
+            (card_of seat.new) }
     {
         for _ in rt.forever() {
-            let word = self.load_state(seat);
-            match self.commit_at(seat, word) {
+            let word = self.load_state::<K>(seat);
+            match self.commit_at::<K>(seat, word) {
                 TryCommit::Consumed => return Committed::Consumed,
                 TryCommit::Spent => return Committed::Spent,
                 TryCommit::Pushed => {
@@ -42,9 +47,9 @@ impl<A: Allocator> EventCount<A> {
 
     // A stacked seat sleeps until it has taken its token.
     fn take_token<R: Wait>(&self, rt: &R, seat: &mut Seat)
-        requires of { IsSeatOf self.now seat.old }
+        requires of { IsAt self.now seat.old }
         requires stacked { (card_of seat.old).phase ≡ Stacked }
-        ensures of { IsSeatOf self.now seat.new }
+        ensures of { IsAt self.now seat.new }
         ensures used { looked_of seat.new ≡ None }
         ensures card { Sleeps (card_of seat.old) (card_of seat.new) }
     {
@@ -57,16 +62,17 @@ impl<A: Allocator> EventCount<A> {
         }
     }
 
-    /// A pre-waiter gives up waiting.
-    pub fn cancel<R: Wait>(&self, rt: &R, seat: &mut Seat)
-        requires of { IsSeatOf self.now seat.old }
+    // A pre-waiter gives up waiting.
+    pub(crate) fn cancel<K: Kind, R: Wait>(&self, rt: &R, seat: &mut Seat)
+        requires kind { IsKind K.rowed (key_of self.now) }
+        requires of { IsAt self.now seat.old }
         requires pre { (card_of seat.old).phase ≡ Pre }
-        ensures of { IsSeatOf self.now seat.new }
+        ensures of { IsAt self.now seat.new }
         ensures used { looked_of seat.new ≡ None }
-        ensures answer { RestsOnCancel (card_of seat.old) (card_of seat.new) }
+        ensures answer { RestsOnCancelIn K.rowed (card_of seat.old) (card_of seat.new) }
     {
         for _ in rt.forever() {
-            let word = self.load_state(seat);
+            let word = self.load_state::<K>(seat);
             match self.cancel_at(seat, word) {
                 TryCancel::Done => return,
                 TryCancel::Contended => {}
@@ -74,23 +80,25 @@ impl<A: Allocator> EventCount<A> {
         }
     }
 
-    /// Notifies one waiter, where the word of a look that it makes has one to notify, and unparks
-    /// it if it was on the stack.
-    ///
-    /// It needs no fence of its own, as Eigen's does: each step here is sequentially consistent,
-    /// the prewait and the load of this look among them. So if the condition was made true before
-    /// the look, by such a step or under a lock, either the waiter's check comes after it and finds
-    /// the condition true, or its prewait comes before the look, which counts it.
-    pub fn notify<R: Wait>(&self, rt: &R, seat: &mut Seat)
-        requires of { IsSeatOf self.now seat.old }
+    // Notifies one waiter, where the word of a look that it makes has one to notify, and unparks
+    // it if it was on the stack.
+    //
+    // It needs no fence of its own, as Eigen's does: each step here is sequentially consistent,
+    // the prewait and the load of this look among them. So if the condition was made true before
+    // the look, by such a step or under a lock, either the waiter's check comes after it and finds
+    // the condition true, or its prewait comes before the look, which counts it.
+    pub(crate) fn notify<K: Kind, R: Wait>(&self, rt: &R, seat: &mut Seat)
+        requires kind { IsKind K.rowed (key_of self.now) }
+        requires of { IsAt self.now seat.old }
         requires running { (card_of seat.old).phase ≡ Running }
         requires owes_none { (card_of seat.old).owing ≡ [] }
-        ensures of { IsSeatOf self.now seat.new }
+        ensures of { IsAt self.now seat.new }
         ensures used { looked_of seat.new ≡ None }
-        ensures answer { RestsOnNotify (card_of seat.old) (card_of seat.new) }
+        ensures answer { RestsOnNotifyIn K.rowed (card_of seat.old) (card_of seat.new) }
+        ensures silent { (card_of seat.new).announcing ≡ false }
     {
         for _ in rt.forever() {
-            self.look(seat);
+            self.look::<K>(seat);
             match self.try_notify(seat) {
                 TryNotify::Nothing | TryNotify::Signalled => return,
                 TryNotify::Popped(_) => {
@@ -102,18 +110,20 @@ impl<A: Allocator> EventCount<A> {
         }
     }
 
-    /// Notifies all waiters of the state word that it loads, and unparks those that were on the
-    /// stack, the top first.
-    pub fn notify_all<R: Wait>(&self, rt: &R, seat: &mut Seat)
-        requires of { IsSeatOf self.now seat.old }
+    // Notifies all waiters of the state word that it loads, and unparks those that were on the
+    // stack, the top first.
+    pub(crate) fn notify_all<K: Kind, R: Wait>(&self, rt: &R, seat: &mut Seat)
+        requires kind { IsKind K.rowed (key_of self.now) }
+        requires of { IsAt self.now seat.old }
         requires running { (card_of seat.old).phase ≡ Running }
         requires owes_none { (card_of seat.old).owing ≡ [] }
-        ensures of { IsSeatOf self.now seat.new }
+        ensures of { IsAt self.now seat.new }
         ensures used { looked_of seat.new ≡ None }
-        ensures answer { RestsOnNotifyAll (card_of seat.old) (card_of seat.new) }
+        ensures answer { RestsOnNotifyAllIn K.rowed (card_of seat.old) (card_of seat.new) }
+        ensures silent { (card_of seat.new).announcing ≡ false }
     {
         for _ in rt.forever() {
-            let word = self.load_state(seat);
+            let word = self.load_state::<K>(seat);
             match self.notify_all_at(seat, word) {
                 TryNotifyAll::Nothing => return,
                 TryNotifyAll::Taken => {
@@ -127,8 +137,8 @@ impl<A: Allocator> EventCount<A> {
 
     // Unparks all seats that are owed.
     fn unpark_all<R: Wait>(&self, rt: &R, seat: &mut Seat)
-        requires of { IsSeatOf self.now seat.old }
-        ensures of { IsSeatOf self.now seat.new }
+        requires of { IsAt self.now seat.old }
+        ensures of { IsAt self.now seat.new }
         ensures used { looked_of seat.new ≡ None }
         ensures card { card_of seat.new ≡ settling (card_of seat.old) }
     {

@@ -4,7 +4,7 @@ use Rattle.std.proofs.Common.{All, []}
 use Rattle.std.proofs.lemmas.List.{map-append}
 use Rattle.std.proofs.lemmas.List.Elements.{All-nil, All-cons, All-append}
 use Rattle.event_count.specs.declared.seat.Seat.{Seat}
-use Rattle.event_count.specs.Cards.{fresh, view}
+use Rattle.event_count.specs.Cards.{opening_card, view}
 use Rattle.event_count.specs.Seats.{card_of, seat_id, HasNoLook}
 use Rattle.event_count.proofs.First.{fresh_from, fresh_from-more, some_left, next_card}
 use Rattle.event_count.proofs.First.{others_left}
@@ -46,7 +46,7 @@ loop-number-preserved g c =
     let fewer : count - number - 1 ≡ count - (number + 1) = omega arith in record {
       cards = ap (map card_of) items ∙ (map-append card_of seats (c.deal.result ∷ [])
           ∙ ((λ i. c.loop-number.invariant.cards i ++ c.deal.ensures.card i ∷ [])
-          ∙ (ap (λ n. fresh_from k 0 number ++ fresh k n ∷ []) from_zero
+          ∙ (ap (λ n. fresh_from k 0 number ++ opening_card k n ∷ []) from_zero
           ∙ sym (fresh_from-more k 0 number))));
       room = c.push_reserved.ensures.capacity ∙ c.loop-number.invariant.room;
       ours = subst (All ours) (sym items) (All-append ours seats (c.deal.result ∷ [])

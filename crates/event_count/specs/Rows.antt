@@ -1,0 +1,8 @@
+-- What the contracts of a count with rows cite.
+pub mod Gains
+pub mod Plays
+pub mod Steps
+pub mod Laws
+pub mod Seats
+pub mod Ending
+pub mod Calls

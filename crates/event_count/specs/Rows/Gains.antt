@@ -1,0 +1,54 @@
+-- What the steps on rows and on the stop word make of a seat's card.
+use Rattle.std.specs.Prelude.{ℕ, ◌+◌, ◌-◌, ◌==◌, Bool, true, false, [], ◌∷◌, slice_set}
+use Rattle.event_word.specs.declared.event.Event.TheVariants.{Publish, Take, Pass, PassFlag, Stop}
+use Rattle.event_count.specs.declared.view.Card.{Card}
+use Rattle.event_count.specs.Gains.{gaining}
+
+-- after a job more in the row, which took a credit: the seat is to notify
+abbrev pub publishing : Card → ℕ → Card
+publishing c row = record (gaining c c.phase (Publish c.number row ∷ [])) {
+  announcing = true;
+  credits = c.credits - 1;
+}
+
+-- after a job less in the row, which gave a credit
+abbrev pub redeeming : Card → ℕ → Card
+redeeming c row =
+    record (gaining c c.phase (Take c.number row ∷ [])) { credits = c.credits + 1 }
+
+-- the row is passed, or isn't
+abbrev pub passing_by : Bool → Card → ℕ → Card
+passing_by true c row = record (gaining c c.phase (Pass c.number row ∷ [])) {
+  passed = slice_set c.passed row true;
+}
+passing_by false c row = c
+
+-- after a load of the row's length: it is passed where it has no jobs
+abbrev pub passing : Card → ℕ → ℕ → Card
+passing c row found = record (passing_by (found == 0) c row) { found = found }
+
+-- the flag is passed, or isn't
+abbrev pub passing_flag_by : Bool → Card → Card
+passing_flag_by true c =
+    record (gaining c c.phase (PassFlag c.number ∷ [])) { passed_flag = true }
+passing_flag_by false c = c
+
+-- after a load of the stop word: the flag is passed where nobody has stopped
+abbrev pub passing_flag : Card → ℕ → Card
+passing_flag c found = record (passing_flag_by (found == 0) c) { found = found }
+
+-- the seat has stopped the count and is to notify, or another had
+abbrev pub stopping_by : Bool → Card → Card
+stopping_by true c = record (gaining c c.phase (Stop c.number ∷ [])) { announcing = true }
+stopping_by false c = c
+
+-- after an exchange of the stop word: the seat has stopped the count where nobody had
+abbrev pub stopping : Card → ℕ → Card
+stopping c found = record (stopping_by (found == 0) c) { found = found }
+
+-- after a credit was lent to another seat, or accepted from one
+abbrev pub lending : Card → Card
+lending c = record c { credits = c.credits - 1 }
+
+abbrev pub accepting : Card → Card
+accepting c = record c { credits = c.credits + 1 }

@@ -1,0 +1,69 @@
+-- What each step on a row, or on the stop word, tells the seat that makes it.
+use Rattle.std.specs.Prelude.{◌≡◌, ℕ, ◌+◌, ◌<◌, ◌≤◌, true, [], ◌∷◌}
+use Rattle.event_word.specs.Step.{row_limit}
+use Rattle.event_count.specs.declared.rule.TheConstants.{STOP}
+use Rattle.event_count.specs.declared.view.Card.{Card}
+use Rattle.event_count.specs.declared.view.View.{View}
+use Rattle.event_count.specs.Places.{row_place}
+use Rattle.event_count.specs.Cards.{holding, only, card_in}
+use Rattle.event_count.specs.Kinds.{has_passed_row}
+use Rattle.event_count.specs.Gains.{foremost}
+use Rattle.event_count.specs.Plays.{Told}
+use Rattle.event_count.specs.Rows.Gains.{publishing, redeeming, passing, passing_flag, stopping}
+use Rattle.event_count.specs.Rows.Gains.{lending, accepting}
+
+-- the step is on the length of this row
+abbrev pub IsOnRow : Card → ℕ → ℕ → Type 0
+IsOnRow c place row = (row < c.rows) × (place ≡ row_place (c.waiters + c.rows) row)
+
+-- the row has a job more, and the seat its ticket
+abbrev pub publishes : Told
+publishes step before found after = (row : ℕ) × IsOnRow (card_in before.0) step.word row
+    × (after ≡ (holding (row ∷ []) (publishing (card_in before.0) row), before.1))
+
+-- the row has a job less, and the seat no ticket; no seat has more credits than a row counts jobs
+abbrev pub redeems : Told
+redeems step before found after =
+    IsOnRow (card_in before.0) step.word (foremost before.0.tickets)
+    × (after ≡ (only (redeeming (card_in before.0) (foremost before.0.tickets)), before.1))
+    × ((card_in after.0).credits ≤ row_limit)
+
+-- the row is passed where it has no jobs
+abbrev pub passes : Told
+passes step before found after = (row : ℕ) × IsOnRow (card_in before.0) step.word row
+    × (after ≡ (only (passing (card_in before.0) row found), before.1))
+    × (found ≡ 0 → has_passed_row (passing (card_in before.0) row found) row ≡ true)
+
+-- the flag is passed where nobody has stopped
+abbrev pub passes_flag : Told
+passes_flag step before found after = (step.word ≡ STOP)
+    × (after ≡ (only (passing_flag (card_in before.0) found), before.1))
+
+-- the seat has stopped the count where nobody had
+abbrev pub stops : Told
+stops step before found after = (step.word ≡ STOP)
+    × (after ≡ (only (stopping (card_in before.0) found), before.1))
+
+-- nothing changes; no seat has more credits than a row counts jobs
+abbrev pub weighs : Told
+weighs step before found after = (step.word ≡ STOP) × (after ≡ before)
+    × ((card_in before.0).credits ≤ row_limit)
+
+-- a ticket is cut off: what the seat is left with, and the view of the ticket
+abbrev pub after_cut : View → View
+after_cut v = record v { tickets = [] }
+
+abbrev pub cut : View → View
+cut v = record { cards = []; tickets = v.tickets; credits = 0 }
+
+-- a credit is cut off
+abbrev pub after_lend : View → View
+after_lend v = only (lending (card_in v))
+
+-- a seat takes in a ticket's view
+abbrev pub with_tickets : View → View → View
+with_tickets v w = record v { tickets = w.tickets }
+
+-- a seat takes in a credit's view
+abbrev pub with_credit : View → View → View
+with_credit v w = only (accepting (card_in v))

@@ -1,0 +1,98 @@
+//! The event count with rows of jobs and a stop word: how it is made and closed.
+ghost use Rattle.std.specs.Prelude.{◌≡◌, ◌+◌, ◌<◌, ◌≤◌, ◌↔◌, map, All, vec_len, IfOk, IsErrOf};
+ghost use Rattle.event_word.specs.Step.{row_limit};
+ghost use Rattle.event_count.specs.Limits.{most_waiters, epoch_limit};
+ghost use Rattle.event_count.specs.Cards.{opening_cards};
+ghost use Rattle.event_count.specs.Tickets.{credits_for};
+
+use crate::counter::Counter;
+use crate::fault::RowFault;
+use crate::rule::{MOST_CREDITS, MOST_WAITERS, RowSizes};
+use crate::seat::Seat;
+use std::alloc::{Allocator, Global};
+
+/// An event count whose table also has the lengths of rows of jobs, and the word that stops all who
+/// wait. So a waiter sleeps only where it has found each row empty and no stop since its prewait,
+/// and whoever publishes a job, or stops the count, is to notify.
+///
+/// The jobs lie elsewhere, each with the ticket that its publish gave. All calls are made through a
+/// seat, and each seat by one thread at a time.
+#[derive(Drop)]
+pub struct RowCount<A: Allocator = Global> {
+    pub(crate) counter: Counter<A>,
+    pub(crate) sizes: RowSizes,
+    ghost kept: { counter.table.shared.key ≡ sizes },
+    ghost some: { 0 < sizes.rows },
+}
+
+// The credits of all seats together.
+fn all_credits(sizes: &RowSizes) -> u64
+    ensures { result ≡ credits_for sizes.now }
+{
+    (u64::from(sizes.waiters) + u64::from(sizes.notifiers)) * u64::from(sizes.credits)
+}
+
+impl<A: Allocator> RowCount<A> {
+    ghost use Rattle.event_count.specs.Seats.{card_of, IsIdle, HasNoLook};
+    ghost use Rattle.event_count.specs.Rows.Seats.{row_sizes_of, row_seats_of, IsSeatAt, IsSilent};
+    ghost use Rattle.event_count.specs.Rows.Ending.{EndsRows};
+
+    /// A count of these sizes, and its seats by number: the waiters' first, and then the
+    /// notifiers'. Each begins with its credits.
+    pub fn new(alloc: A, sizes: &RowSizes) -> Result<(RowCount<A>, Vec<Seat, A>), RowFault>
+    where
+        A: Clone,
+        requires waiters { 0 < sizes.now.waiters }
+        requires rows { 0 < sizes.now.rows }
+        requires first { sizes.now.first < epoch_limit }
+        ensures too_many_waiters { IsErrOf result RowFault.TooManyWaiters
+            ↔ (most_waiters < sizes.now.waiters) }
+        ensures too_many_credits { IsErrOf result RowFault.TooManyCredits
+            ↔ ((sizes.now.waiters ≤ most_waiters) × (row_limit < credits_for sizes.now)) }
+        ensures sizes { IfOk result (λ made. row_sizes_of made.0 ≡ sizes.now) }
+        ensures cards { IfOk result (λ made.
+            map card_of made.1.items ≡ opening_cards sizes.now) }
+        ensures many { IfOk result (λ made.
+            vec_len made.1 ≡ sizes.now.waiters + sizes.now.notifiers) }
+        ensures idle { IfOk result (λ made. All IsIdle made.1.items) }
+        ensures unlooked { IfOk result (λ made. All HasNoLook made.1.items) }
+        ensures silent { IfOk result (λ made. All IsSilent made.1.items) }
+        ensures ours { IfOk result (λ made. All (IsSeatAt made.0) made.1.items) }
+    {
+        if sizes.waiters > MOST_WAITERS {
+            return Err(RowFault::TooManyWaiters);
+        }
+        if all_credits(sizes) > MOST_CREDITS {
+            return Err(RowFault::TooManyCredits);
+        }
+        let (counter, seats) = Counter::with_sizes(alloc, sizes)?;
+        Ok((
+            RowCount {
+                counter,
+                sizes: *sizes,
+            },
+            seats,
+        ))
+    }
+
+    /// The last word, which nobody waits in. What the seats have done is one history, as of a count
+    /// alone. Who has all credits back knows that all rows are empty.
+    pub fn close<B: Allocator>(self, mut seats: Vec<Seat, B>) -> u64
+        requires ours { All (IsSeatAt self) seats.items }
+        requires all { vec_len seats ≡ row_seats_of self }
+        requires idle { All IsIdle seats.items }
+        ensures word { result ≡ 0x3FFF }
+        ensures ends { EndsRows (row_sizes_of self) (map card_of seats.items) }
+    {
+        let RowCount { counter, .. } = self;
+        counter.close_with(&mut seats)
+    }
+
+    // How many lines there are for waiters and rows.
+    pub(crate) fn lines(&self) -> usize
+        ensures sum { result ≡ (row_sizes_of self.now).waiters + (row_sizes_of self.now).rows }
+        ensures few { result ≤ 131070 }
+    {
+        usize::from(self.sizes.waiters) + usize::from(self.sizes.rows)
+    }
+}
