@@ -1,8 +1,8 @@
 //! Events that are drawn, by a World and by the tables that it is a model of, side by side.
+ghost use Rattle.std.specs.Prelude.{◌<◌};
 
-use crate::count_moves::Before;
 use crate::sizes::Sizes;
-use crate::tables;
+use crate::tables::{self, count_moves::Before};
 use event_word::{Event, World};
 use rand_core::SeedableRng;
 use rand_core::utils::NextWord;
@@ -17,23 +17,27 @@ const SIZES: Sizes = Sizes {
     rows: 2,
 };
 
-/// How many runs from an opening World, and how many events of each. In its last ones workers may
-/// be stopped.
+/// How many runs from an opening World.
 const RUNS: u64 = 100;
 
-const EVENTS: u64 = 1000;
+/// How many events a run has. In its last ones workers may be stopped.
+pub(crate) const EVENTS: u64 = 1000;
 
 const STOPS_FROM: u64 = 950;
 
 /// How many words are drawn for a run at most. One that picks an event that isn't possible is
 /// passed over.
-const DRAWS: u32 = 1_000_000;
+pub(crate) const DRAWS: u32 = 1_000_000;
 
-// The event that a word picks, possible or not.
-fn event_of(word: u32, may_stop: bool) -> Event {
+/// The event that a word picks behind so many others, possible or not, of three workers, two
+/// notifiers and so many rows.
+pub(crate) fn event_of(word: u32, rows: u16, taken: u64) -> Event
+    requires some { 0 < rows }
+{
+    let may_stop = taken >= STOPS_FROM;
     let seat = (word / 16 % 3) as u16;
     let actor = word / 64 % 5;
-    let row = (word / 512 % 2) as u16;
+    let row = (word / 512 % u32::from(rows)) as u16;
     match word % 16 {
         0 | 1 => Event::Publish { actor, row },
         2 => Event::Take { actor, row },
@@ -62,7 +66,7 @@ fn run<R: Wait + Abort>(rt: &R, alloc: Global, words: &mut Lcg64Xsh32) -> u64 {
         if taken == EVENTS {
             break;
         }
-        let event = event_of(words.next_word(), taken >= STOPS_FROM);
+        let event = event_of(words.next_word(), SIZES.rows, taken);
         let before = Before::of(&world);
         if world.step(event) {
             tables::take(rt, &tables, &mut seats, &world, before, event);

@@ -1,11 +1,11 @@
 //! The numbers and the texts of faults.
 
-use event_count::CountFault;
+use event_count::{CountFault, RowFault};
 use pool_barrier::BarrierFault;
 use run_queue::RowsFault;
 use steal_walk::PartitionFault;
 
-const NUMBERS: [(u8, u8); 8] = [
+const NUMBERS: [(u8, u8); 11] = [
     (PartitionFault::Empty as u8, 1),
     (PartitionFault::OutOfPool as u8, 2),
     (RowsFault::TooManyRows as u8, 1),
@@ -14,6 +14,9 @@ const NUMBERS: [(u8, u8); 8] = [
     (BarrierFault::NoMemory as u8, 2),
     (CountFault::TooManyWaiters as u8, 1),
     (CountFault::NoMemory as u8, 2),
+    (RowFault::TooManyWaiters as u8, 1),
+    (RowFault::TooManyCredits as u8, 2),
+    (RowFault::NoMemory as u8, 3),
 ];
 
 const TEXTS: &str = "the partition is empty, the partition ends outside the pool, \

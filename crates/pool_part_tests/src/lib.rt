@@ -9,8 +9,6 @@ mod calls;
 #[cfg(test)]
 mod coprimes;
 #[cfg(test)]
-mod count_moves;
-#[cfg(test)]
 mod drawn;
 #[cfg(test)]
 mod faults;
@@ -23,7 +21,7 @@ mod partitions;
 #[cfg(test)]
 mod replays;
 #[cfg(test)]
-mod row_moves;
+mod row_count;
 #[cfg(test)]
 mod rows;
 #[cfg(test)]
@@ -36,8 +34,6 @@ mod slot_rows;
 mod small_worlds;
 #[cfg(test)]
 mod steps;
-#[cfg(test)]
-mod stops;
 #[cfg(test)]
 mod tables;
 #[cfg(test)]

@@ -3,10 +3,9 @@ ghost use Rattle.std.specs.Prelude.{◌≡◌, ◌+◌, All, length};
 ghost use Rattle.event_count.specs.Seats.{sizes_of, IsSeatOf};
 ghost use Rattle.run_queue.specs.SlotSeats.{table_of, rows_id, row_count_of};
 
-use crate::count_moves::Before;
 use crate::sizes::Sizes;
 use crate::steps::Step;
-use crate::tables::{self, Seats, Tables};
+use crate::tables::{self, Seats, Tables, count_moves::Before};
 use crate::told::expect;
 use event_count::TryNotify;
 use event_word::{Event, Phase, World};
@@ -16,7 +15,7 @@ use std::sync::Wait;
 
 /// One move of a story.
 #[derive(Clone, Copy)]
-enum Move {
+pub(crate) enum Move {
     /// The event is possible, and is taken.
     Takes(Event),
     /// It isn't possible, and what its actor sees of the tables says so.
@@ -26,12 +25,12 @@ enum Move {
 }
 
 /// Moves from an opening World. So many take an event, and the first worker is in this phase then.
-struct Story {
-    name: &'static str,
-    sizes: Sizes,
-    moves: &'static [Move],
-    taken: u64,
-    first: Phase,
+pub(crate) struct Story {
+    pub(crate) name: &'static str,
+    pub(crate) sizes: Sizes,
+    pub(crate) moves: &'static [Move],
+    pub(crate) taken: u64,
+    pub(crate) first: Phase,
 }
 
 const ONE_WORKER: Sizes = Sizes {
@@ -40,7 +39,8 @@ const ONE_WORKER: Sizes = Sizes {
     rows: 1,
 };
 
-const STORIES: [Story; 5] = [
+/// The worked stories. A row that has no part in one is empty, and is passed.
+pub(crate) const STORIES: [Story; 5] = [
     // A worker passes the flag and the row, and gets a signal with the job that comes then.
     Story {
         name: "a row is passed and filled",
@@ -100,11 +100,12 @@ const STORIES: [Story; 5] = [
         sizes: Sizes {
             workers: 2,
             notifiers: 2,
-            rows: 0,
+            rows: 1,
         },
         moves: &[
             Move::Takes(Event::Prewait { seat: 0 }),
             Move::Takes(Event::PassFlag { seat: 0 }),
+            Move::Takes(Event::Pass { seat: 0, row: 0 }),
             Move::Takes(Event::Commit { seat: 0 }),
             Move::Steps(2, Step::Looks(0)),
             Move::Takes(Event::Notify { actor: 3 }),
@@ -112,9 +113,11 @@ const STORIES: [Story; 5] = [
             Move::Takes(Event::Wake { seat: 0 }),
             Move::Takes(Event::Prewait { seat: 1 }),
             Move::Takes(Event::PassFlag { seat: 1 }),
+            Move::Takes(Event::Pass { seat: 1, row: 0 }),
             Move::Takes(Event::Commit { seat: 1 }),
             Move::Takes(Event::Prewait { seat: 0 }),
             Move::Takes(Event::PassFlag { seat: 0 }),
+            Move::Takes(Event::Pass { seat: 0, row: 0 }),
             Move::Takes(Event::Commit { seat: 0 }),
             Move::Steps(2, Step::TriesNotify(TryNotify::Contended)),
             Move::Takes(Event::Notify { actor: 2 }),
@@ -124,7 +127,7 @@ const STORIES: [Story; 5] = [
             Move::Takes(Event::Wake { seat: 0 }),
             Move::Takes(Event::Wake { seat: 1 }),
         ],
-        taken: 18,
+        taken: 21,
         first: Phase::Running,
     },
     // Two seats of three are taken off the stack at once, and the one that is unparked first goes
@@ -134,23 +137,27 @@ const STORIES: [Story; 5] = [
         sizes: Sizes {
             workers: 3,
             notifiers: 1,
-            rows: 0,
+            rows: 1,
         },
         moves: &[
             Move::Takes(Event::Prewait { seat: 0 }),
             Move::Takes(Event::PassFlag { seat: 0 }),
+            Move::Takes(Event::Pass { seat: 0, row: 0 }),
             Move::Takes(Event::Commit { seat: 0 }),
             Move::Takes(Event::Prewait { seat: 1 }),
             Move::Takes(Event::PassFlag { seat: 1 }),
+            Move::Takes(Event::Pass { seat: 1, row: 0 }),
             Move::Takes(Event::Commit { seat: 1 }),
             Move::Takes(Event::Prewait { seat: 2 }),
             Move::Takes(Event::NotifyAll { actor: 3 }),
             Move::Takes(Event::Unpark { actor: 3 }),
             Move::Takes(Event::PassFlag { seat: 2 }),
+            Move::Takes(Event::Pass { seat: 2, row: 0 }),
             Move::Takes(Event::Commit { seat: 2 }),
             Move::Takes(Event::Wake { seat: 1 }),
             Move::Takes(Event::Prewait { seat: 1 }),
             Move::Takes(Event::PassFlag { seat: 1 }),
+            Move::Takes(Event::Pass { seat: 1, row: 0 }),
             Move::Takes(Event::Commit { seat: 1 }),
             Move::Takes(Event::Unpark { actor: 3 }),
             Move::Takes(Event::Notify { actor: 3 }),
@@ -158,7 +165,7 @@ const STORIES: [Story; 5] = [
             Move::Takes(Event::Wake { seat: 0 }),
             Move::Takes(Event::Wake { seat: 1 }),
         ],
-        taken: 20,
+        taken: 24,
         first: Phase::Running,
     },
 ];

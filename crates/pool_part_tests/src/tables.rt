@@ -4,17 +4,20 @@ ghost use Rattle.std.specs.Prelude.{◌≡◌, ◌+◌, All, length};
 ghost use Rattle.event_count.specs.Seats.{sizes_of, IsSeatOf};
 ghost use Rattle.run_queue.specs.SlotSeats.{table_of, rows_id, row_count_of};
 
-use crate::count_moves::{self, Before, phase_of};
-use crate::row_moves;
+pub(crate) mod count_moves;
+mod row_moves;
+mod stops;
+
 use crate::sizes::Sizes;
 use crate::steps::{self, Step};
-use crate::stops::StopFlag;
+use count_moves::{Before, phase_of};
 use event_count::{EventCount, Phase, Seat};
 use event_word::{Event, World, unpack};
 use run_queue::{SlotRows, SlotSeat};
 use std::alloc::Global;
 use std::process::Abort;
 use std::sync::Wait;
+use stops::StopFlag;
 
 /// The tables.
 #[derive(Drop)]
@@ -60,7 +63,8 @@ pub(crate) fn open<R: Abort>(rt: &R, alloc: Global, sizes: Sizes) -> (Tables, Se
     (tables, seats)
 }
 
-fn actor_of(event: Event) -> u32 {
+/// The one that acts.
+pub(crate) fn actor_of(event: Event) -> u32 {
     match event {
         Event::Publish { actor, .. }
         | Event::Notify { actor }

@@ -60,8 +60,8 @@ pub(crate) fn takes<R: Wait>(
     steps::takes(rt, count, sizes.workers, seat, step)
 }
 
-// The step that takes the event.
-fn step_of(sizes: Sizes, world: &World, before: Before, actor: u32, event: Event) -> Option<Step>
+/// The step that takes the event, where it is one of a count's. The World has taken it.
+pub(crate) fn step_of(sizes: Sizes, world: &World, before: Before, actor: u32, event: Event) -> Option<Step>
     requires workers { length world.now.phases ≡ sizes.workers }
     requires actor { actor < length world.now.owed }
 {

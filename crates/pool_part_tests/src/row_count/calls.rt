@@ -1,0 +1,124 @@
+//! Calls on counts with rows: sizes that are refused, credits, what a look at all rows answers, and stops.
+ghost use Rattle.std.specs.Prelude.{◌≡◌, ◌<◌, false};
+ghost use Rattle.event_count.specs.Seats.{card_of, IsIdle};
+ghost use Rattle.event_count.specs.Rows.Seats.{row_sizes_of, IsSeatAt};
+
+use event_count::{Committed, PassAll, RowCount, RowFault, RowSizes, Seat};
+use std::alloc::Global;
+use std::process::Abort;
+
+/// Waiters, notifiers and credits, and the fault of such a count.
+const SIZES: [(u16, u16, u32, Option<RowFault>); 6] = [
+    (1, 0, 0, None),
+    (16_382, 1, 64, None),
+    (1, 1, 524_288, None),
+    (1, 1, 524_289, Some(RowFault::TooManyCredits)),
+    (16_383, 1, 0, Some(RowFault::TooManyWaiters)),
+    (16_383, 1, 524_289, Some(RowFault::TooManyWaiters)),
+];
+
+// The seats are numbered from 0 on, each has its credits, and such a count ends at one word.
+#[test]
+fn counts_with_rows_are_made_and_closed(rt: HostRuntime) {
+    for (waiters, notifiers, credits, fault) in SIZES {
+        let sizes = RowSizes {
+            waiters,
+            notifiers,
+            first: 0,
+            rows: 2,
+            credits,
+        };
+        let is_right = match RowCount::new(rt.alloc(), &sizes) {
+            Ok((count, seats)) => {
+                let all = usize::from(waiters) + usize::from(notifiers);
+                let is_numbered = match seats.last() {
+                    Some(last) => {
+                        last.number() as usize + 1 == all && last.credits() == credits
+                    }
+                    None => false,
+                };
+                let is_numbered = is_numbered && seats.len() == all;
+                count.close(seats) == 0x3FFF && is_numbered && fault.is_none()
+            }
+            Err(found) => Some(found) == fault,
+        };
+        assert!(rt; is_right, "{waiters}, {notifiers} and {credits}");
+    }
+}
+
+// A count of one waiter and one notifier, of two rows, with a credit each.
+fn pair<R: Abort>(rt: &R, alloc: Global) -> (RowCount, Seat, Seat)
+    ensures rows { (row_sizes_of result.0).rows ≡ 2 }
+    ensures waiter_ours { IsSeatAt result.0 result.1 }
+    ensures notifier_ours { IsSeatAt result.0 result.2 }
+    ensures waits { (card_of result.1).number < (row_sizes_of result.0).waiters }
+    ensures idle { IsIdle result.1 × IsIdle result.2 }
+    ensures waiter_silent { (card_of result.1).announcing ≡ false }
+    ensures notifier_silent { (card_of result.2).announcing ≡ false }
+{
+    let sizes = RowSizes {
+        waiters: 1,
+        notifiers: 1,
+        first: 0,
+        rows: 2,
+        credits: 1,
+    };
+    let Ok((count, mut seats)) = RowCount::new(alloc, &sizes) else {
+        panic!(rt; "no count")
+    };
+    let (Some(notifier), Some(waiter)) = (seats.pop(), seats.pop()) else {
+        panic!(rt; "there are two seats")
+    };
+    assert!(rt; waiter.number() == 0 && notifier.number() == 1);
+    (count, waiter, notifier)
+}
+
+// A job takes the notifier's credit, its end gives the waiter one, and that is lent back.
+#[test]
+fn a_credit_goes_round(rt: HostRuntime) {
+    let (count, mut waiter, mut notifier) = pair(&rt, rt.alloc());
+    let Some(ticket) = count.publish(&mut notifier, 1) else {
+        panic!(rt; "there is a credit")
+    };
+    assert!(rt; ticket.row() == 1 && notifier.credits() == 0);
+    count.notify(&rt, &mut notifier);
+    assert!(rt; count.publish(&mut notifier, 0).is_none(), "no credit is left");
+    count.prewait(&mut waiter);
+    let (found_first, found) = (count.pass(&mut waiter, 0), count.pass(&mut waiter, 1));
+    assert!(rt; (found_first, found) == (0, 1) && count.pass_flag(&mut waiter));
+    assert!(rt; count.pass_all(&mut waiter) == PassAll::Jobs(1));
+    count.cancel(&rt, &mut waiter);
+    count.take(&mut waiter, ticket);
+    let Some(credit) = count.lend(&mut waiter) else {
+        panic!(rt; "the job's end gave a credit")
+    };
+    assert!(rt; (waiter.credits(), notifier.credits()) == (1, 0));
+    count.accept(&mut notifier, credit);
+    assert!(rt; notifier.credits() == 1);
+    let mut seats = Vec::new(rt.alloc());
+    assert!(rt; seats.push(waiter).is_ok() && seats.push(notifier).is_ok());
+    assert!(rt; count.close(seats) == 0x3FFF);
+}
+
+// A waiter that has passed all takes the signal of a job that comes then, and finds the stop.
+#[test]
+fn a_job_and_a_stop_behind_a_pass(rt: HostRuntime) {
+    let (count, mut waiter, mut notifier) = pair(&rt, rt.alloc());
+    count.prewait(&mut waiter);
+    let PassAll::Passed = count.pass_all(&mut waiter) else {
+        panic!(rt; "all rows are empty")
+    };
+    let Some(ticket) = count.publish(&mut notifier, 0) else {
+        panic!(rt; "there is a credit")
+    };
+    count.notify(&rt, &mut notifier);
+    assert!(rt; count.commit(&rt, &mut waiter) == Committed::Consumed);
+    count.take(&mut waiter, ticket);
+    assert!(rt; count.stop(&mut notifier), "nobody has stopped it");
+    count.notify_all(&rt, &mut notifier);
+    count.prewait(&mut waiter);
+    assert!(rt; !count.pass_flag(&mut waiter));
+    assert!(rt; count.pass_all(&mut waiter) == PassAll::Stopped);
+    count.cancel(&rt, &mut waiter);
+    assert!(rt; !count.stop(&mut waiter), "it was stopped before");
+}
