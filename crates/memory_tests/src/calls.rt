@@ -1,7 +1,7 @@
 //! Calls that take memory, made with an allocator that refuses.
 
 use crate::refusing::Sparing;
-use event_count::{CountFault, EventCount, LockedCount, WaitPoint};
+use event_count::{CountFault, EventCount, LockedCount, RowCount, RowFault, RowSizes, WaitPoint};
 use event_word::{Event, World};
 use parallel_for::leaves;
 use pool_barrier::{Barrier, BarrierFault, Notification};
@@ -21,6 +21,7 @@ pub(crate) enum Call {
     EventCountAtTheLastEpoch { waiters: u16 },
     EventCountAsPoint { waiters: u16 },
     LockedCount { waiters: u16 },
+    RowCount { waiters: u16 },
     World,
     Row,
     LockedRows,
@@ -60,6 +61,15 @@ impl Answer {
         }
     }
 
+    // The same, of a count with rows.
+    fn of_row_count(counted: Result<(usize, u64), RowFault>) -> Answer {
+        match counted {
+            Ok(seats_and_word) => Answer::right_where(seats_and_word == (3, 0x3FFF)),
+            Err(RowFault::NoMemory) => Answer::NoMemory,
+            Err(RowFault::TooManyWaiters) | Err(RowFault::TooManyCredits) => Answer::TooMuch,
+        }
+    }
+
     fn of_rows(answered: Result<bool, RowsFault>) -> Answer {
         match answered {
             Ok(is_right) => Answer::right_where(is_right),
@@ -91,6 +101,7 @@ pub(crate) fn make<R: Wait>(rt: &R, call: Call, heap: &Heap) -> Answer {
         Call::LockedCount { waiters } => {
             Answer::of_count(point::<LockedCount<&Heap>>(heap, waiters))
         }
+        Call::RowCount { waiters } => Answer::of_row_count(row_count(heap, waiters)),
         Call::World => Answer::of_memory(world(heap)),
         Call::Row => Answer::of_memory(row(heap)),
         Call::LockedRows => Answer::of_rows(two_rows::<R, LockedRows<u64, &Heap>>(rt, heap)),
@@ -136,6 +147,19 @@ fn point<'h, P: WaitPoint<&'h Heap>>(
 ) -> Result<(usize, u64), CountFault> {
     let (point, seats) = P::open(heap, waiters.max(1), 1)?;
     Ok((seats.len(), point.shut(seats)))
+}
+
+// The same, of a count with three rows. One waits at the least.
+fn row_count(heap: &Heap, waiters: u16) -> Result<(usize, u64), RowFault> {
+    let sizes = RowSizes {
+        waiters: waiters.max(1),
+        notifiers: 1,
+        first: 0,
+        rows: 3,
+        credits: 65,
+    };
+    let (count, seats) = RowCount::new(heap, &sizes)?;
+    Ok((seats.len(), count.close(seats)))
 }
 
 // A World with a row plays six events, which leave one signal.

@@ -5,7 +5,7 @@ use crate::calls::{Answer, Call, make};
 use crate::refusing::Sparing;
 
 /// Calls, and how many allocations each takes.
-const CALLS: [(Call, u64); 12] = [
+const CALLS: [(Call, u64); 13] = [
     // A table takes two blocks.
     (Call::Barrier { notices: 2 }, 2),
     (Call::Notification, 2),
@@ -13,6 +13,7 @@ const CALLS: [(Call, u64); 12] = [
     (Call::EventCount { waiters: 2 }, 4),
     (Call::EventCountAtTheLastEpoch { waiters: 2 }, 4),
     (Call::EventCountAsPoint { waiters: 2 }, 4),
+    (Call::RowCount { waiters: 2 }, 4),
     // The World takes eight blocks, and the seats one.
     (Call::LockedCount { waiters: 2 }, 9),
     // Nine lists, one allocation each, and for each of the two workers a list of the rows that it
@@ -32,7 +33,7 @@ const CALLS: [(Call, u64); 12] = [
 const AMPLE: u64 = 12;
 
 /// Calls that ask for too much.
-const TOO_MUCH: [Call; 7] = [
+const TOO_MUCH: [Call; 9] = [
     Call::Barrier {
         notices: 2_147_483_648,
     },
@@ -40,6 +41,9 @@ const TOO_MUCH: [Call; 7] = [
     Call::EventCountAtTheLastEpoch { waiters: 16_383 },
     Call::EventCountAsPoint { waiters: 16_383 },
     Call::LockedCount { waiters: 16_383 },
+    Call::RowCount { waiters: 16_383 },
+    // Its seats have too many credits together.
+    Call::RowCount { waiters: 16_382 },
     Call::TooManyRows,
     Call::TooManySlotRows,
 ];

@@ -5,7 +5,8 @@ ghost use Rattle.run_queue.specs.SlotSeats.{table_of, rows_id, row_count_of};
 
 use crate::sizes::Sizes;
 use crate::steps::Step;
-use crate::tables::{self, Seats, Tables, count_moves::Before};
+use crate::tables::count_moves::Before;
+use crate::tables::{self, Seats, Tables};
 use crate::told::expect;
 use event_count::TryNotify;
 use event_word::{Event, Phase, World};

@@ -212,7 +212,10 @@ fn expect_shown<R: Abort>(rt: &R, table: &Table, party: &mut Party, world: &Worl
     let credits = credits_of(&party.actors).saturating_add(u64::from(party.watcher.seat.credits()));
     let left = credits.saturating_add(party.tickets.len() as u64);
     let many = party.actors.len().saturating_add(1) as u64;
-    assert!(rt; left == many.saturating_mul(u64::from(CREDITS)), "credits and tickets");
+    assert!(rt;
+        left == many.saturating_mul(u64::from(CREDITS)),
+        "credits and tickets"
+    );
     let watcher = &mut party.watcher;
     let fields = unpack(table.count.look(&mut watcher.seat));
     let top = world.stack().first().copied().unwrap_or(16_383);
@@ -236,7 +239,10 @@ fn expect_seats<R: Abort>(rt: &R, actors: &Vec<Actor>, sizes: Sizes, world: &Wor
         assert!(rt; number < all);
         let is_phase = actor.seat.phase() == phase_of(world, sizes, number);
         let owes = world.owed(number, 0).is_some();
-        assert!(rt; is_phase && actor.seat.owing() == owes, "the seat of {number}");
+        assert!(rt;
+            is_phase && actor.seat.owing() == owes,
+            "the seat of {number}"
+        );
         number += 1;
     }
 }

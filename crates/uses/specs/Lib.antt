@@ -1,4 +1,5 @@
 pub mod Counts
+pub mod Crews
 pub mod Lists
 pub mod Programs
 pub mod Trees

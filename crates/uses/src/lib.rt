@@ -6,6 +6,7 @@ pub mod fence;
 pub mod hand_over;
 pub mod histogram;
 pub mod leaves;
+pub mod queued_sum;
 pub mod squares;
 pub mod stolen_sum;
 pub mod walk_once;

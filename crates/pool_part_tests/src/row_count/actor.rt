@@ -3,7 +3,7 @@ ghost use Rattle.std.specs.Prelude.{◌≡◌, ℕ, ◌+◌, true, false, IsTrue
 ghost use Rattle.event_word.specs.declared.phase.Phase.TheVariants.{Pre};
 ghost use Rattle.event_count.specs.Seats.{card_of, IsIdle};
 ghost use Rattle.event_count.specs.Kinds.{has_passed_row, HasPassed};
-ghost use Rattle.event_count.specs.Rows.Seats.{row_sizes_of, IsSeatAt, IsTicketAt};
+ghost use Rattle.event_count.specs.Rows.Seats.{row_sizes_of, IsSilent, IsSeatAt, IsTicketAt};
 
 use crate::sizes::Sizes;
 use crate::steps::{Step, is_idle};
@@ -29,7 +29,7 @@ pub(crate) struct Actor {
     // What it has passed since its prewait.
     flag: bool,
     passed: Vec<bool>,
-    ghost quiet: { silent ≡ true → (card_of seat).announcing ≡ false },
+    ghost quiet: { silent ≡ true → IsSilent seat },
     ghost flagged: { flag ≡ true → (card_of seat).passed_flag ≡ true },
     ghost empty: { (row : ℕ) → slice_index_or passed.items row false ≡ true
         → has_passed_row (card_of seat) row ≡ true },
@@ -38,7 +38,7 @@ pub(crate) struct Actor {
 impl Actor {
     /// A seat that has done nothing.
     pub(crate) fn of(alloc: Global, seat: Seat, rows: u16) -> Result<Actor, AllocError>
-        requires silent { (card_of seat).announcing ≡ false }
+        requires silent { IsSilent seat }
         ensures seat { IfOk result (λ actor. actor.seat ≡ seat) }
     {
         let mut passed = Vec::new(alloc);
@@ -165,7 +165,7 @@ impl Actor {
     fn prewaits(&mut self, table: &Table) -> bool
         requires of { IsSeatAt table.now.count self.old.seat }
         requires idle { IsIdle self.old.seat }
-        requires silent { (card_of self.old.seat).announcing ≡ false }
+        requires silent { IsSilent self.old.seat }
         ensures of { IsSeatAt table.now.count self.new.seat }
     {
         if self.seat.number() > u32::from(table.sizes.workers) {

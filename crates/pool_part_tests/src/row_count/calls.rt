@@ -1,7 +1,7 @@
 //! Calls on counts with rows: sizes that are refused, credits, what a look at all rows answers, and stops.
-ghost use Rattle.std.specs.Prelude.{◌≡◌, ◌<◌, false};
+ghost use Rattle.std.specs.Prelude.{◌≡◌, ◌<◌};
 ghost use Rattle.event_count.specs.Seats.{card_of, IsIdle};
-ghost use Rattle.event_count.specs.Rows.Seats.{row_sizes_of, IsSeatAt};
+ghost use Rattle.event_count.specs.Rows.Seats.{row_sizes_of, IsSilent, IsSeatAt};
 
 use event_count::{Committed, PassAll, RowCount, RowFault, RowSizes, Seat};
 use std::alloc::Global;
@@ -32,9 +32,7 @@ fn counts_with_rows_are_made_and_closed(rt: HostRuntime) {
             Ok((count, seats)) => {
                 let all = usize::from(waiters) + usize::from(notifiers);
                 let is_numbered = match seats.last() {
-                    Some(last) => {
-                        last.number() as usize + 1 == all && last.credits() == credits
-                    }
+                    Some(last) => { last.number() as usize + 1 == all && last.credits() == credits }
                     None => false,
                 };
                 let is_numbered = is_numbered && seats.len() == all;
@@ -53,8 +51,8 @@ fn pair<R: Abort>(rt: &R, alloc: Global) -> (RowCount, Seat, Seat)
     ensures notifier_ours { IsSeatAt result.0 result.2 }
     ensures waits { (card_of result.1).number < (row_sizes_of result.0).waiters }
     ensures idle { IsIdle result.1 × IsIdle result.2 }
-    ensures waiter_silent { (card_of result.1).announcing ≡ false }
-    ensures notifier_silent { (card_of result.2).announcing ≡ false }
+    ensures waiter_silent { IsSilent result.1 }
+    ensures notifier_silent { IsSilent result.2 }
 {
     let sizes = RowSizes {
         waiters: 1,
@@ -82,7 +80,10 @@ fn a_credit_goes_round(rt: HostRuntime) {
     };
     assert!(rt; ticket.row() == 1 && notifier.credits() == 0);
     count.notify(&rt, &mut notifier);
-    assert!(rt; count.publish(&mut notifier, 0).is_none(), "no credit is left");
+    assert!(rt;
+        count.publish(&mut notifier, 0).is_none(),
+        "no credit is left"
+    );
     count.prewait(&mut waiter);
     let (found_first, found) = (count.pass(&mut waiter, 0), count.pass(&mut waiter, 1));
     assert!(rt; (found_first, found) == (0, 1) && count.pass_flag(&mut waiter));

@@ -1,7 +1,7 @@
 //! Waiters of a count with rows that all sleep, and one stop that wakes them.
-ghost use Rattle.std.specs.Prelude.{◌≡◌, false, All, length};
+ghost use Rattle.std.specs.Prelude.{◌≡◌, All, length};
 ghost use Rattle.event_count.specs.Seats.{card_of, IsIdle};
-ghost use Rattle.event_count.specs.Rows.Seats.{row_sizes_of, IsSeatAt};
+ghost use Rattle.event_count.specs.Rows.Seats.{row_sizes_of, IsSilent, IsSeatAt};
 
 use crate::row_count::threads::{CONSUMERS, PRODUCERS, open, wait};
 use event_count::{RowCount, Seat};
@@ -16,7 +16,7 @@ fn sleep_on<R: Wait + Abort>(rt: &R, count: &RowCount, seat: &mut Seat, waits: &
     requires of { IsSeatAt count.now seat.old }
     requires waiters { (row_sizes_of count.now).waiters ≡ CONSUMERS }
     requires idle { IsIdle seat.old }
-    requires silent { (card_of seat.old).announcing ≡ false }
+    requires silent { IsSilent seat.old }
     ensures of { IsSeatAt count.now seat.new }
     ensures idle { IsIdle seat.new }
 {
@@ -32,7 +32,7 @@ fn sleep_on<R: Wait + Abort>(rt: &R, count: &RowCount, seat: &mut Seat, waits: &
 fn stop_all<R: Wait + Abort>(rt: &R, count: &RowCount, seat: &mut Seat, waits: &AtomicU64)
     requires of { IsSeatAt count.now seat.old }
     requires idle { IsIdle seat.old }
-    requires silent { (card_of seat.old).announcing ≡ false }
+    requires silent { IsSilent seat.old }
     ensures of { IsSeatAt count.now seat.new }
     ensures idle { IsIdle seat.new }
 {
@@ -57,7 +57,7 @@ fn play<R: Threads + Wait + Abort + Sync>(
     requires of { All (IsSeatAt count.now) seats.old.items }
     requires waiters { (row_sizes_of count.now).waiters ≡ CONSUMERS }
     requires idle { All IsIdle seats.old.items }
-    requires silent { All (λ s. (card_of s).announcing ≡ false) seats.old.items }
+    requires silent { All IsSilent seats.old.items }
     ensures of { All (IsSeatAt count.now) seats.new.items }
     ensures idle { All IsIdle seats.new.items }
     ensures all { length seats.new.items ≡ length seats.old.items }
@@ -70,7 +70,7 @@ fn play<R: Threads + Wait + Abort + Sync>(
             requires of { IsSeatAt count.now seat.old }
             requires waiters { (row_sizes_of count.now).waiters ≡ CONSUMERS }
             requires idle { IsIdle seat.old }
-            requires silent { (card_of seat.old).announcing ≡ false }
+            requires silent { IsSilent seat.old }
             ensures of { IsSeatAt count.entry.now seat.new }
             ensures idle { IsIdle seat.new }
         {

@@ -1,7 +1,7 @@
 //! Threads that publish jobs at a count with rows, and threads that sleep there until there are some.
-ghost use Rattle.std.specs.Prelude.{◌≡◌, ◌<◌, false, All, length, IfSome};
+ghost use Rattle.std.specs.Prelude.{◌≡◌, ◌<◌, All, length};
 ghost use Rattle.event_count.specs.Seats.{card_of, IsIdle};
-ghost use Rattle.event_count.specs.Rows.Seats.{row_sizes_of, row_count_id, IsSeatAt};
+ghost use Rattle.event_count.specs.Rows.Seats.{row_sizes_of, row_count_id, IsSilent, IsSeatAt};
 ghost use Rattle.event_count.specs.Rows.Seats.{ticket_id, credit_id};
 
 use event_count::{Committed, Credit, PassAll, RowCount, RowSizes, Seat, Ticket};
@@ -83,10 +83,10 @@ fn put<K: At, R: Wait + Abort>(
     requires of { IsSeatAt count.now seat.old }
     requires rows { (row_sizes_of count.now).rows ≡ ROWS }
     requires idle { IsIdle seat.old }
-    requires silent { (card_of seat.old).announcing ≡ false }
+    requires silent { IsSilent seat.old }
     ensures of { IsSeatAt count.now seat.new }
     ensures idle { IsIdle seat.new }
-    ensures silent { (card_of seat.new).announcing ≡ false }
+    ensures silent { IsSilent seat.new }
 {
     for _ in rt.forever() {
         let mut queue = shared.queue.lock(rt);
@@ -115,10 +115,10 @@ fn take<K: At, R: Wait + Abort>(
     requires here { row_count_id count.now ≡ K.count }
     requires of { IsSeatAt count.now seat.old }
     requires idle { IsIdle seat.old }
-    requires silent { (card_of seat.old).announcing ≡ false }
+    requires silent { IsSilent seat.old }
     ensures of { IsSeatAt count.now seat.new }
     ensures idle { IsIdle seat.new }
-    ensures silent { (card_of seat.new).announcing ≡ false }
+    ensures silent { IsSilent seat.new }
 {
     let Some(job) = shared.queue.lock(rt).jobs.pop_front() else {
         return false;
@@ -143,10 +143,10 @@ pub(crate) fn wait<R: Wait + Abort>(rt: &R, count: &RowCount, seat: &mut Seat) -
     requires of { IsSeatAt count.now seat.old }
     requires waiter { (card_of seat.old).number < (row_sizes_of count.now).waiters }
     requires idle { IsIdle seat.old }
-    requires silent { (card_of seat.old).announcing ≡ false }
+    requires silent { IsSilent seat.old }
     ensures of { IsSeatAt count.now seat.new }
     ensures idle { IsIdle seat.new }
-    ensures silent { (card_of seat.new).announcing ≡ false }
+    ensures silent { IsSilent seat.new }
 {
     count.prewait(seat);
     match count.pass_all(seat) {
@@ -167,20 +167,15 @@ pub(crate) fn wait<R: Wait + Abort>(rt: &R, count: &RowCount, seat: &mut Seat) -
 }
 
 // Takes jobs until the count is stopped and none is left.
-fn consume<K: At, R: Wait + Abort>(
-    rt: &R,
-    count: &RowCount,
-    seat: &mut Seat,
-    shared: &Shared<K>,
-)
+fn consume<K: At, R: Wait + Abort>(rt: &R, count: &RowCount, seat: &mut Seat, shared: &Shared<K>)
     requires here { row_count_id count.now ≡ K.count }
     requires of { IsSeatAt count.now seat.old }
     requires waiters { (row_sizes_of count.now).waiters ≡ CONSUMERS }
     requires idle { IsIdle seat.old }
-    requires silent { (card_of seat.old).announcing ≡ false }
+    requires silent { IsSilent seat.old }
     ensures of { IsSeatAt count.now seat.new }
     ensures idle { IsIdle seat.new }
-    ensures silent { (card_of seat.new).announcing ≡ false }
+    ensures silent { IsSilent seat.new }
 {
     let mut is_stopped = false;
     for _ in rt.forever() {
@@ -195,20 +190,15 @@ fn consume<K: At, R: Wait + Abort>(
 }
 
 // Publishes its jobs. The last producer stops the count.
-fn produce<K: At, R: Wait + Abort>(
-    rt: &R,
-    count: &RowCount,
-    seat: &mut Seat,
-    shared: &Shared<K>,
-)
+fn produce<K: At, R: Wait + Abort>(rt: &R, count: &RowCount, seat: &mut Seat, shared: &Shared<K>)
     requires here { row_count_id count.now ≡ K.count }
     requires of { IsSeatAt count.now seat.old }
     requires rows { (row_sizes_of count.now).rows ≡ ROWS }
     requires idle { IsIdle seat.old }
-    requires silent { (card_of seat.old).announcing ≡ false }
+    requires silent { IsSilent seat.old }
     ensures of { IsSeatAt count.now seat.new }
     ensures idle { IsIdle seat.new }
-    ensures silent { (card_of seat.new).announcing ≡ false }
+    ensures silent { IsSilent seat.new }
 {
     let first = u64::from(seat.number().saturating_sub(u32::from(CONSUMERS))) * JOBS;
     for number in first..first + JOBS {
@@ -233,7 +223,7 @@ fn play<K: At + Sync + Send, R: Threads + Wait + Abort + Sync>(
     requires waiters { (row_sizes_of count.now).waiters ≡ CONSUMERS }
     requires rows { (row_sizes_of count.now).rows ≡ ROWS }
     requires idle { All IsIdle seats.old.items }
-    requires silent { All (λ s. (card_of s).announcing ≡ false) seats.old.items }
+    requires silent { All IsSilent seats.old.items }
     ensures of { All (IsSeatAt count.now) seats.new.items }
     ensures idle { All IsIdle seats.new.items }
     ensures all { length seats.new.items ≡ length seats.old.items }
@@ -248,7 +238,7 @@ fn play<K: At + Sync + Send, R: Threads + Wait + Abort + Sync>(
             requires waiters { (row_sizes_of count.now).waiters ≡ CONSUMERS }
             requires rows { (row_sizes_of count.now).rows ≡ ROWS }
             requires idle { IsIdle seat.old }
-            requires silent { (card_of seat.old).announcing ≡ false }
+            requires silent { IsSilent seat.old }
             ensures of { IsSeatAt count.entry.now seat.new }
             ensures idle { IsIdle seat.new }
         {
@@ -269,7 +259,7 @@ pub(crate) fn open<R: Abort>(rt: &R, alloc: Global) -> (RowCount, Vec<Seat>)
     ensures rows { (row_sizes_of result.0).rows ≡ ROWS }
     ensures all { length result.1.items ≡ 8 }
     ensures idle { All IsIdle result.1.items }
-    ensures silent { All (λ s. (card_of s).announcing ≡ false) result.1.items }
+    ensures silent { All IsSilent result.1.items }
 {
     let sizes = RowSizes {
         waiters: CONSUMERS,
@@ -298,7 +288,7 @@ fn jobs_go_through<K: At + Sync + Send, R: Threads + Wait + Abort + Sync>(
     requires rows { (row_sizes_of count).rows ≡ ROWS }
     requires all { length seats.items ≡ 8 }
     requires idle { All IsIdle seats.items }
-    requires silent { All (λ s. (card_of s).announcing ≡ false) seats.items }
+    requires silent { All IsSilent seats.items }
 {
     let mut taken = Vec::new(alloc);
     for _ in 0..JOBS * u64::from(PRODUCERS) {
@@ -318,19 +308,14 @@ fn jobs_go_through<K: At + Sync + Send, R: Threads + Wait + Abort + Sync>(
 }
 
 // The calls name the count by a type.
-fn named<R: Threads + Wait + Abort + Sync>(
-    rt: &R,
-    alloc: Global,
-    count: RowCount,
-    seats: Vec<Seat>,
-)
+fn named<R: Threads + Wait + Abort + Sync>(rt: &R, alloc: Global, count: RowCount, seats: Vec<Seat>)
     requires of { All (IsSeatAt count) seats.items }
     requires waiters { (row_sizes_of count).waiters ≡ CONSUMERS }
     requires notifiers { (row_sizes_of count).notifiers ≡ PRODUCERS }
     requires rows { (row_sizes_of count).rows ≡ ROWS }
     requires all { length seats.items ≡ 8 }
     requires idle { All IsIdle seats.items }
-    requires silent { All (λ s. (card_of s).announcing ≡ false) seats.items }
+    requires silent { All IsSilent seats.items }
 {
     jobs_go_through::<Brand, R>(rt, alloc, count, seats);
 }

@@ -61,7 +61,13 @@ pub(crate) fn takes<R: Wait>(
 }
 
 /// The step that takes the event, where it is one of a count's. The World has taken it.
-pub(crate) fn step_of(sizes: Sizes, world: &World, before: Before, actor: u32, event: Event) -> Option<Step>
+pub(crate) fn step_of(
+    sizes: Sizes,
+    world: &World,
+    before: Before,
+    actor: u32,
+    event: Event,
+) -> Option<Step>
     requires workers { length world.now.phases ≡ sizes.workers }
     requires actor { actor < length world.now.owed }
 {
