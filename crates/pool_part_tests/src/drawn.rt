@@ -2,8 +2,8 @@
 ghost use Rattle.std.specs.Prelude.{◌<◌};
 
 use crate::sizes::Sizes;
+use crate::tables;
 use crate::tables::count_moves::Before;
-use crate::tables::{self};
 use event_word::{Event, World};
 use rand_core::SeedableRng;
 use rand_core::utils::NextWord;

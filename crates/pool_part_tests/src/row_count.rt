@@ -1,6 +1,6 @@
 //! A count with rows beside the World that its table shows: an event that the World has taken is a call on
 //! the count, and then both show the same.
-ghost use Rattle.std.specs.Prelude.{◌≡◌, ◌+◌, All, length};
+ghost use Rattle.std.specs.Prelude.{◌≡◌, ◌+◌, All, IfSome, length};
 ghost use Rattle.event_count.specs.Rows.Seats.{row_sizes_of, IsSeatAt, IsTicketAt};
 
 mod actor;
@@ -50,15 +50,10 @@ fn open<R: Abort>(rt: &R, alloc: Global, sizes: Sizes) -> (Table, Party)
     let Ok((count, mut seats)) = RowCount::new(alloc, &wanted) else {
         panic!(rt; "no count")
     };
-    let Ok(watcher) = Actor::of(alloc, seats.remove(usize::from(workers)), rows) else {
-        panic!(rt; "no memory")
-    };
+    let watcher = Actor::of(alloc, seats.remove(usize::from(workers)));
     let mut actors = Vec::new(alloc);
     for seat in seats {
-        let Ok(actor) = Actor::of(alloc, seat, rows) else {
-            panic!(rt; "no memory")
-        };
-        assert!(rt; actors.push(actor).is_ok());
+        assert!(rt; actors.push(Actor::of(alloc, seat)).is_ok());
     }
     let tickets = Vec::new(alloc);
     (
@@ -115,7 +110,7 @@ fn takes_step(table: &Table, actor: &mut Actor, event: Event, step: Step) -> boo
         event,
         Event::Cancel { .. } | Event::Commit { .. } | Event::Notify { .. } | Event::NotifyAll { .. }
     ) {
-        table.count.look(&mut actor.seat);
+        actor.look(table);
     }
     actor.takes(table, step)
 }
@@ -146,7 +141,7 @@ fn takes_row<R: Abort>(
             Some(ticket) => actor.take(table, ticket),
             None => false,
         },
-        Event::Pass { row, .. } => actor.pass(table, row) == Some(0),
+        Event::Pass { row, .. } => actor.pass(rt, table, row) == Some(0),
         Event::PassFlag { .. } => actor.pass_flag(table) == Some(true),
         Event::Stop { .. } => actor.stop(table),
         Event::End { .. } => is_idle(&actor.seat),
@@ -179,7 +174,7 @@ fn refuses<R: Abort>(rt: &R, table: &Table, party: &mut Party, event: Event) -> 
     assert!(rt; place < party.actors.len());
     let actor = &mut party.actors[place];
     match event {
-        Event::Pass { row, .. } => matches!(actor.pass(table, row), Some(found) if found != 0),
+        Event::Pass { row, .. } => matches!(actor.pass(rt, table, row), Some(found) if found != 0),
         Event::PassFlag { .. } => actor.pass_flag(table) == Some(false),
         _ => actor.seat.phase() != Phase::Running,
     }
@@ -217,7 +212,7 @@ fn expect_shown<R: Abort>(rt: &R, table: &Table, party: &mut Party, world: &Worl
         "credits and tickets"
     );
     let watcher = &mut party.watcher;
-    let fields = unpack(table.count.look(&mut watcher.seat));
+    let fields = unpack(watcher.look(table));
     let top = world.stack().first().copied().unwrap_or(16_383);
     let word = (
         fields.top,
@@ -265,12 +260,12 @@ fn expect_rows<R: Abort>(rt: &R, table: &Table, watcher: &mut Actor, world: &Wor
 {
     assert!(rt; watcher.takes(table, Step::Prewaits), "the watcher runs");
     for row in 0..table.sizes.rows {
-        let is_length = watcher.pass(table, row) == Some(world.length(row));
+        let is_length = watcher.pass(rt, table, row) == Some(world.length(row));
         assert!(rt; is_length, "the length of row {row}");
     }
     let is_open = watcher.pass_flag(table) == Some(world.stop() == 0);
     assert!(rt; is_open, "the stop word");
-    table.count.look(&mut watcher.seat);
+    watcher.look(table);
     let is_back = watcher.takes(table, Step::TriesCancel(TryCancel::Done));
     assert!(rt; is_back, "the watcher gives up");
 }

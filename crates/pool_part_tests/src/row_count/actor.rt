@@ -1,5 +1,5 @@
 //! A seat of a count with rows, with what it announces and has passed: a call is made where it may be.
-ghost use Rattle.std.specs.Prelude.{◌≡◌, ℕ, ◌+◌, true, false, IsTrue, IfOk, IfSome, slice_index_or};
+ghost use Rattle.std.specs.Prelude.{◌≡◌, ◌+◌, true, All, IsTrue, IfSome};
 ghost use Rattle.event_word.specs.declared.phase.Phase.TheVariants.{Pre};
 ghost use Rattle.event_count.specs.Seats.{card_of, IsIdle};
 ghost use Rattle.event_count.specs.Kinds.{has_passed_row, HasPassed};
@@ -8,8 +8,8 @@ ghost use Rattle.event_count.specs.Rows.Seats.{row_sizes_of, IsSilent, IsSeatAt,
 use crate::sizes::Sizes;
 use crate::steps::{Step, is_idle};
 use event_count::{Phase, RowCount, Seat, Ticket, TryNotify, TryNotifyAll};
-use std::alloc::{AllocError, Global};
-use std::sync::Wait;
+use std::alloc::Global;
+use std::process::Abort;
 
 /// A count with rows. One waiter more than the World has workers only looks.
 #[derive(Drop)]
@@ -26,29 +26,34 @@ pub(crate) struct Actor {
     pub(crate) seat: Seat,
     // Whether it has notified since it published or stopped.
     silent: bool,
-    // What it has passed since its prewait.
+    // Whether it has passed the flag since its prewait, and the rows that it has passed.
     flag: bool,
-    passed: Vec<bool>,
+    passed: Vec<u16>,
     ghost quiet: { silent ≡ true → IsSilent seat },
     ghost flagged: { flag ≡ true → (card_of seat).passed_flag ≡ true },
-    ghost empty: { (row : ℕ) → slice_index_or passed.items row false ≡ true
-        → has_passed_row (card_of seat) row ≡ true },
+    ghost empty: { All (λ row. has_passed_row (card_of seat) row ≡ true) passed.items },
 }
 
 impl Actor {
     /// A seat that has done nothing.
-    pub(crate) fn of(alloc: Global, seat: Seat, rows: u16) -> Result<Actor, AllocError>
+    pub(crate) fn of(alloc: Global, seat: Seat) -> Actor
         requires silent { IsSilent seat }
-        ensures seat { IfOk result (λ actor. actor.seat ≡ seat) }
+        ensures seat { result.seat ≡ seat }
     {
-        let mut passed = Vec::new(alloc);
-        passed.resize(usize::from(rows), false)?;
-        Ok(Actor {
+        Actor {
             seat,
             silent: true,
             flag: false,
-            passed,
-        })
+            passed: Vec::new(alloc),
+        }
+    }
+
+    /// The state word, which the seat keeps.
+    pub(crate) fn look(&mut self, table: &Table) -> u64
+        requires of { IsSeatAt table.now.count self.old.seat }
+        ensures of { IsSeatAt table.now.count self.new.seat }
+    {
+        table.count.look(&mut self.seat)
     }
 
     /// A ticket of the row, where the seat may publish there.
@@ -79,7 +84,7 @@ impl Actor {
     }
 
     /// How many jobs a pre-waiter finds in the row. None: it isn't one, or there is no such row.
-    pub(crate) fn pass(&mut self, table: &Table, row: u16) -> Option<u64>
+    pub(crate) fn pass<R: Abort>(&mut self, rt: &R, table: &Table, row: u16) -> Option<u64>
         requires of { IsSeatAt table.now.count self.old.seat }
         ensures of { IsSeatAt table.now.count self.new.seat }
     {
@@ -87,8 +92,8 @@ impl Actor {
             return None;
         }
         let found = table.count.pass(&mut self.seat, row);
-        if found == 0 && usize::from(row) < self.passed.len() {
-            self.passed[usize::from(row)] = true;
+        if found == 0 {
+            assert!(rt; self.passed.push(row).is_ok());
         }
         Some(found)
     }
@@ -126,7 +131,7 @@ impl Actor {
     {
         let count = &table.count;
         match step {
-            Step::Looks(word) => count.look(&mut self.seat) == word,
+            Step::Looks(word) => self.look(table) == word,
             Step::Unparks => count.try_unpark_next(&mut self.seat).is_some(),
             _ if is_idle(&self.seat) => self.takes_running(table, step),
             _ if self.seat.owing() => false,
@@ -172,9 +177,7 @@ impl Actor {
             return false;
         }
         self.flag = false;
-        for row in 0..self.passed.len() {
-            self.passed[row] = false;
-        }
+        self.passed.clear();
         table.count.prewait(&mut self.seat);
         true
     }
@@ -201,8 +204,8 @@ impl Actor {
     fn has_passed(&self, rows: u16) -> bool
         ensures { IsTrue result → HasPassed rows (card_of self.now.seat) }
     {
-        for row in 0..usize::from(rows) {
-            if row >= self.passed.len() || !self.passed[row] {
+        for row in 0..rows {
+            if !self.passed.contains(&row) {
                 return false;
             }
         }
