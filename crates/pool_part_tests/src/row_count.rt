@@ -90,8 +90,7 @@ fn take<R: Abort>(
     let actor = actor_of(event);
     let place = actor as usize;
     let sizes = table.sizes;
-    let all = u32::from(sizes.workers) + u32::from(sizes.notifiers);
-    assert!(rt; actor < all && place < party.actors.len());
+    assert!(rt; actor < actors_in(sizes) && place < party.actors.len());
     let one = &mut party.actors[place];
     let is_taken = match step_of(sizes, world, before, actor, event) {
         Some(step) => takes_step(table, one, event, step),
@@ -99,6 +98,13 @@ fn take<R: Abort>(
     };
     assert!(rt; is_taken, "{event:?}");
     expect_shown(rt, table, party, world);
+}
+
+// How many actors there are.
+fn actors_in(sizes: Sizes) -> u32
+    ensures { result ≡ sizes.workers + sizes.notifiers }
+{
+    u32::from(sizes.workers) + u32::from(sizes.notifiers)
 }
 
 // Whether the seat takes a step that takes an event of a count alone. What rests on a look has one.
@@ -228,10 +234,9 @@ fn expect_seats<R: Abort>(rt: &R, actors: &Vec<Actor>, sizes: Sizes, world: &Wor
     requires workers { length world.now.phases ≡ sizes.workers }
     requires owed { length world.now.owed ≡ sizes.workers + sizes.notifiers }
 {
-    let all = u32::from(sizes.workers) + u32::from(sizes.notifiers);
     let mut number = 0u32;
     for actor in actors {
-        assert!(rt; number < all);
+        assert!(rt; number < actors_in(sizes));
         let is_phase = actor.seat.phase() == phase_of(world, sizes, number);
         let owes = world.owed(number, 0).is_some();
         assert!(rt;
