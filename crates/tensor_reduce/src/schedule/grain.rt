@@ -6,10 +6,10 @@ ghost use Rattle.std.specs.Prelude.{◌<◌};
 /// long for the last.
 const SHARES: u64 = 4;
 
-/// How many columns of a contraction a panel of its first operand is read for at once.
-const BAND: u64 = 32;
+/// How many columns a leaf of a contraction has at least, where each share has as many.
+const COLUMNS: u64 = 32;
 
-/// And how many of them a tile has.
+/// And how many a tile has.
 const TILE: u64 = 4;
 
 /// What leaves are sized for: so many workers, which take at most a block of places at a time.
@@ -31,8 +31,8 @@ impl Grain {
     }
 
     /// How many values a leaf has of a contraction over operands of so many places at most, where a
-    /// column of the result has so many rows: whole columns, of about a block, but a band at least
-    /// where there are as many for each share. On one worker it is one leaf, so that no piece is
+    /// column of the result has so many rows: whole columns, since one that is cut is packed twice,
+    /// of about a block, but not few of them. On one worker it is one leaf, so that no piece is
     /// copied.
     pub(crate) fn leaf_of_columns(self, values: u64, places: u64, rows: u64) -> u64
         ensures { 0 < result }
@@ -40,14 +40,14 @@ impl Grain {
         let rows = rows.max(1);
         let all = values.div_ceil(rows);
         let share = all.div_ceil(self.shares(values.max(places)));
-        let columns = share.min((self.block / rows).max(BAND));
+        let columns = share.min((self.block / rows).max(COLUMNS));
         if self.workers <= 1 || columns == all {
             return values.max(1);
         }
-        let whole = if columns < BAND {
+        let whole = if columns < COLUMNS {
             columns.div_ceil(TILE) * TILE
         } else {
-            columns / BAND * BAND
+            columns / COLUMNS * COLUMNS
         };
         whole.saturating_mul(rows).max(1)
     }
