@@ -1,9 +1,9 @@
 -- Sums of products chunk by chunk.
 use Rattle.std.proofs.Common.{◌≡◌, ℕ, zero, suc, ◌+◌, ◌*◌, ◌-◌, ◌/◌, ◌%◌, ◌<◌, ◌≤◌, ℤ, ◌+ℤ◌}
 use Rattle.std.proofs.Common.{◌*ℤ◌, List, length, drop, slice_index, refl, ap, sym, ◌∙◌, arith}
-use Rattle.std.proofs.Common.{length-drop}
+use Rattle.std.proofs.Common.{take, length-drop, length-take}
 use Rattle.std.proofs.lemmas.Int.{int_wrap-add_left}
-use Rattle.std.proofs.lemmas.List.{get_or-drop, length-take-le}
+use Rattle.std.proofs.lemmas.List.{length-take-le}
 use Rattle.std.proofs.lemmas.List.Edits.{get_or-between}
 use Rattle.std.proofs.lemmas.Nat.{mul-add-lt}
 use Rattle.std.specs.Cow.{cow_slice_items}
@@ -11,12 +11,13 @@ use Rattle.std.specs.Int.{w64}
 use Rattle.tensor_shape.specs.Wrap.{wrap}
 use Rattle.tensor_kernels.specs.Cells.{HoldsRows}
 use Rattle.tensor_kernels.specs.Chunks.{chunk_start, chunk, before}
-use Rattle.tensor_kernels.specs.Panels.{AreCells, AreInside, panel_place, rows_product}
+use Rattle.tensor_kernels.specs.Panels.{AreInside, panel_place, rows_product}
 use Rattle.tensor_values.specs.Values.{value_in}
 use Rattle.tensor_kernels.specs.Products.{sum_to}
 use Rattle.tensor_kernels.specs.Rows.{row_count, row_length, row_value}
 use Rattle.tensor_kernels.specs.declared.rows.Rows.{Rows}
 use Rattle.tensor_kernels.proofs.PanelPlaces.{are_cells-row}
+use Rattle.tensor_kernels.proofs.Parts.{get_or-part}
 use Rattle.tensor_kernels.proofs.ProductSums.{sum_to-ext, sum_to-append}
 
 -- product q of the value at a place of the result
@@ -67,68 +68,64 @@ are_inside-chunk values rows offsets c inside x q row value =
     (inside x (chunk_start (length offsets) c + q) row
     (omega (arith, length-chunk offsets c, last)))
 
--- also from rows that begin later
-pub are_inside-drop : (values : List ℤ) (rows offsets : List ℕ) (k : ℕ)
-    → AreInside values rows offsets → AreInside values (drop k rows) offsets
-are_inside-drop values rows offsets k inside x q row value =
-    rw (get_or-drop k rows x 0)
-    (inside (k + x) q (omega (arith, length-drop k rows)) value)
+-- also from some of the rows
+pub are_inside-part : (values : List ℤ) (rows offsets : List ℕ) (a n : ℕ)
+    → AreInside values rows offsets → AreInside values (take (a + n - a) (drop a rows)) offsets
+are_inside-part values rows offsets a n inside x q row value =
+    rw (get_or-part 0 a n rows x row)
+    (inside (a + x) q
+    (omega (arith, row, length-take (a + n - a) (drop a rows), length-drop a rows)) value)
 
--- the products of a chunk's panels are those of the rows that belong to it
-pub rows_product-chunk : (first second : Rows) (cells cells' : List ℤ) (c p x y n : ℕ)
-    → row_length first ≡ row_length second → n ≡ length (chunk second.offsets.items c)
-    → HoldsRows cells (cow_slice_items first.values) first.starts.items
-    (chunk first.offsets.items c)
-    → AreCells cells' (cow_slice_items second.values) (drop (p * 4) second.starts.items)
-    (chunk second.offsets.items c)
-    → length cells' ≡ length (chunk second.offsets.items c) * 4
-    → x < row_count first → y < 4 → p * 4 + y < row_count second
-    → rows_product cells cells' n x y
-    ≡ sum_to (λ q. row_value first x (chunk_start (row_length first) c + q)
-    *ℤ row_value second (p * 4 + y) (chunk_start (row_length first) c + q)) n
-rows_product-chunk first second cells cells' c p x y n same is holds are' long' row few column =
-    let offsets = chunk first.offsets.items c in
-    let others = chunk second.offsets.items c in
-    let m = row_count first in
-    let s = chunk_start (row_length first) c in
-    let s' = chunk_start (row_length second) c in
-    let starts : s ≡ s' = ap (λ n. chunk_start n c) same in
-    let count : length offsets ≡ length others =
-    omega (
-      arith,
-      length-chunk first.offsets.items c,
-      length-chunk second.offsets.items c,
-      same,
-    ) in
-    sum_to-ext _ _ n
-    (λ q h.
-    let here : q < length offsets = omega (arith, count, is) in
-    let there : q < length others = omega (arith, is) in
+-- a value of a row of a chunk's panels
+row-chunk : (rows : Rows) (cells : List ℤ) (starts : List ℕ) (c x row n q : ℕ)
+    → HoldsRows cells (cow_slice_items rows.values) starts (chunk rows.offsets.items c)
+    → x < length starts → slice_index starts x ≡ slice_index rows.starts.items row
+    → n ≡ length (chunk rows.offsets.items c) → q < n
+    → value_in cells (panel_place n x q)
+    ≡ row_value rows row (chunk_start (row_length rows) c + q)
+row-chunk rows cells starts c x row n q holds below same is within =
+    let values = cow_slice_items rows.values in
+    let offsets = chunk rows.offsets.items c in
+    let here : q < length offsets = omega (arith, is) in
     let inner : 4 * q + x % 4 < length offsets * 4 = omega arith in
     let place : panel_place (length offsets) x q < length cells =
     omega (
       arith,
       holds.0,
-      mul-add-lt (x / 4) (length offsets * 4) (4 * q + x % 4) ((m + 3) / 4) (omega arith) inner,
+      mul-add-lt (x / 4) (length offsets * 4) (4 * q + x % 4) ((length starts + 3) / 4)
+          (omega arith) inner,
     ) in
-    let zeroth : y / 4 ≡ 0 = omega arith in
-    let place' : panel_place (length others) y q < length cells' =
-    rw zeroth (omega (arith, long')) in
-    let left : value_in cells (panel_place n x q) ≡ row_value first x (s + q) =
-    ap (λ n. value_in cells (panel_place n x q)) (is ∙ sym count)
-    ∙ are_cells-row cells (cow_slice_items first.values) first.starts.items offsets x q holds.1 row
-    here place
-    ∙ ap (λ o. value_in (cow_slice_items first.values) (slice_index first.starts.items x + o))
-    (slice_index-chunk first.offsets.items c q here) in
-    let right : value_in cells' (panel_place n y q) ≡ row_value second (p * 4 + y) (s + q) =
-    ap (λ n. value_in cells' (panel_place n y q)) is
-    ∙ are_cells-row cells' (cow_slice_items second.values) (drop (p * 4) second.starts.items) others
-    y q are' (omega (arith, length-drop (p * 4) second.starts.items)) there place'
-    ∙ ap (λ o. value_in (cow_slice_items second.values)
-    (slice_index (drop (p * 4) second.starts.items) y + o))
-    (slice_index-chunk second.offsets.items c q there)
-    ∙ ap (λ r. value_in (cow_slice_items second.values)
-    (r + slice_index second.offsets.items (s' + q)))
-    (get_or-drop (p * 4) second.starts.items y 0)
-    ∙ ap (λ s. row_value second (p * 4 + y) (s + q)) (sym starts) in
+    ap (λ n. value_in cells (panel_place n x q)) is
+    ∙ are_cells-row cells values starts offsets x q holds.1 below here place
+    ∙ ap (λ s. value_in values (s + slice_index offsets q)) same
+    ∙ ap (λ o. value_in values (slice_index rows.starts.items row + o))
+    (slice_index-chunk rows.offsets.items c q here)
+
+-- the products of a chunk's panels are those of the rows that belong to it
+pub rows_product-chunk : (first second : Rows) (cells cells' : List ℤ) (starts : List ℕ)
+    (c x y column n : ℕ) → row_length first ≡ row_length second
+    → n ≡ length (chunk second.offsets.items c)
+    → HoldsRows cells (cow_slice_items first.values) first.starts.items
+    (chunk first.offsets.items c)
+    → HoldsRows cells' (cow_slice_items second.values) starts (chunk second.offsets.items c)
+    → x < row_count first → y < length starts
+    → slice_index starts y ≡ slice_index second.starts.items column
+    → rows_product cells cells' n x y
+    ≡ sum_to (λ q. row_value first x (chunk_start (row_length first) c + q)
+    *ℤ row_value second column (chunk_start (row_length first) c + q)) n
+rows_product-chunk first second cells cells' starts c x y column n same is holds holds' row few
+    is_column =
+    let count : n ≡ length (chunk first.offsets.items c) =
+    omega (
+      arith,
+      length-chunk first.offsets.items c,
+      length-chunk second.offsets.items c,
+      same,
+      is,
+    ) in
+    sum_to-ext _ _ n
+    (λ q h.
+    let left = row-chunk first cells first.starts.items c x x n q holds row refl count h in
+    let right = row-chunk second cells' starts c y column n q holds' few is_column is h
+    ∙ ap (λ n. row_value second column (chunk_start n c + q)) (sym same) in
     cc (left, right))

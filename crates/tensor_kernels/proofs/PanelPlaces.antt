@@ -33,19 +33,16 @@ panel-value a n p j q inside =
     value_in-from a (p * (n * 4)) (4 * q + j)
     ∙ ap (λ k. value_in a k) (panel_place-row n p j q inside)
 
--- the products of a panel and one that stands alone are those of their rows
-pub panel_product-rows : (a b : List ℤ) (n s i j : ℕ) → i < 4 → j < 4
-    → panel_product (take (length a - s * (n * 4)) (drop (s * (n * 4)) a)) b i j n
-    ≡ rows_product a b n (s * 4 + i) j
-panel_product-rows a b n s i j row column =
+-- the products of two panels are those of their rows
+pub panel_product-rows : (a b : List ℤ) (n s p i j : ℕ) → i < 4 → j < 4
+    → panel_product (take (length a - s * (n * 4)) (drop (s * (n * 4)) a))
+    (take (length b - p * (n * 4)) (drop (p * (n * 4)) b)) i j n
+    ≡ rows_product a b n (s * 4 + i) (p * 4 + j)
+panel_product-rows a b n s p i j row column =
     sum_to-ext _ _ n
     (λ q h.
     let left = panel-value a n s i q row in
-    let panel : j / 4 ≡ 0 = omega arith in
-    let rest : j % 4 ≡ j = omega arith in
-    let place : 4 * q + j ≡ 0 * (n * 4) + (4 * q + j) = omega arith in
-    let right : value_in b (4 * q + j) ≡ value_in b (panel_place n j q) =
-    rw (panel, rest) (ap (λ k. value_in b k) place) in
+    let right = panel-value b n p j q column in
     cc (left, right))
 
 -- the panel of the cell at a place, its row there, and which of that row's values it is

@@ -5,7 +5,7 @@ use Rattle.std.proofs.Common.{add_assoc, div-add-mod'}
 use Rattle.std.proofs.lemmas.Bool.{cases_lt}
 use Rattle.std.proofs.lemmas.List.{get_or-drop, get_or_append_left, get_or-append_right}
 use Rattle.std.proofs.lemmas.List.{get_or-take, length-take-le, length-append}
-use Rattle.std.proofs.Common.{length-drop}
+use Rattle.std.proofs.Common.{length-drop, length-take}
 use borrow.Rule.Slice.PartMut.{put_mid, post_of}
 
 -- how long a part is
@@ -74,7 +74,31 @@ module _ (first place count : ℕ) (xs ys : List ℤ) (above : first ≤ place)
       length-put_mid (place - first) (place - first + count - (place - first)) xs ys
       (omega (arith, room)) (omega (arith, written)) (omega (arith, room))
 
-  -- its values, where those before the place are known, too
+  -- what holds of its values before the place, and of those of the part, holds of all of these
+  pub holds-written : (P : ℕ → ℤ → Type 0)
+      → ((k : ℕ) → k < place - first → P k (get_or xs k (pos 0)))
+      → ((k : ℕ)
+      → k < length (take (place - first + count - (place - first)) (drop (place - first) xs))
+      → P (place - first + k) (get_or ys k (pos 0)))
+      → (k : ℕ) → k < place + count - first
+      → P k (get_or (put_mid (place - first) (place - first + count - (place - first)) xs ys) k
+      (pos 0))
+  holds-written P before part k below =
+      let a = place - first in
+      let n = a + count - a in
+      let start : a ≤ length xs = omega (arith, room) in
+      elim (cases_lt k a) [
+        | inl earlier ↦ rw (get_or-before a n xs ys start k earlier) (before k earlier)
+        | inr later ↦
+            let j = k - a in
+            let inside : j < length ys = omega (arith, written) in
+            let here : a + j ≡ k = omega arith in
+            subst (λ i. P i (get_or (put_mid a n xs ys) i (pos 0))) here
+            (rw (get_or-within a n xs ys start j inside)
+            (part j (subst (λ n. j < n) same inside)))
+      ]
+
+  -- so they are those of a function, if all of these are
   pub get_or-written : (f : ℕ → ℤ)
       → ((k : ℕ) → k < place - first → get_or xs k (pos 0) ≡ f (first + k))
       → ((k : ℕ)
@@ -83,27 +107,33 @@ module _ (first place count : ℕ) (xs ys : List ℤ) (above : first ≤ place)
       → (k : ℕ) → k < place + count - first
       → get_or (put_mid (place - first) (place - first + count - (place - first)) xs ys) k (pos 0)
       ≡ f (first + k)
-  get_or-written f before part k below =
-      let a = place - first in
-      let n = a + count - a in
-      let start : a ≤ length xs = omega (arith, room) in
-      elim (cases_lt k a) [
-        | inl earlier ↦ get_or-before a n xs ys start k earlier ∙ before k earlier
-        | inr later ↦
-            let j = k - a in
-            let inside : j < length ys = omega (arith, written) in
-            let here : a + j ≡ k = omega arith in
-            let place_j : place + j ≡ first + k = omega arith in
-            ap (λ i. get_or (put_mid a n xs ys) i (pos 0)) (sym here)
-            ∙ get_or-within a n xs ys start j inside ∙ part j (subst (λ n. j < n) same inside)
-            ∙ ap f place_j
-      ]
+  get_or-written f before part =
+      holds-written (λ k v. v ≡ f (first + k)) before
+      (λ k few. part k few ∙ ap f (omega (arith, above)))
 
--- the places from one on that are in its line of so many, and before the last
-pub line-below : (width place last count : ℕ) → count ≡ min (width - place % width) (last - place)
-    → place < last → place + count ≤ last
-line-below width place last count is below = omega arith
+  -- past the part its values are as they were
+  pub get_or-past : (k : ℕ) → place + count - first ≤ k
+      → get_or (put_mid (place - first) (place - first + count - (place - first)) xs ys) k (pos 0)
+      ≡ get_or xs k (pos 0)
+  get_or-past k past =
+      get_or-after (place - first) (place - first + count - (place - first)) xs ys
+      (omega (arith, room)) k (omega (arith, written)) (omega (arith, room))
 
+-- an item of a part
+pub get_or-part : {A : Type 0} (d : A) (a n : ℕ) (xs : List A) (k : ℕ)
+    → k < length (take (a + n - a) (drop a xs))
+    → get_or (take (a + n - a) (drop a xs)) k d ≡ get_or xs (a + k) d
+get_or-part d a n xs k below =
+    get_or-take (a + n - a) (drop a xs) k d
+    (omega (arith, length-take (a + n - a) (drop a xs)))
+    ∙ get_or-drop a xs k d
+
+-- no more places than there are before the last end there
+pub places-below : (most place last count : ℕ) → count ≡ min most (last - place) → place < last
+    → place + count ≤ last
+places-below most place last count is below = omega arith
+
+-- a place by its line of so many, and where in it
 pub line-place : (width place k : ℕ) → place / width * width + (place % width + k) ≡ place + k
 line-place width place k =
     sym (add_assoc (place / width * width) (place % width) k)

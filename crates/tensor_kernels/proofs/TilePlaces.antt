@@ -3,8 +3,10 @@ use Rattle.std.proofs.Common.{◌≡◌, ◌≢◌, ℕ, ◌+◌, ◌*◌, ◌-�
 use Rattle.std.proofs.Common.{length, slice_set, ap, sym, subst, arith, inl, inr}
 use Rattle.std.proofs.Common.{get_or-set_other, get_or-set_same}
 use Rattle.std.proofs.Math.Nat.{mul-add-mod_self_right, mul-add-div_right, div-add-mod}
-use Rattle.std.proofs.Math.Nat.{div-mul-le_self}
+use Rattle.std.proofs.Math.Nat.{div-mul-le_self, mul-le-mul_right}
+use Rattle.std.specs.Int.{div_ceil}
 use Rattle.std.proofs.lemmas.Bool.{cases_lt, cases_eq}
+use Rattle.std.proofs.lemmas.Grind.{div_ceil_times}
 use Rattle.std.proofs.lemmas.Nat.{div-mul-add, mod-mul-add, le-div}
 use Rattle.tensor_values.specs.Values.{value_in}
 
@@ -18,6 +20,25 @@ pub panel-column : (p m l : ℕ) → 0 < m → (p * (4 * m) + l) / m ≡ p * 4 +
 panel-column p m l some =
     let same : p * (4 * m) + l ≡ p * 4 * m + l = omega arith in
     rw same (mul-add-div_right some (p * 4) l)
+
+-- a panel with a place before the end of so many columns begins with one of them
+pub panel-inside : (p m columns l : ℕ) → p * (4 * m) + l < columns * m → p * 4 < columns
+panel-inside p m columns l within =
+    let four : p * 4 * m < columns * m = omega (arith, within) in
+    elim (cases_lt (p * 4) columns) [
+      | inl fewer ↦ fewer
+      | inr more ↦ absurd (omega (arith, mul-le-mul_right m more))
+    ]
+
+-- nor does one with so many places that end before that end have more columns than are left
+pub columns-inside : (p m columns len n : ℕ) → n ≡ div_ceil len m → 0 < m
+    → p * (4 * m) + len ≤ columns * m → p * 4 + n ≤ columns
+columns-inside p m columns len n is some within =
+    let fewer : n * m < len + m = rw is (div_ceil_times len m some).1 in
+    elim (cases_lt (p * 4 + n) (columns + 1)) [
+      | inl fits ↦ omega arith
+      | inr more ↦ absurd (omega (arith, within, fewer, mul-le-mul_right m more))
+    ]
 
 -- a later place is in no earlier column
 column-order : (m l k : ℕ) → 0 < m → l ≤ k → l / m ≤ k / m

@@ -5,10 +5,9 @@ use Rattle.std.specs.Coded.{×_prop, Π_prop, le_prop, Coded-set, coded_bool, co
 use Rattle.std.specs.Cow.{cow_slice_items}
 use mir.ValLaws.{SFits-prop}
 use Rattle.tensor_kernels.specs.Chunks.{chunk}
-use Rattle.tensor_kernels.specs.Pairs.{HasPairSums, ArePairSums}
+use Rattle.tensor_kernels.specs.Pairs.{ArePairSums}
 use Rattle.tensor_kernels.specs.Panels.{AreCells, AreSmall}
 use Rattle.tensor_kernels.specs.Rows.{row_count}
-use Rattle.tensor_kernels.specs.declared.tiling.columns.Columns.{Columns}
 use Rattle.tensor_kernels.specs.declared.panels.pair_sums.Paired.{Paired}
 use Rattle.tensor_kernels.specs.declared.panels.Panels.{Panels}
 use Rattle.tensor_kernels.specs.declared.panels.Panels.TheVariants.{Wide, Small}
@@ -24,11 +23,6 @@ abbrev pub first_cells : Panels → List ℤ
 first_cells (Wide a) = a.cells.items
 first_cells (Small a) = a.items
 
--- the cells of a panel of the second operand that are multiplied with these
-abbrev pub second_cells : Panels → Columns → List ℤ
-second_cells (Wide a) columns = columns.wide.items
-second_cells (Small a) columns = columns.small.items
-
 -- so many panels, whose rows have n values, have the sums of their pairs beside them
 abbrev pub ArePaired : ℕ → ℕ → Paired → Type 0
 ArePaired panels n a =
@@ -40,10 +34,10 @@ abbrev pub AreReady : ℕ → ℕ → Panels → Type 0
 AreReady k n (Wide a) = ArePaired k n a
 AreReady k n (Small a) = AreSmall a.items
 
--- and so can a panel of the second operand, with these
-abbrev pub IsReadyFor : Panels → ℕ → Columns → Type 0
-IsReadyFor (Wide a) n columns = HasPairSums columns.sums columns.wide.items n
-IsReadyFor (Small a) n columns = AreSmall columns.small.items
+-- and so can panels of the second operand, with these
+abbrev pub IsReadyFor : Panels → ℕ → ℕ → Paired → Type 0
+IsReadyFor (Wide a) k n b = ArePaired k n b
+IsReadyFor (Small a) k n b = AreSmall b.cells.items
 
 -- cells are those of rows of values: each has a value for each of the offsets
 abbrev pub HoldsRows : List ℤ → List ℤ → List ℕ → List ℕ → Type 0

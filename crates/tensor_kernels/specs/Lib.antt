@@ -4,6 +4,7 @@ pub mod Chunks
 pub mod Contracting
 pub mod Dots
 pub mod Halves
+pub mod PackedChunks
 pub mod Pairs
 pub mod Panels
 pub mod Products

@@ -98,8 +98,8 @@ impl<'a> Contraction<'a> {
     }
 
     /// The values at the places from the first to before the last of the result, in order. Where
-    /// the first operand was packed, four rows of the second are too, chunk by chunk: that takes at
-    /// most 512 cells for each.
+    /// the first operand was packed, up to 32 rows of the second are too, chunk by chunk: that takes
+    /// at most 512 cells of 8 bytes for each, and for numbers past 32 bits one more.
     pub fn values<A: Allocator>(
         &self,
         alloc: A,

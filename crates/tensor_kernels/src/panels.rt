@@ -1,5 +1,5 @@
-//! A chunk of the products of a contraction: the first operand in panels of four rows, and beside
-//! them one panel of the second.
+//! A chunk of the products of a contraction: the first operand in panels of four rows, and a band
+//! of the second in such panels beside them.
 
 pub(crate) mod cell;
 pub(crate) mod chunks;
@@ -7,14 +7,13 @@ pub(crate) mod packing;
 pub(crate) mod pair_sums;
 
 ghost use Rattle.std.specs.Prelude.{◌≡◌, ℕ, ◌*◌, ◌+◌, ◌/◌, ◌%◌, ◌<◌, ◌≤◌, ◌^◌, length};
-ghost use Rattle.std.specs.Prelude.{IfOk, IsTrue, OnOk};
+ghost use Rattle.std.specs.Prelude.{IfOk, IsTrue};
 ghost use Rattle.tensor_shape.specs.Wrap.{wrap};
 ghost use Rattle.tensor_kernels.specs.Panels.{AreCells, AreInside, AreSmall, rows_product};
 ghost use Rattle.tensor_values.specs.Values.{value_in};
 
 use crate::panels::packing::packed;
 use crate::panels::pair_sums::Paired;
-use crate::tiling::columns::Columns;
 use crate::tiling::small::small_tile;
 use crate::tiling::tile::wide_tile;
 use std::alloc::{AllocError, Global};
@@ -28,7 +27,7 @@ pub(crate) enum Panels {
 }
 
 impl Panels {
-    ghost use Rattle.tensor_kernels.specs.Cells.{first_cells, second_cells, is_small};
+    ghost use Rattle.tensor_kernels.specs.Cells.{first_cells, is_small};
     ghost use Rattle.tensor_kernels.specs.Cells.{AreReady, IsReadyFor, HoldsRows};
 
     /// The rows of an operand, packed. Takes a cell for each value, up to whole panels, and four
@@ -58,47 +57,52 @@ impl Panels {
         }
     }
 
-    /// Packs the first four rows of the second operand, to be multiplied with these. Takes a cell
-    /// of 64 bits for each value, as far as the room isn't there.
+    /// The rows of the second operand, packed to be multiplied with these. Takes a cell of 64 bits
+    /// for each value, up to whole panels, and four sums a panel where those of the first have 64.
     pub(crate) fn pack(
         &self,
-        columns: &mut Columns,
+        alloc: Global,
         values: &[i64],
         rows: &[usize],
         offsets: &[usize],
-    ) -> Result<(), AllocError>
+    ) -> Result<Paired, AllocError>
         requires inside { AreInside values.now rows.now offsets.now }
         requires small { IsTrue (is_small self.now) → AreSmall values.now }
-        requires some { 0 < length rows.now }
-        ensures len { OnOk result
-            (length (second_cells self.now columns.new) ≡ length offsets.now * 4) }
-        ensures cells { OnOk result
-            (AreCells (second_cells self.now columns.new) values.now rows.now offsets.now) }
-        ensures ready { OnOk result (IsReadyFor self.now (length offsets.now) columns.new) }
+        requires few { (length rows.now + 3) / 4 * (length offsets.now * 4) < 2 ^ 60 }
+        ensures rows { IfOk result (λ paired.
+            HoldsRows paired.cells.items values.now rows.now offsets.now) }
+        ensures ready { IfOk result
+            (IsReadyFor self.now ((length rows.now + 3) / 4) (length offsets.now)) }
     {
         match self {
-            Panels::Wide(_) => columns.pack_wide(values, rows, offsets),
-            Panels::Small(_) => columns.pack_small(values, rows, offsets),
+            Panels::Wide(_) => Paired::of(alloc, values, rows, offsets),
+            Panels::Small(_) => {
+                let cells = packed::<i64>(alloc, values, rows, offsets)?;
+                let sums = Vec::new(alloc);
+                Ok(Paired { cells, sums })
+            }
         }
     }
 
-    /// The sums of the n products of each row of panel s of the first operand and each row of a
-    /// panel of the second, modulo 2^64, in columns of four.
-    pub(crate) fn tile(&self, s: usize, columns: &Columns, n: usize) -> [i64; 16]
+    /// The sums of the n products of each row of panel s of the first operand and each row of panel
+    /// p of the second, modulo 2^64, in columns of four.
+    pub(crate) fn tile(&self, s: usize, second: &Paired, p: usize, n: usize) -> [i64; 16]
         requires ready { AreReady (s + 1) n self.now }
-        requires other { IsReadyFor self.now n columns.now }
+        requires other { IsReadyFor self.now (p + 1) n second.now }
         requires first { (s + 1) * (n * 4) ≤ length (first_cells self.now) }
-        requires second { n * 4 ≤ length (second_cells self.now columns.now) }
+        requires second { (p + 1) * (n * 4) ≤ length second.now.cells.items }
         ensures len { length result ≡ 16 }
-        ensures each { (t : ℕ) → t < 16 → value_in result t ≡ wrap (rows_product
-            (first_cells self.now) (second_cells self.now columns.now) n (s * 4 + t % 4) (t / 4)) }
+        ensures each { (t : ℕ) → t < 16 → value_in result t
+            ≡ wrap (rows_product (first_cells self.now) second.now.cells.items n
+            (s * 4 + t % 4) (p * 4 + t / 4)) }
     {
+        let columns = &second.cells[p * (n * 4)..];
         match self {
             Panels::Wide(a) => {
                 let rows = &a.cells[s * (n * 4)..];
-                wide_tile(rows, &a.sums[s], &columns.wide, &columns.sums, n)
+                wide_tile(rows, &a.sums[s], columns, &second.sums[p], n)
             }
-            Panels::Small(a) => small_tile(&a[s * (n * 4)..], &columns.small, n),
+            Panels::Small(a) => small_tile(&a[s * (n * 4)..], columns, n),
         }
     }
 }

@@ -2,7 +2,7 @@
 
 ghost use Rattle.std.specs.Prelude.{◌≡◌, ℕ, ◌*◌, ◌+◌, ◌-◌, ◌/◌, ◌<◌, ◌≤◌, ◌^◌, ◌++◌};
 ghost use Rattle.std.specs.Prelude.{length, map, min, slice_index, vec_len, vec_capacity};
-ghost use Rattle.std.specs.Prelude.{IfOk, OnOk};
+ghost use Rattle.std.specs.Prelude.{IfOk};
 ghost use Rattle.tensor_kernels.specs.Panels.{AreCells, AreInside};
 ghost use Rattle.tensor_values.specs.Values.{value_in};
 
@@ -31,27 +31,6 @@ pub(crate) fn packed<C: Cell>(
         pack_panel(&mut packed, values, rows, p, offsets);
     }
     Ok(packed)
-}
-
-/// Packs the first four rows in place of what was packed before. Takes a cell for each value, as
-/// far as the room isn't there.
-pub(crate) fn pack_first<C: Cell>(
-    packed: &mut Vec<C>,
-    values: &[i64],
-    rows: &[usize],
-    offsets: &[usize],
-) -> Result<(), AllocError>
-    requires inside { AreInside values.now rows.now offsets.now }
-    requires held { (k : ℕ) → k < length values.now → C.Holds (value_in values.now k) }
-    requires some { 0 < length rows.now }
-    ensures len { OnOk result (vec_len packed.new ≡ length offsets.now * 4) }
-    ensures cells { OnOk result
-        (AreCells (map C.number packed.new.items) values.now rows.now offsets.now) }
-{
-    packed.clear();
-    packed.reserve(offsets.len() * 4)?;
-    pack_panel(packed, values, rows, 0, offsets);
-    Ok(())
 }
 
 /// Appends panel p of the rows.

@@ -12,7 +12,7 @@ use crate::panels::packing::packed;
 use crate::tiling::tile::mul_add;
 use std::alloc::{AllocError, Global};
 
-/// Rows in panels, and four sums for each panel.
+/// Rows in panels, and four sums for each panel, or none where no products are made two by two.
 #[derive(Drop)]
 pub(crate) struct Paired {
     pub(crate) cells: Vec<i64>,
@@ -62,7 +62,7 @@ fn sums_of_pairs(
 }
 
 /// The sums of the products of the pairs of each row of a panel.
-pub(crate) fn panel_sums(a: &[i64], n: usize) -> [i64; 4]
+fn panel_sums(a: &[i64], n: usize) -> [i64; 4]
     requires { n * 4 ≤ length a.now }
     ensures { HasPairSums result a.now n }
 {

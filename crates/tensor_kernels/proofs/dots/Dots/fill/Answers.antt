@@ -1,7 +1,7 @@
 use Rattle.std.proofs.Common.{◌+◌, ◌*◌, ◌/◌, ◌%◌, ◌≤◌, length, ap, sym, subst, ◌∙◌}
 use Rattle.std.proofs.Common.{le_trans, le-add_right}
 use Rattle.tensor_kernels.specs.Dots.{dots_value}
-use Rattle.tensor_kernels.proofs.Parts.{length-written, get_or-written, line-below, line-place}
+use Rattle.tensor_kernels.proofs.Parts.{length-written, get_or-written, places-below, line-place}
 use Rattle.tensor_kernels.proofs.dots.Dots.fill.Goals as goal
 
 pub loop-place-preserved : goal.loop-place-preserved
@@ -12,7 +12,7 @@ loop-place-preserved c =
     let out = c.loop-place.out in
     let part = c.fill_column.new.out in
     let l = c.loop-place.invariant in
-    let below = line-below (c.len-rows.result) place (first + length c.args.out.now) count
+    let below = places-below _ place (first + length c.args.out.now) count
     c.min-count.ensures c.loop-place-test.true in
     let within = subst (λ n. place + count ≤ first + n) (sym l.len) below in
     let rows = c.len-rows.result in

@@ -1,7 +1,7 @@
 use Rattle.std.proofs.Common.{◌+◌, ◌*◌, ◌≤◌, length, ap, sym, subst, ◌∙◌}
 use Rattle.std.proofs.Common.{le_trans, le-add_right}
 use Rattle.tensor_kernels.specs.Tiling.{tiled_value}
-use Rattle.tensor_kernels.proofs.Parts.{length-written, get_or-written, line-below, line-place}
+use Rattle.tensor_kernels.proofs.Parts.{length-written, get_or-written, places-below, line-place}
 use Rattle.tensor_kernels.proofs.tiling.Tiled.fill.Goals as goal
 
 pub loop-place-preserved : goal.loop-place-preserved
@@ -10,18 +10,18 @@ loop-place-preserved c =
     let place = c.loop-place.place in
     let count = c.min-count.result in
     let out = c.loop-place.out in
-    let part = c.fill_columns.new.out in
+    let part = c.fill_band.new.out in
     let l = c.loop-place.invariant in
-    let below = line-below (4 * c.args.self.now.rows) place (first + length c.args.out.now) count
-    c.min-count.ensures c.loop-place-test.true in
+    let below = places-below _ place (first + length c.args.out.now) count c.min-count.ensures
+    c.loop-place-test.true in
     let within = subst (λ n. place + count ≤ first + n) (sym l.len) below in
     record {
       above = le_trans l.above (le-add_right place count);
       below = below;
-      len = length-written first place count out part l.above within c.fill_columns.ensures.len
+      len = length-written first place count out part l.above within c.fill_band.ensures.len
           ∙ l.len;
-      each = get_or-written first place count out part l.above within c.fill_columns.ensures.len
+      each = get_or-written first place count out part l.above within c.fill_band.ensures.len
           (tiled_value c.args.self.now) l.each
-          (λ k few. c.in_ok-fill_columns.ensures.each k few
+          (λ k few. c.in_ok-fill_band.ensures.each k few
           ∙ ap (tiled_value c.args.self.now) (line-place (4 * c.args.self.now.rows) place k));
     }

@@ -1,6 +1,6 @@
 use Rattle.std.proofs.Common.{◌+◌, ◌-◌, arith}
 use Rattle.tensor_kernels.proofs.TilePlaces.{column-rows}
-use Rattle.tensor_kernels.proofs.tiling.tiles_of.Goals as goal
+use Rattle.tensor_kernels.proofs.tiling.placing.tiles_of.Goals as goal
 
 pub returns-then-from-rows-clause-top : goal.returns-then-from-rows-clause-top
 returns-then-from-rows-clause-top c k below =

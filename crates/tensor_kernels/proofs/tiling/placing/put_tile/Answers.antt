@@ -7,8 +7,8 @@ use Rattle.tensor_values.specs.Values.{value_in}
 use Rattle.tensor_kernels.proofs.ListWrites.{stored}
 use Rattle.tensor_kernels.proofs.TilePlaces.{tile_place, tile_place-at}
 use Rattle.tensor_kernels.proofs.TilePlaces.{are_written-set, are_written-skip}
-use Rattle.tensor_kernels.proofs.tiling.put_tile.Goals as goal
-use Rattle.tensor_kernels.proofs.tiling.put_tile.Goals.{in-Some, in_default}
+use Rattle.tensor_kernels.proofs.tiling.placing.put_tile.Goals as goal
+use Rattle.tensor_kernels.proofs.tiling.placing.put_tile.Goals.{in-Some, in_default}
 
 pub returns-clause-written : goal.returns-clause-written
 returns-clause-written c k within column top bottom =

@@ -1,7 +1,7 @@
 use Rattle.std.proofs.Common.{arith, rules}
 use Rattle.std.proofs.lemmas.Int.{wraps}
 use Rattle.tensor_kernels.proofs.ChunkSums.{before-later}
-use Rattle.tensor_kernels.proofs.tiling.with_sum.Goals as goal
+use Rattle.tensor_kernels.proofs.tiling.placing.with_sum.Goals as goal
 
 pub returns-else-c-eq0 : goal.returns-else-c-eq0
 returns-else-c-eq0 c =

@@ -6,7 +6,7 @@ use Rattle.tensor_values.specs.Values.{value_in}
 use Rattle.tensor_kernels.specs.Products.{sum_to}
 use Rattle.tensor_kernels.specs.Rows.{row_length}
 use Rattle.tensor_kernels.proofs.ChunkSums.{product_at}
-use Rattle.tensor_kernels.proofs.tiling.Tiled.fill_columns.Given as goal
+use Rattle.tensor_kernels.proofs.tiling.Tiled.fill_band.Given as goal
 
 abbrev pub invariant-loop-c : goal.invariant-loop-c
 invariant-loop-c l = record {

@@ -4,7 +4,7 @@ use Rattle.tensor_shape.specs.Wrap.{wrap}
 use Rattle.tensor_kernels.specs.Chunks.{before}
 use Rattle.tensor_values.specs.Values.{value_in}
 use Rattle.tensor_kernels.proofs.TilePlaces.{AreWritten, tile_place}
-use Rattle.tensor_kernels.proofs.tiling.put_tile.Given as goal
+use Rattle.tensor_kernels.proofs.tiling.placing.put_tile.Given as goal
 
 abbrev pub invariant-loop-t : goal.invariant-loop-t
 invariant-loop-t l = record {
