@@ -6,8 +6,7 @@ ghost use Rattle.tensor_ops.specs.Value.{tensor_of};
 ghost use Rattle.uses.specs.Programs.{squared_distances};
 
 use std::alloc::{AllocError, Global};
-use std::test::Fail;
-use tensor_ops::{Dims, Expr, ExprFault, Inputs, Tensor, eval_plain};
+use tensor_ops::{Expr, ExprFault, Inputs, Tensor, eval_plain};
 
 // The squares of the differences, added up along axis 1.
 fn program(alloc: Global) -> Result<Expr, AllocError>
@@ -37,23 +36,4 @@ pub fn row_distances(
         return Ok(Err(fault));
     }
     Ok(Ok(eval_plain(alloc, &program, inputs)?))
-}
-
-#[test]
-fn rows_of_three(rt: HostRuntime) -> Result<(), Fail> {
-    let alloc = rt.alloc();
-    // Columns come first: the rows are (1, 2, 3) and (4, 5, 6), and (1, 0, 3) and (4, 5, 9).
-    let first = vec![in alloc; 1, 4, 2, 5, 3, 6]?;
-    let second = vec![in alloc; 1, 4, 0, 5, 3, 9]?;
-    let dims = Dims::new(&[2, 3])?;
-    if dims.size() != 6 {
-        return Err("six values".into());
-    }
-    let mut inputs = Inputs::new(Vec::new(alloc));
-    inputs.push(Tensor::new(dims.copied(), first))?;
-    inputs.push(Tensor::new(dims, second))?;
-    let tensor = row_distances(alloc, &inputs)??;
-    assert_eq!(rt; tensor.values(), [4, 9].as_slice());
-    assert_eq!(rt; tensor.dims().as_slice(), [2].as_slice());
-    Ok(())
 }

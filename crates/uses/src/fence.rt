@@ -7,7 +7,6 @@ use pool_barrier::{Barrier, BarrierFault, Share};
 use std::alloc::Global;
 use std::sync::Wait;
 use std::sync::atomic::{AtomicU64, Ordering};
-use std::test::Fail;
 use std::thread::{self, Threads};
 
 /// How many of so many threads were there when the one that waits went on.
@@ -53,12 +52,4 @@ pub fn arrived<RT: Threads + Wait + Sync>(
         },
     );
     Ok(seen)
-}
-
-#[test]
-fn all_have_arrived(rt: HostRuntime) -> Result<(), Fail> {
-    for threads in [1, 2, 16] {
-        assert_eq!(rt; arrived(&rt, rt.alloc(), threads)?, u64::from(threads));
-    }
-    Ok(())
 }

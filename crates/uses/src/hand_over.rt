@@ -11,7 +11,6 @@ use rtrb::{Consumer, Producer, RingBuffer};
 use std::alloc::{AllocError, Global};
 use std::snapshot::Snapshot;
 use std::sync::{Arc, Wait};
-use std::test::Fail;
 use std::thread::{self, Promise, Threads};
 
 /// How one side waits, at a count of its own, and how it wakes the other.
@@ -182,17 +181,4 @@ pub fn handed_over<RT: Threads + Wait + Sync>(
         },
     )
     .map_err(CountFault::from)
-}
-
-#[test]
-fn a_thousand_numbers(rt: HostRuntime) -> Result<(), Fail> {
-    let mut numbers = Vec::new(rt.alloc());
-    for number in 0..1000 {
-        numbers.push(number)?;
-    }
-    for places in [1, 2, 64] {
-        let got = handed_over(&rt, rt.alloc(), &numbers, places)?;
-        assert_eq!(rt; got.as_slice(), numbers.as_slice());
-    }
-    Ok(())
 }

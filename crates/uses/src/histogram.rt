@@ -7,7 +7,6 @@ ghost use Rattle.uses.specs.Counts.{counts_of, part_of};
 use parallel_for::{ForFault, Kernel, Setup, blocks, parallel_for};
 use std::alloc::{AllocError, Allocator, Global};
 use std::sync::Wait;
-use std::test::Fail;
 use std::thread::Threads;
 
 /// Has the counts of a part of the text at the part's number.
@@ -107,26 +106,4 @@ pub fn histogram<RT: Threads + Wait + Sync>(
     let parts = blocks(text.len() as u64, part_length);
     let counts = parallel_for(rt, alloc, setup, &kernel, parts, 1)?;
     Ok(added(&counts))
-}
-
-#[test]
-fn counts_of_a_few(rt: HostRuntime) -> Result<(), Fail> {
-    let alloc = rt.alloc();
-    let setup = Setup {
-        workers: 2,
-        partitions: Vec::new(alloc),
-    };
-    let mut few = [0; 256];
-    for (byte, count) in [(b'a', 5), (b'b', 2), (b'c', 1), (b'd', 1), (b'r', 2)] {
-        few[usize::from(byte)] = count;
-    }
-    for part_length in [1, 3, 4, 100] {
-        let counts = histogram(&rt, alloc, &setup, b"abracadabra", part_length)?;
-        assert_eq!(rt; counts.as_slice(), few.as_slice());
-    }
-    let none = histogram(&rt, alloc, &setup, b"", 1)?;
-    assert_eq!(rt; none.as_slice(), [0; 256].as_slice());
-    let uncut = histogram(&rt, alloc, &setup, b"abracadabra", 0);
-    assert_eq!(rt; uncut.err(), Some(ForFault::BadBlock));
-    Ok(())
 }

@@ -7,7 +7,6 @@ use event_count::EventCount;
 use run_queue::SlotRows;
 use std::alloc::{AllocError, Global};
 use std::sync::Wait;
-use std::test::Fail;
 use std::thread::Threads;
 use worker_pool::{Job, NoGate, PoolFault, Progress, Setup, VecLists, with_root};
 
@@ -91,16 +90,4 @@ pub fn count_leaves<RT: Threads + Wait + Sync>(
         count = count.wrapping_add(added(outs));
     }
     Ok(count)
-}
-
-#[test]
-fn leaves_of_a_tree(rt: HostRuntime) -> Result<(), Fail> {
-    for (height, count) in [(0, 1), (1, 1), (2, 2), (10, 89), (20, 10_946)] {
-        assert_eq!(rt; count_leaves(&rt, rt.alloc(), 4, height)?, count);
-    }
-    assert_eq!(rt;
-        count_leaves(&rt, rt.alloc(), 0, 1),
-        Err(PoolFault::BadWorkers)
-    );
-    Ok(())
 }

@@ -11,7 +11,6 @@ use std::collections::VecDeque;
 use std::marker::{Brand, PhantomData};
 use std::sync::ledger::{Blank, Book, Ledger, Share};
 use std::sync::{Mutex, Wait};
-use std::test::Fail;
 use std::thread::{self, Threads};
 
 /// How many numbers of each seat may lie in the queue. What comes past them its producer adds up.
@@ -334,18 +333,4 @@ pub fn queued_sum<RT: Threads + Wait + Sync>(
     let (count, seats) = RowCount::new(alloc, &sizes)?;
     let blank = Blank::new(seats.len() as u64 + 1);
     Ok(summed::<Brand, RT>(rt, alloc, count, seats, blank, numbers)?)
-}
-
-#[test]
-fn sums_by_consumers(rt: HostRuntime) -> Result<(), Fail> {
-    let mut numbers = Vec::new(rt.alloc());
-    for number in 0..1500 {
-        numbers.push(number)?;
-    }
-    numbers.push(u64::MAX)?;
-    for consumers in [1, 2, 7] {
-        let total = queued_sum(&rt, rt.alloc(), &numbers, consumers)?;
-        assert_eq!(rt; total, 1_124_249);
-    }
-    Ok(())
 }

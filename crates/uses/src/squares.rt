@@ -4,7 +4,6 @@ ghost use Rattle.std.specs.Prelude.{◌≡◌, ◌*◌, IfOk, length, map};
 use parallel_for::{ForFault, Kernel, Setup, parallel_for};
 use std::alloc::{AllocError, Allocator, Global};
 use std::sync::Wait;
-use std::test::Fail;
 use std::thread::Threads;
 
 /// Has the square of a number at the number's place.
@@ -51,19 +50,4 @@ pub fn squares_of<RT: Threads + Wait + Sync>(
     let kernel = Squares { numbers };
     let squares = parallel_for(rt, alloc, setup, &kernel, numbers.len() as u64, block)?;
     Ok(squares)
-}
-
-#[test]
-fn squares_of_a_few(rt: HostRuntime) -> Result<(), Fail> {
-    let alloc = rt.alloc();
-    let setup = Setup {
-        workers: 2,
-        partitions: Vec::new(alloc),
-    };
-    let squares = squares_of(&rt, alloc, &setup, &[0, 1, 2, u32::MAX], 1)?;
-    assert_eq!(rt;
-        squares.as_slice(),
-        [0, 1, 4, 18_446_744_065_119_617_025].as_slice()
-    );
-    Ok(())
 }

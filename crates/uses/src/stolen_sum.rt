@@ -9,7 +9,6 @@ ghost use Rattle.uses.specs.Lists.{Agree};
 use run_queue::{RowsFault, SlotRows, SlotSeat};
 use std::alloc::{AllocError, Global};
 use std::sync::Wait;
-use std::test::Fail;
 use std::thread::{self, Threads};
 
 /// A seat, and what came out through it, added up.
@@ -167,18 +166,4 @@ pub fn stolen_sum<RT: Threads + Wait + Sync>(
     let total = rest.wrapping_add(total_of(&taken));
     let left = rows.close(seats_of(alloc, taken)?);
     Ok(total.wrapping_add(added(&left)))
-}
-
-#[test]
-fn sums_by_thieves(rt: HostRuntime) -> Result<(), Fail> {
-    let mut numbers = Vec::new(rt.alloc());
-    for number in 0..1500 {
-        numbers.push(number)?;
-    }
-    numbers.push(u64::MAX)?;
-    for thieves in [0, 1, 7] {
-        let total = stolen_sum(&rt, rt.alloc(), &numbers, thieves)?;
-        assert_eq!(rt; total, 1_124_249);
-    }
-    Ok(())
 }

@@ -1,7 +1,6 @@
 //! A dispatcher that looks for a queue with work, each time from another one on.
 ghost use Rattle.std.specs.Prelude.{◌≡◌, ◌^◌, ◌<◌, All, IfSome, IfNone, length, slice_index};
 
-use std::test::Fail;
 use steal_walk::{Coprimes, Walk};
 
 /// The first queue that isn't empty, on a walk once round all of them that the word picks.
@@ -19,17 +18,4 @@ pub fn first_waiting(lengths: &[u64], coprimes: &Coprimes, word: u32) -> Option<
         }
     }
     None
-}
-
-#[test]
-fn each_queue_is_found(rt: HostRuntime) -> Result<(), Fail> {
-    let coprimes = Coprimes::new(rt.alloc(), 3)?;
-    for word in [0, 1 << 31, u32::MAX] {
-        assert_eq!(rt; first_waiting(&[0, 0, 7], &coprimes, word), Some(2));
-        assert_eq!(rt; first_waiting(&[5, 0, 0], &coprimes, word), Some(0));
-        assert_eq!(rt; first_waiting(&[0, 0, 0], &coprimes, word), None);
-    }
-    // The word picks where the walk begins.
-    assert_eq!(rt; first_waiting(&[1, 1, 1], &coprimes, 1 << 31), Some(1));
-    Ok(())
 }

@@ -5,9 +5,8 @@ ghost use Rattle.event_word.specs.Play.{Plays};
 ghost use Rattle.event_word.specs.Waking.{StaysAwake};
 ghost use Rattle.event_word.specs.World.{opening_world};
 
-use event_word::{Event, Phase, World, plays_are_runs, runs_stay_awake};
+use event_word::{Event, World, plays_are_runs, runs_stay_awake};
 use std::alloc::{AllocError, Global};
-use std::test::Fail;
 
 /// The World that the events lead to, with the impossible ones passed over. No schedule forgets a
 /// row with jobs while all workers sleep.
@@ -29,21 +28,4 @@ pub fn tried(
     plays_are_runs();
     runs_stay_awake();
     Ok(world)
-}
-
-// A worker is about to sleep while a job comes: whoever is first, it doesn't sleep on it.
-#[test]
-fn a_job_that_comes_late(rt: HostRuntime) -> Result<(), Fail> {
-    let events = [
-        Event::Prewait { seat: 0 },
-        Event::PassFlag { seat: 0 },
-        Event::Pass { seat: 0, row: 0 },
-        Event::Publish { actor: 1, row: 0 },
-        Event::Notify { actor: 1 },
-        Event::Commit { seat: 0 },
-    ];
-    let world = tried(rt.alloc(), 1, 1, 1, &events)?;
-    assert_eq!(rt; (world.phase(0), world.length(0)), (Phase::Running, 1));
-    assert!(rt; world.stack().is_empty());
-    Ok(())
 }

@@ -1,0 +1,5 @@
+//! Tests of the callers of each crate.
+#![tactic(auto)]
+
+#[cfg(test)]
+mod callers;
