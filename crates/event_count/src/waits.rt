@@ -87,7 +87,6 @@ impl<A: Allocator> Counter<A> {
     // the prewait and the load of this look among them. So if the condition was made true before
     // the look, by such a step or under a lock, either the waiter's check comes after it and finds
     // the condition true, or its prewait comes before the look, which counts it.
-    #[inline(always)]
     pub(crate) fn notify<K: Kind, R: Wait>(&self, rt: &R, seat: &mut Seat)
         requires kind { IsKind K.rowed (key_of self.now) }
         requires of { IsAt self.now seat.old }

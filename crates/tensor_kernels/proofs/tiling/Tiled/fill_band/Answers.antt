@@ -27,6 +27,17 @@ columns-left t p len n is some within =
     columns-inside p t.rows (row_count t.second) len n is some
     (subst (λ m. p * (4 * t.rows) + len ≤ row_count t.second * m) (sym t.same) within)
 
+length-columns : (t : Tiled) (starts : List ℕ) (a n : ℕ) → starts ≡ t.second.starts.items
+    → a + n ≤ row_count t.second → length (take (a + n - a) (drop a starts)) ≡ n
+length-columns t starts a n is left =
+    omega (
+      arith,
+      left,
+      ap length is,
+      length-take (a + n - a) (drop a starts),
+      length-drop a starts,
+    )
+
 columns-few : (m len n : ℕ) → n ≡ div_ceil len m → 0 < m → len ≤ 32 * m → n ≤ 32
 columns-few m len n is some within =
     omega (arith, columns-inside 0 m 32 len n is some (omega (arith, within)))
@@ -99,14 +110,7 @@ put-requires-clause-packed c =
     let a = c.args.panel * 4 in
     let starts = c.as_slice.result.now in
     let columns = c.div_ceil-columns.result in
-    let count : length (take (a + columns - a) (drop a starts)) ≡ columns =
-    omega (
-      arith,
-      left,
-      ap length c.as_slice.ensures.value,
-      length-take (a + columns - a) (drop a starts),
-      length-drop a starts,
-    ) in
+    let count = length-columns t starts a columns c.as_slice.ensures.value left in
     record {
       few_rows = omega (arith, t.same);
       few_columns = few;
@@ -159,14 +163,7 @@ loop-c-preserved c = record {
       let starts = take (a + columns - a) (drop a all) in
       let len = c.args.from + length c.args.out.now in
       let left = columns-left t p len _ c.div_ceil-columns.ensures some c.requires.within in
-      let count : length starts ≡ columns =
-      omega (
-        arith,
-        left,
-        ap length c.as_slice.ensures.value,
-        length-take (a + columns - a) (drop a all),
-        length-drop a all,
-      ) in
+      let count = length-columns t all a columns c.as_slice.ensures.value left in
       let reach : len ≤ columns * m =
       rw c.div_ceil-columns.ensures (div_ceil_times len m some).0 in
       let column : l / m < length starts =
