@@ -14,7 +14,7 @@ use Rattle.event_count.specs.Kinds.{MayCommit}
 use Rattle.event_count.specs.Tries.{OffersConsume, OffersPush, OffersSpent, OffersSignal}
 use Rattle.event_count.specs.Tries.{OffersPop, Misses, IsTryCommitIn, IsTryCancel, IsTryNotify}
 use Rattle.event_count.specs.Tries.{IsTryNotifyAll}
-use Rattle.event_count.specs.Waits.{IsLater, RestsOnNotifyIn}
+use Rattle.event_count.specs.Waits.{IsLater, RestsOnCancelIn, RestsOnNotifyIn}
 use Rattle.event_count.specs.declared.answers.TryNotify.TheVariants as notify
 use Rattle.event_count.specs.declared.answers.TryNotifyAll.TheVariants as notify_all
 use Rattle.event_count.specs.declared.answers.TryCommit.TheVariants as commit
@@ -101,6 +101,56 @@ module _ (a b : Card) (later : IsLater a b) (word : ℕ) (x : Card) where
     later_look never look = looked _
         (subst (λ d. MatchBool ((fields_of word).top == nobody) (x ≡ d)
         ((next : ℕ) × (x ≡ reading d next))) (loading-looking rowed b word never) look)
+
+-- the same seat, and one that is later than a later one
+pub later_same : (c : Card) → IsLater c c
+later_same c = record {
+  waiters = refl;
+  rows = refl;
+  number = refl;
+  phase = refl;
+  owing = refl;
+  events = refl;
+  epoch = refl;
+  polls = refl;
+  flag = refl;
+  passed = refl;
+  announcing = refl;
+  credits = refl;
+  found = refl;
+  loads = omega arith;
+  exchanges = omega arith;
+}
+
+pub later_then : (a b c : Card) → IsLater a b → IsLater b c → IsLater a c
+later_then a b c first next = record {
+  waiters = next.waiters ∙ first.waiters;
+  rows = next.rows ∙ first.rows;
+  number = next.number ∙ first.number;
+  phase = next.phase ∙ first.phase;
+  owing = next.owing ∙ first.owing;
+  events = next.events ∙ first.events;
+  epoch = next.epoch ∙ first.epoch;
+  polls = next.polls ∙ first.polls;
+  flag = next.flag ∙ first.flag;
+  passed = next.passed ∙ first.passed;
+  announcing = next.announcing ∙ first.announcing;
+  credits = next.credits ∙ first.credits;
+  found = next.found ∙ first.found;
+  loads = omega (arith, first.loads, next.loads);
+  exchanges = omega (arith, first.exchanges, next.exchanges);
+}
+
+-- a cancel, or a notification, of a later seat is one of the seat
+pub rests_cancel : (rowed : Bool) (a b d : Card) → IsLater a b → RestsOnCancelIn rowed b d
+    → RestsOnCancelIn rowed a d
+rests_cancel rowed a b d later (before, after, more, rest) =
+    (before, after, later_then a b before later more, rest)
+
+pub rests_notify : (rowed : Bool) (a b d : Card) → IsLater a b → RestsOnNotifyIn rowed b d
+    → RestsOnNotifyIn rowed a d
+rests_notify rowed a b d later (before, after, more, rest) =
+    (before, after, later_then a b before later more, rest)
 
 -- the same seat after a store in its own next word
 later_stored : (a b : Card) → IsLater a b → (next : ℕ) → IsLater a (storing b next)

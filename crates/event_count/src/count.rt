@@ -219,7 +219,13 @@ impl<A: Allocator> EventCount<A> {
         ensures used { looked_of seat.new ≡ None }
         ensures answer { RestsOnCancel (card_of seat.old) (card_of seat.new) }
     {
-        self.counter.cancel::<Alone, R>(rt, seat);
+        // The loop stands here, since a call that may wait costs its caller a look at whether the
+        // process ends.
+        for _ in rt.forever() {
+            if self.counter.cancel_once::<Alone>(seat) {
+                return;
+            }
+        }
     }
 
     /// Notifies one waiter, where the word of a look that it makes has one to notify, and unparks
@@ -237,7 +243,12 @@ impl<A: Allocator> EventCount<A> {
         ensures used { looked_of seat.new ≡ None }
         ensures answer { RestsOnNotify (card_of seat.old) (card_of seat.new) }
     {
-        self.counter.notify::<Alone, R>(rt, seat);
+        // As that of a cancel, the loop stands here.
+        for _ in rt.forever() {
+            if self.counter.notify_once::<Alone>(seat) {
+                return;
+            }
+        }
     }
 
     /// Notifies all waiters of the state word that it loads, and unparks those that were on the

@@ -1,16 +1,16 @@
-use Rattle.event_count.proofs.Retrying.{lost_notify, rests_popped}
+use Rattle.event_count.proofs.Retrying.{later_then, rests_notify}
 use Rattle.event_count.proofs.counter.Counter.notify.Goals as goal
 
 pub loop-preserved : goal.loop-preserved
 loop-preserved g c = record {
   can = tt;
   finite = tt;
-  of = c.in-Contended.ensures.of;
-  later = lost_notify _ _ _ _ _ _ _ c.loop.invariant.later c.look.ensures.card
-      c.look.ensures.looked c.in-Contended.ensures.answer;
+  of = c.notify_once.ensures.of;
+  later = later_then _ _ _ c.loop.invariant.later
+      (c.notify_once.ensures.contended c.if-notify_once.false);
 }
 
-pub returns-in-Popped-clause-answer : goal.returns-in-Popped-clause-answer
-returns-in-Popped-clause-answer g c = rests_popped _ _ _ _ _ _ _ _ _ _ c.loop.invariant.later
-    c.look.ensures.card c.look.ensures.looked c.in-Popped.ensures.answer c.requires.owes_none
-    c.try_unpark_next.ensures.none c.try_unpark_next.ensures.card
+pub returns-then-notify_once-clause-answer : goal.returns-then-notify_once-clause-answer
+returns-then-notify_once-clause-answer g c =
+    rests_notify g.K.Kind.rowed _ _ _ c.loop.invariant.later
+    (c.notify_once.ensures.done c.if-notify_once.true)

@@ -1,0 +1,12 @@
+use Rattle.event_count.proofs.Retrying.{later_same, lost_notify, rests_popped}
+use Rattle.event_count.proofs.counter.Counter.notify_once.Goals as goal
+
+pub returns-in-Contended-clause-contended : goal.returns-in-Contended-clause-contended
+returns-in-Contended-clause-contended g c _ =
+    lost_notify _ _ _ _ _ _ _ (later_same _) c.look.ensures.card c.look.ensures.looked
+    c.in-Contended.ensures.answer
+
+pub returns-in-Popped-clause-done : goal.returns-in-Popped-clause-done
+returns-in-Popped-clause-done g c _ = rests_popped _ _ _ _ _ _ _ _ _ _ (later_same _)
+    c.look.ensures.card c.look.ensures.looked c.in-Popped.ensures.answer c.requires.owes_none
+    c.try_unpark_next.ensures.none c.try_unpark_next.ensures.card
