@@ -30,12 +30,12 @@ pub struct Seat {
     pub(crate) linked: bool,
     // The epoch of its next push.
     pub(crate) epoch: u32,
+    // How many more jobs it may publish.
+    pub(crate) credits: u32,
     // The word of its last look, until a step uses it up.
     pub(crate) looked: Option<u64>,
     // The next word of that word's top, where there is one.
     pub(crate) next: Option<u64>,
-    // How many more jobs it may publish.
-    pub(crate) credits: u32,
     ghost alone: { seat.me.0 ≡ only (card_in seat.me.0) },
     ghost none_held: { seat.me.1 ≡ [] },
     ghost sized: { (card_in seat.me.0).waiters ≡ waiters },
