@@ -1,5 +1,5 @@
 -- Sums in the lanes of vectors, one product after another.
-use Rattle.std.proofs.Common.{◌≡◌, ℕ, ◌+◌, ◌-◌, ◌*◌, ◌/◌, ◌%◌, ◌<◌, ◌≤◌, ℤ, ◌+ℤ◌, ◌*ℤ◌, List, map}
+use Rattle.std.proofs.Common.{◌≡◌, ℕ, ◌+◌, ◌-◌, ◌<◌, ◌≤◌, ℤ, ◌+ℤ◌, ◌*ℤ◌, List, map}
 use Rattle.std.proofs.Common.{to_z, of_z}
 use Rattle.std.proofs.Common.{ap, sym, ◌∙◌, arith, inl, inr, zero-add}
 use Rattle.std.specs.Int.{w64}
@@ -87,35 +87,17 @@ by_fours f x s0 s1 s2 s3 is0 is1 is2 is3 kept1 kept2 kept3 t h =
           ]
     ]
 
--- a row of four by four, by its own places
-by_row : (f : ℕ → ℕ → ℤ) (xs : List ℤ) (i : ℕ) → ((j : ℕ) → j < 4 → value_in xs (4 * j + i) ≡ f i j)
-    → (t : ℕ) → t < 16 → t % 4 ≡ i → value_in xs t ≡ f (t % 4) (t / 4)
-by_row f xs i is t h row =
-    let here : 4 * (t / 4) + i ≡ t = omega arith in
-    ap (value_in xs) (sym here) ∙ is (t / 4) (omega arith) ∙ ap (λ i. f i (t / 4)) (sym row)
-
--- four rows, stored one after another in columns of four
-pub by_rows : (f : ℕ → ℕ → ℤ) (s0 s1 s2 s3 : List ℤ)
-    → ((j : ℕ) → j < 4 → value_in s0 (4 * j + 0) ≡ f 0 j)
-    → ((j : ℕ) → j < 4 → value_in s1 (4 * j + 1) ≡ f 1 j)
-    → ((j : ℕ) → j < 4 → value_in s2 (4 * j + 2) ≡ f 2 j)
-    → ((j : ℕ) → j < 4 → value_in s3 (4 * j + 3) ≡ f 3 j)
-    → ((t : ℕ) → t % 4 < 1 → value_in s1 t ≡ value_in s0 t)
-    → ((t : ℕ) → t % 4 < 2 → value_in s2 t ≡ value_in s1 t)
-    → ((t : ℕ) → t % 4 < 3 → value_in s3 t ≡ value_in s2 t)
-    → (t : ℕ) → t < 16 → value_in s3 t ≡ f (t % 4) (t / 4)
-by_rows f s0 s1 s2 s3 is0 is1 is2 is3 kept1 kept2 kept3 t h =
-    elim (cases_lt (t % 4) 3) [
-      | inr last ↦ by_row f s3 3 is3 t h (omega arith)
-      | inl below_3 ↦
-          kept3 t below_3
-          ∙ elim (cases_lt (t % 4) 2) [
-            | inr third ↦ by_row f s2 2 is2 t h (omega arith)
-            | inl below_2 ↦
-                kept2 t below_2
-                ∙ elim (cases_lt (t % 4) 1) [
-                  | inr second ↦ by_row f s1 1 is1 t h (omega arith)
-                  | inl below_1 ↦ kept1 t below_1 ∙ by_row f s0 0 is0 t h (omega arith)
-                ]
-          ]
-    ]
+-- the same from place 0 on
+pub by_fours_here : (f : ℕ → ℤ) (s0 s1 s2 s3 : List ℤ)
+    → ((r : ℕ) → r < 4 → value_in s0 (0 + r) ≡ f r)
+    → ((r : ℕ) → r < 4 → value_in s1 (4 + r) ≡ f (4 + r))
+    → ((r : ℕ) → r < 4 → value_in s2 (8 + r) ≡ f (8 + r))
+    → ((r : ℕ) → r < 4 → value_in s3 (12 + r) ≡ f (12 + r))
+    → ((s : ℕ) → s < 4 → value_in s1 s ≡ value_in s0 s)
+    → ((s : ℕ) → s < 8 → value_in s2 s ≡ value_in s1 s)
+    → ((s : ℕ) → s < 12 → value_in s3 s ≡ value_in s2 s)
+    → (t : ℕ) → t < 16 → value_in s3 t ≡ f t
+by_fours_here f s0 s1 s2 s3 is0 is1 is2 is3 kept1 kept2 kept3 t h =
+    by_fours f 0 s0 s1 s2 s3 (λ r h. is0 r h ∙ ap f (sym (zero-add r))) is1 is2 is3
+    kept1 kept2 kept3 t h
+    ∙ ap f (zero-add t)

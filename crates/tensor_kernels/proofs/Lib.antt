@@ -2,6 +2,7 @@ pub mod ChunkSums
 pub mod HalfLanes
 pub mod HalfProducts
 pub mod HalfWords
+pub mod Heights
 pub mod LaneSums
 pub mod ListWrites
 pub mod PackedRows

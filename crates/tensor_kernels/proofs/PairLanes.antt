@@ -1,6 +1,6 @@
 -- Products two by two.
-use Rattle.std.proofs.Common.{◌≡◌, ℕ, ◌+◌, ◌%◌, ◌^◌, ◌<◌, ℤ, pos, ◌+ℤ◌, ◌*ℤ◌, List, map, FitsSigned}
-use Rattle.std.proofs.Common.{to_z, of_z, ap, sym, ◌∙◌, arith, get_or}
+use Rattle.std.proofs.Common.{◌≡◌, ℕ, ◌+◌, ◌*◌, ◌%◌, ◌^◌, ◌<◌, ℤ, pos, ◌+ℤ◌, ◌*ℤ◌, List, map}
+use Rattle.std.proofs.Common.{FitsSigned, to_z, of_z, ap, sym, ◌∙◌, arith, get_or}
 use Rattle.std.proofs.lemmas.List.{get_or-map}
 use Rattle.std.proofs.lemmas.Int.{int_wrap-add_left, int_wrap-add_right, int_wrap-mul_left}
 use Rattle.std.proofs.lemmas.Int.{int_wrap-mul_right}
@@ -8,9 +8,13 @@ use Rattle.std.specs.Int.{w64, int_wrap}
 use lib.Lanes.{zip2}
 use Rattle.tensor_values.specs.Values.{value_in}
 use Rattle.tensor_shape.specs.Wrap.{wrap}
+use Rattle.tensor_kernels.specs.Halves.{joined}
+use Rattle.tensor_kernels.specs.Pairs.{pairs_dot}
 use Rattle.tensor_kernels.specs.Panels.{AreLanes}
 use Rattle.tensor_kernels.proofs.HalfProducts.{wrap-bits}
-use Rattle.tensor_kernels.proofs.HalfLanes.{length-bits, at-bits, length-both, at-both}
+use Rattle.tensor_kernels.proofs.HalfLanes.{length-bits, at-bits, length-both, at-both, joined-bits}
+use Rattle.tensor_kernels.proofs.ProductSums.{wrap-next}
+use Rattle.tensor_kernels.proofs.SimdLanes.{value_in-lanes}
 
 -- a sum of bits, read as a number
 pub bits-sum : (x y : ℤ) → FitsSigned w64 x → FitsSigned w64 y
@@ -30,7 +34,8 @@ at-sums f x y r lx ly h =
     (omega (arith, length-both f _ _ 4 (length-bits x lx) (length-bits y ly)))
     ∙ ap (to_z w64)
     (at-both f _ _ 4 r (length-bits x lx) (length-bits y ly) h
-    ∙ ap (λ n. f n (get_or (map (of_z w64) y) r 0)) (at-bits x r lx h) ∙ ap (f _) (at-bits y r ly h))
+    ∙ ap (λ n. f n (get_or (map (of_z w64) y) r 0)) (at-bits x r lx h)
+    ∙ ap (f _) (at-bits y r ly h))
 
 -- a product of two wrapped numbers, added
 pub wrap-product : (s x y : ℤ) → wrap (s +ℤ (wrap x *ℤ wrap y)) ≡ wrap (s +ℤ (x *ℤ y))
@@ -38,3 +43,20 @@ wrap-product s x y =
     sym (int_wrap-add_right w64 s (wrap x *ℤ wrap y))
     ∙ ap (λ v. wrap (s +ℤ v)) (int_wrap-mul_left w64 x (wrap y) ∙ int_wrap-mul_right w64 x y)
     ∙ int_wrap-add_right w64 s (x *ℤ y)
+
+-- the product of a pair more in a lane
+pub next_pair : (f g : ℕ → ℤ) (low x y out : List ℤ) (words more : List ℕ) (r q : ℕ) → r < 4
+    → AreLanes x → AreLanes y → AreLanes out → joined low words r ≡ wrap (pairs_dot f g q)
+    → value_in x r ≡ f (2 * q) → value_in y r ≡ f (2 * q + 1)
+    → joined out more r ≡ wrap (joined low words r
+    +ℤ ((value_in (map (to_z w64) (map (of_z w64) x)) r +ℤ g (2 * q + 1))
+    *ℤ (value_in (map (to_z w64) (map (of_z w64) y)) r +ℤ g (2 * q))))
+    → joined (map (to_z w64) (map (of_z w64) out)) more r ≡ wrap (pairs_dot f g (q + 1))
+next_pair f g low x y out words more r q h lanes_x lanes_y lanes so_far is_x is_y is =
+    let left : value_in (map (to_z w64) (map (of_z w64) x)) r ≡ f (2 * q) =
+    value_in-lanes x lanes_x r h ∙ is_x in
+    let right : value_in (map (to_z w64) (map (of_z w64) y)) r ≡ f (2 * q + 1) =
+    value_in-lanes y lanes_y r h ∙ is_y in
+    joined-bits out more r lanes h
+    ∙ wrap-next (λ k. (f (2 * k) +ℤ g (2 * k + 1)) *ℤ (f (2 * k + 1) +ℤ g (2 * k))) q
+    (joined low words r) (joined out more r) so_far (rw (left, right) at is)

@@ -1,13 +1,12 @@
 -- The identity behind products two by two.
 use Rattle.std.proofs.Common.{◌≡◌, ℕ, zero, suc, ◌+◌, ◌*◌, ℤ, pos, negsuc, ◌+ℤ◌, ◌-ℤ◌, ◌*ℤ◌, neg_ℤ}
-use Rattle.std.proofs.Common.{List, refl, ap, sym, ◌∙◌, arith}
+use Rattle.std.proofs.Common.{refl, ap, sym, ◌∙◌, arith}
 use Rattle.std.proofs.lemmas.Int.{ints, int_wrap-add_left, int_wrap-sub_right}
 use Rattle.std.proofs.Math.IntN.{+ℤ_idl, zero-*ℤ, suc_ℤ-+ℤ, suc_ℤ-*ℤ, pred_ℤ-+ℤ, pred_ℤ-*ℤ, *ℤ_comm}
 use Rattle.std.specs.Int.{w64}
-use Rattle.tensor_values.specs.Values.{value_in}
 use Rattle.tensor_shape.specs.Wrap.{wrap}
-use Rattle.tensor_kernels.specs.Panels.{panel_product}
-use Rattle.tensor_kernels.specs.Pairs.{pair_sum, pairs_product}
+use Rattle.tensor_kernels.specs.Pairs.{own_pairs, pairs_dot}
+use Rattle.tensor_kernels.specs.Products.{dot}
 
 after : (m n k : ℤ) → (m +ℤ n) +ℤ k ≡ (m +ℤ k) +ℤ n
 after m n k = omega (arith, ints)
@@ -40,45 +39,42 @@ mixed p q r s = omega (arith, ints)
 
 times-sum : (x y u : ℤ) → x *ℤ (y +ℤ u) ≡ x *ℤ y +ℤ x *ℤ u
 times-sum x y u =
-    *ℤ_comm x (y +ℤ u) ∙ distrib y u x ∙ ap (λ z. z +ℤ u *ℤ x) (*ℤ_comm y x) ∙ ap (λ z. x *ℤ y +ℤ z) (*ℤ_comm u x)
+    *ℤ_comm x (y +ℤ u) ∙ distrib y u x ∙ ap (λ z. z +ℤ u *ℤ x) (*ℤ_comm y x)
+    ∙ ap (λ z. x *ℤ y +ℤ z) (*ℤ_comm u x)
 
 -- a product of two sums
 foil : (x y u v : ℤ) → (x +ℤ v) *ℤ (y +ℤ u) ≡ (x *ℤ u +ℤ y *ℤ v) +ℤ (x *ℤ y +ℤ u *ℤ v)
 foil x y u v =
     distrib x v (y +ℤ u)
     ∙ ap (λ z. z +ℤ v *ℤ (y +ℤ u)) (times-sum x y u)
-    ∙ ap (λ z. (x *ℤ y +ℤ x *ℤ u) +ℤ z) (times-sum v y u ∙ ap (λ z. z +ℤ v *ℤ u) (*ℤ_comm v y) ∙ ap (λ z. y *ℤ v +ℤ z) (*ℤ_comm v u))
+    ∙ ap (λ z. (x *ℤ y +ℤ x *ℤ u) +ℤ z)
+    (times-sum v y u ∙ ap (λ z. z +ℤ v *ℤ u) (*ℤ_comm v y) ∙ ap (λ z. y *ℤ v +ℤ z) (*ℤ_comm v u))
     ∙ mixed (x *ℤ y) (x *ℤ u) (y *ℤ v) (u *ℤ v)
 
-gather : (m a b p q r s : ℤ) → (m +ℤ (a +ℤ b)) +ℤ ((p +ℤ q) +ℤ (r +ℤ s)) ≡ ((m +ℤ p) +ℤ q) +ℤ ((a +ℤ r) +ℤ (b +ℤ s))
+gather : (m a b p q r s : ℤ) → (m +ℤ (a +ℤ b)) +ℤ ((p +ℤ q) +ℤ (r +ℤ s))
+    ≡ ((m +ℤ p) +ℤ q) +ℤ ((a +ℤ r) +ℤ (b +ℤ s))
 gather m a b p q r s = omega (arith, ints)
 
 -- the sum of the products and what each row has by itself
-pub pairs-split : (a b : List ℤ) (i j n : ℕ) → pairs_product a b i j n
-    ≡ panel_product a b i j (n * 2) +ℤ (pair_sum a i n +ℤ pair_sum b j n)
-pairs-split a b i j zero = refl
-pairs-split a b i j (suc n) =
-    let x = value_in a (8 * n + i) in
-    let y = value_in a (8 * n + 4 + i) in
-    let u = value_in b (8 * n + j) in
-    let v = value_in b (8 * n + 4 + j) in
+pub pairs-split : (f g : ℕ → ℤ) (n : ℕ)
+    → pairs_dot f g n ≡ dot f g (n * 2) +ℤ (own_pairs f n +ℤ own_pairs g n)
+pairs-split f g zero = refl
+pairs-split f g (suc n) =
+    let x = f (2 * n) in
+    let y = f (2 * n + 1) in
+    let u = g (2 * n) in
+    let v = g (2 * n + 1) in
     let two : suc n * 2 ≡ suc (suc (n * 2)) = omega arith in
-    let i0 : 4 * (n * 2) + i ≡ 8 * n + i = omega arith in
-    let j0 : 4 * (n * 2) + j ≡ 8 * n + j = omega arith in
-    let i1 : 4 * suc (n * 2) + i ≡ 8 * n + 4 + i = omega arith in
-    let j1 : 4 * suc (n * 2) + j ≡ 8 * n + 4 + j = omega arith in
-    let M = panel_product a b i j (n * 2) in
-    let A = pair_sum a i n in
-    let B = pair_sum b j n in
-    let first : value_in a (4 * (n * 2) + i) *ℤ value_in b (4 * (n * 2) + j) ≡ x *ℤ u =
-    ap (λ k. value_in a k *ℤ value_in b (4 * (n * 2) + j)) i0 ∙ ap (λ k. x *ℤ value_in b k) j0 in
-    let second : value_in a (4 * suc (n * 2) + i) *ℤ value_in b (4 * suc (n * 2) + j) ≡ y *ℤ v =
-    ap (λ k. value_in a k *ℤ value_in b (4 * suc (n * 2) + j)) i1 ∙ ap (λ k. y *ℤ value_in b k) j1 in
-    let step : panel_product a b i j (suc n * 2) ≡ (M +ℤ x *ℤ u) +ℤ y *ℤ v =
-    ap (λ k. panel_product a b i j k) two
-    ∙ ap (λ z. (M +ℤ z) +ℤ value_in a (4 * suc (n * 2) + i) *ℤ value_in b (4 * suc (n * 2) + j)) first
-    ∙ ap (λ z. (M +ℤ x *ℤ u) +ℤ z) second in
-    ap (λ z. z +ℤ (x +ℤ v) *ℤ (y +ℤ u)) (pairs-split a b i j n)
+    let even : n * 2 ≡ 2 * n = omega arith in
+    let odd : suc (n * 2) ≡ 2 * n + 1 = omega arith in
+    let M = dot f g (n * 2) in
+    let A = own_pairs f n in
+    let B = own_pairs g n in
+    let step : dot f g (suc n * 2) ≡ (M +ℤ x *ℤ u) +ℤ y *ℤ v =
+    ap (dot f g) two
+    ∙ ap (λ k. (M +ℤ f k *ℤ g k) +ℤ f (suc (n * 2)) *ℤ g (suc (n * 2))) even
+    ∙ ap (λ k. (M +ℤ x *ℤ u) +ℤ f k *ℤ g k) odd in
+    ap (λ z. z +ℤ (x +ℤ v) *ℤ (y +ℤ u)) (pairs-split f g n)
     ∙ ap (λ z. (M +ℤ (A +ℤ B)) +ℤ z) (foil x y u v)
     ∙ gather M A B (x *ℤ u) (y *ℤ v) (x *ℤ y) (u *ℤ v)
     ∙ ap (λ z. z +ℤ ((A +ℤ x *ℤ y) +ℤ (B +ℤ u *ℤ v))) (sym step)
@@ -94,7 +90,8 @@ wrap-rest p m a b r s x y whole is_s is_x is_y is =
     ∙ ap (λ z. wrap (wrap (z -ℤ x) -ℤ y)) is_s
     ∙ ap (λ z. wrap (wrap (wrap p -ℤ z) -ℤ y)) is_x
     ∙ ap (λ z. wrap (wrap (wrap p -ℤ wrap a) -ℤ z)) is_y
-    ∙ ap (λ z. wrap (z -ℤ wrap b)) (int_wrap-sub_right w64 (wrap p) a ∙ int_wrap-add_left w64 p (neg_ℤ a))
+    ∙ ap (λ z. wrap (z -ℤ wrap b))
+    (int_wrap-sub_right w64 (wrap p) a ∙ int_wrap-add_left w64 p (neg_ℤ a))
     ∙ int_wrap-sub_right w64 (wrap (p -ℤ a)) b
     ∙ int_wrap-add_left w64 (p -ℤ a) (neg_ℤ b)
     ∙ ap wrap (ap (λ z. (z -ℤ a) -ℤ b) whole ∙ rest m a b)

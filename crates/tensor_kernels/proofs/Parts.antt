@@ -111,14 +111,6 @@ module _ (first place count : ℕ) (xs ys : List ℤ) (above : first ≤ place)
       holds-written (λ k v. v ≡ f (first + k)) before
       (λ k few. part k few ∙ ap f (omega (arith, above)))
 
-  -- past the part its values are as they were
-  pub get_or-past : (k : ℕ) → place + count - first ≤ k
-      → get_or (put_mid (place - first) (place - first + count - (place - first)) xs ys) k (pos 0)
-      ≡ get_or xs k (pos 0)
-  get_or-past k past =
-      get_or-after (place - first) (place - first + count - (place - first)) xs ys
-      (omega (arith, room)) k (omega (arith, written)) (omega (arith, room))
-
 -- an item of a part
 pub get_or-part : {A : Type 0} (d : A) (a n : ℕ) (xs : List A) (k : ℕ)
     → k < length (take (a + n - a) (drop a xs))

@@ -1,18 +1,18 @@
 -- Vectors of four lanes. A local vector is known by its bits, a parameter or a result by its
 -- numbers.
-use Rattle.std.proofs.Common.{◌≡◌, ℕ, zero, suc, ◌+◌, ◌*◌, ◌%◌, ◌^◌, ◌<◌, ◌≤◌, ℤ, ◌+ℤ◌, ◌*ℤ◌, pos}
-use Rattle.std.proofs.Common.{List, [], ◌∷◌, ◌++◌}
+use Rattle.std.proofs.Common.{◌≡◌, ℕ, zero, suc, ◌+◌, ◌*◌, ◌%◌, ◌^◌, ◌<◌, ℤ, ◌+ℤ◌, ◌*ℤ◌, pos}
+use Rattle.std.proofs.Common.{List, [], ◌∷◌}
 use Rattle.std.proofs.Common.{length, map, FitsSigned, to_z, of_z, get_or, refl, ap, sym, subst}
 use Rattle.std.proofs.Common.{◌∙◌, rules, arith}
 use Rattle.std.specs.Int.{w32, w64}
-use Rattle.std.proofs.lemmas.List.{get_or-map, length-map, get_or_append_left}
+use Rattle.std.proofs.lemmas.List.{get_or-map, length-map}
 use Rattle.std.proofs.lemmas.Int.{wraps, wrapping_add-bits, to_z-of_z, SFits-int_wrap}
-use Rattle.std.proofs.lemmas.Simd.{get_or-zip2, length-zip2, get_or-chunk, length-chunk}
+use Rattle.std.proofs.lemmas.Simd.{get_or-zip2, length-zip2}
 use Rattle.std.proofs.Math.Facts.{sfits_widen}
-use lib.Lanes.{zip2, chunk}
+use lib.Lanes.{zip2}
 use Rattle.tensor_values.specs.Values.{value_in}
 use Rattle.tensor_shape.specs.Wrap.{wrap}
-use Rattle.tensor_kernels.specs.Panels.{AreLanes, AreSmall}
+use Rattle.tensor_kernels.specs.Panels.{AreLanes}
 
 -- a product and a sum of bits, read as a number
 pub bits-product : (s x y : ℤ) → FitsSigned w64 s → FitsSigned w64 x → FitsSigned w64 y
@@ -86,20 +86,6 @@ wide z fits = sfits_widen tt fits
 pub widened : (z : ℤ) → FitsSigned w32 z → to_z w64 (of_z w64 (to_z w32 (of_z w32 z))) ≡ z
 widened z fits = ap (λ v. to_z w64 (of_z w64 v)) (to_z-of_z w32 z fits)
     ∙ to_z-of_z w64 z (wide z fits)
-
--- value j of four from a place on, as a swizzle takes it
-pub swizzled : (b : List ℤ) (i j : ℕ) → AreSmall b → i + 4 ≤ length b → j < 4
-    → to_z w32 (get_or (map (of_z w32) (chunk i 4 b) ++ map (of_z w32) (chunk i 4 b)) j 0)
-    ≡ value_in b (i + j)
-swizzled b i j small inside first =
-    let words = map (of_z w32) (chunk i 4 b) in
-    let long : length (chunk i 4 b) ≡ 4 = length-chunk i 4 b inside in
-    let long' : length words ≡ 4 = simp length-map long in
-    ap (to_z w32)
-    (get_or_append_left words words 0 j (omega arith)
-    ∙ get_or-map (of_z w32) (chunk i 4 b) j (pos 0) 0 (omega arith)
-    ∙ ap (of_z w32) (get_or-chunk i 4 b j (pos 0) first))
-    ∙ to_z-of_z w32 (value_in b (i + j)) (small (i + j) (omega arith))
 
 -- the same number in eight lanes
 pub value_in-spread : (v : ℤ) (r : ℕ) → r < 4

@@ -4,7 +4,7 @@ use Rattle.std.specs.List.{slice_range}
 
 -- where chunk c of n products begins, and the one before it ends
 abbrev pub chunk_start : ℕ → ℕ → ℕ
-chunk_start n c = min (c * 512) n
+chunk_start n c = min (c * 128) n
 
 -- the offsets of chunk c of the products
 abbrev pub chunk : List ℕ → ℕ → List ℕ

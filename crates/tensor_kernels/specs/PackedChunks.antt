@@ -1,33 +1,52 @@
 -- A chunk of the products of a band of columns.
-use Rattle.std.specs.Prelude.{◌≡◌, ℕ, ℤ, ◌+ℤ◌, ◌+◌, ◌*◌, ◌/◌, ◌%◌, ◌<◌, ◌≤◌, length}
+use Rattle.std.specs.Prelude.{◌≡◌, ◌≢◌, ℕ, ℤ, ◌+ℤ◌, ◌*◌, ◌/◌, ◌%◌, ◌≤◌, length}
+use Rattle.std.specs.Int.{div_ceil}
 use Rattle.tensor_shape.specs.Legal.{most_elements}
 use Rattle.tensor_shape.specs.Wrap.{wrap}
-use Rattle.tensor_kernels.specs.Cells.{first_cells, AreReady, IsReadyFor}
+use Rattle.tensor_kernels.specs.Cells.{height_of, AreReady}
 use Rattle.tensor_kernels.specs.Chunks.{before}
-use Rattle.tensor_kernels.specs.Panels.{rows_product}
+use Rattle.tensor_kernels.specs.Panels.{cell_of}
+use Rattle.tensor_kernels.specs.Products.{dot}
 use Rattle.tensor_kernels.specs.declared.tiling.packed_chunk.PackedChunk.{PackedChunk}
 
--- the sum of its products for the row and the column of a place of the band
+-- the sum of its products for a row and a column
+abbrev pub tile_sum : PackedChunk → ℕ → ℕ → ℤ
+tile_sum chunk x y =
+    dot (cell_of (height_of chunk.height) chunk.first.now.cells.items chunk.products x)
+    (cell_of 1 chunk.second.now.cells.items chunk.products y) chunk.products
+
+-- the same for the row and the column of a place of the band
 abbrev pub chunk_sum : PackedChunk → ℕ → ℤ
-chunk_sum chunk p =
-    rows_product (first_cells chunk.first.now) chunk.second.now.cells.items chunk.products
-    (p % chunk.rows) (p / chunk.rows)
+chunk_sum chunk p = tile_sum chunk (p % chunk.rows) (p / chunk.rows)
+
+-- the panel of that row
+abbrev pub panel_at : PackedChunk → ℕ → ℕ
+panel_at chunk p = p % chunk.rows / height_of chunk.height
 
 -- there are panels for all rows and all columns, which can be multiplied
 pub record IsPacked (chunk : PackedChunk) : Type 0 where
   pub few_rows : chunk.rows ≤ most_elements
-  pub few_columns : chunk.columns ≤ 32
-  pub first : (chunk.rows + 3) / 4 * (chunk.products * 4) ≤ length (first_cells chunk.first.now)
-  pub second : (chunk.columns + 3) / 4 * (chunk.products * 4)
-      ≤ length chunk.second.now.cells.items
-  pub ready : AreReady ((chunk.rows + 3) / 4) chunk.products chunk.first.now
-  pub other : IsReadyFor chunk.first.now ((chunk.columns + 3) / 4) chunk.products
-      chunk.second.now
+  pub few_columns : chunk.columns ≤ 128
+  pub short : chunk.products ≤ 128
+  pub first : div_ceil chunk.rows (height_of chunk.height)
+      * (chunk.products * height_of chunk.height) ≤ length chunk.first.now.cells.items
+  pub second : chunk.columns * chunk.products ≤ length chunk.second.now.cells.items
+  pub ready : AreReady chunk.small (height_of chunk.height)
+      (div_ceil chunk.rows (height_of chunk.height)) chunk.products chunk.first.now
+  pub other : AreReady chunk.small 1 chunk.columns chunk.products chunk.second.now
 
--- at a place of the band stands a new value for an old one: the sum is put there, or added, where
--- its row is one of the tiles from a top one to before a bottom one, and else it is the old one
-pub record IsPut (chunk : PackedChunk) (top bottom p : ℕ) (old new : ℤ) : Type 0 where
-  pub within : top * 4 ≤ p % chunk.rows → p % chunk.rows < bottom * 4
-      → new ≡ wrap (before chunk.number old +ℤ chunk_sum chunk p)
-  pub above : p % chunk.rows < top * 4 → new ≡ old
-  pub below : bottom * 4 ≤ p % chunk.rows → new ≡ old
+-- what stands at a place of the band where its sum was put, or added
+abbrev pub put_value : PackedChunk → ℕ → ℤ → ℤ
+put_value chunk p old = wrap (before chunk.number old +ℤ chunk_sum chunk p)
+
+-- at a place of the band stands a new value for an old one: the sum is put where it is of panel s
+-- and column j, and else it is the old one
+pub record IsPutInTile (chunk : PackedChunk) (s j p : ℕ) (old new : ℤ) : Type 0 where
+  pub within : panel_at chunk p ≡ s → p / chunk.rows ≡ j → new ≡ put_value chunk p old
+  pub other : panel_at chunk p ≢ s → new ≡ old
+  pub elsewhere : p / chunk.rows ≢ j → new ≡ old
+
+-- the same of panel s and any column
+pub record IsPutInPanel (chunk : PackedChunk) (s p : ℕ) (old new : ℤ) : Type 0 where
+  pub within : panel_at chunk p ≡ s → new ≡ put_value chunk p old
+  pub other : panel_at chunk p ≢ s → new ≡ old

@@ -1,32 +1,28 @@
 -- Products two by two.
--- (x + v) * (y + u) is x * u + y * v, and x * y and u * v besides, which are of one row each.
-use Rattle.std.specs.Prelude.{◌≡◌, ℕ, ℤ, ◌+ℤ◌, ◌*ℤ◌, ◌+◌, ◌*◌, ◌/◌, ◌<◌, List, [], length, drop}
-use Rattle.std.specs.Prelude.{slice_index_or}
+-- (f 0 + g 1) * (f 1 + g 0) is f 0 * g 0 + f 1 * g 1, and f 0 * f 1 and g 0 * g 1 besides, which are
+-- of one row each.
+use Rattle.std.specs.Prelude.{◌≡◌, ℕ, ℤ, ◌+ℤ◌, ◌*ℤ◌, ◌+◌, ◌*◌, ◌/◌, ◌<◌, List, length}
 use Rattle.tensor_shape.specs.Wrap.{wrap}
 use Rattle.tensor_values.specs.Values.{value_in}
+use Rattle.tensor_kernels.specs.Panels.{cell_of}
 use Rattle.tensor_kernels.specs.Products.{sum_to}
 
--- the sum of the products of the first n pairs of values of row i of a panel
-abbrev pub pair_sum : List ℤ → ℕ → ℕ → ℤ
-pair_sum a i n = sum_to (λ k. value_in a (8 * k + i) *ℤ value_in a (8 * k + 4 + i)) n
+-- the sum of the products of the first n pairs of a row's values
+abbrev pub own_pairs : (ℕ → ℤ) → ℕ → ℤ
+own_pairs f n = sum_to (λ k. f (2 * k) *ℤ f (2 * k + 1)) n
 
--- the sum of the products of the first n pairs of row i of one panel and row j of another, each
--- value of the one added to the other value of the other
-abbrev pub pairs_product : List ℤ → List ℤ → ℕ → ℕ → ℕ → ℤ
-pairs_product a b i j n =
-    sum_to (λ k. (value_in a (8 * k + i) +ℤ value_in b (8 * k + 4 + j))
-    *ℤ (value_in a (8 * k + 4 + i) +ℤ value_in b (8 * k + j))) n
+-- the sum of the products of the first n pairs of two rows, each value of the one added to the other
+-- value of the other
+abbrev pub pairs_dot : (ℕ → ℤ) → (ℕ → ℤ) → ℕ → ℤ
+pairs_dot f g n =
+    sum_to (λ k. (f (2 * k) +ℤ g (2 * k + 1)) *ℤ (f (2 * k + 1) +ℤ g (2 * k))) n
 
--- four numbers are the sums of the products of the pairs of each row of a panel, whose rows have n
--- values, modulo 2^64
-abbrev pub HasPairSums : List ℤ → List ℤ → ℕ → Type 0
-HasPairSums sums a n = (i : ℕ) → i < 4 → value_in sums i ≡ wrap (pair_sum a i (n / 2))
+-- a row whose values lie a height apart, from place t on
+abbrev pub lane : ℕ → List ℤ → ℕ → ℕ → ℤ
+lane h cells t q = value_in cells (h * q + t)
 
--- the cells from panel p on, of panels whose rows have n values
-abbrev pub panel_from : List ℤ → ℕ → ℕ → List ℤ
-panel_from cells n p = drop (p * (n * 4)) cells
-
--- there are four such numbers for each of so many panels
-abbrev pub ArePairSums : List (List ℤ) → List ℤ → ℕ → Type 0
-ArePairSums sums cells n =
-    (p : ℕ) → p < length sums → HasPairSums (slice_index_or sums p []) (panel_from cells n p) n
+-- numbers are the sums of the products of the pairs of the rows of panels, whose rows have n values,
+-- modulo 2^64
+abbrev pub ArePairSums : ℕ → List ℤ → List ℤ → ℕ → Type 0
+ArePairSums h sums cells n = (x : ℕ) → x < length sums
+    → value_in sums x ≡ wrap (own_pairs (cell_of h cells n x) (n / 2))

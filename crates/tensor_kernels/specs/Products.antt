@@ -9,6 +9,10 @@ abbrev pub sum_to : (ℕ → ℤ) → ℕ → ℤ
 sum_to f zero = pos 0
 sum_to f (suc n) = sum_to f n +ℤ f n
 
+-- the sum of the products of the first n values of two rows
+abbrev pub dot : (ℕ → ℤ) → (ℕ → ℤ) → ℕ → ℤ
+dot f g n = sum_to (λ q. f q *ℤ g q) n
+
 -- the value at a place of a result whose places pass so many rows of the first operand the fastest:
 -- the sum of so many products of a row of the first and one of the second
 abbrev pub rows_dot : ℕ → ℕ → (ℕ → ℕ → ℤ) → (ℕ → ℕ → ℤ) → ℕ → ℤ

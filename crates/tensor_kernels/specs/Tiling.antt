@@ -1,6 +1,9 @@
 -- Contractions tile by tile.
-use Rattle.std.specs.Prelude.{ℕ, ℤ, ◌*◌}
-use Rattle.tensor_kernels.specs.Rows.{row_count, dot_at}
+use Rattle.std.specs.Prelude.{ℕ, ℤ, ◌+◌, ◌*◌, ◌/◌, ◌%◌, ◌*ℤ◌, length}
+use Rattle.tensor_kernels.specs.Chunks.{chunk, chunk_start}
+use Rattle.tensor_kernels.specs.Products.{sum_to}
+use Rattle.tensor_kernels.specs.Rows.{row_count, row_length, row_value, dot_at}
+use Rattle.tensor_kernels.specs.declared.rows.Rows.{Rows}
 use Rattle.tensor_kernels.specs.declared.tiling.Tiled.{Tiled}
 
 -- how many values the result has
@@ -10,3 +13,14 @@ tiled_count t = row_count t.second * row_count t.first
 -- the value at a place of the result
 abbrev pub tiled_value : Tiled → ℕ → ℤ
 tiled_value t p = dot_at t.first t.second p
+
+-- product q of the value at a place of the result
+abbrev pub product_at : Rows → Rows → ℕ → ℕ → ℤ
+product_at first second p q =
+    row_value first (p % row_count first) q *ℤ row_value second (p / row_count first) q
+
+-- the sum of the products of chunk c of it
+abbrev pub chunk_total : Tiled → ℕ → ℕ → ℤ
+chunk_total t c p =
+    sum_to (λ q. product_at t.first t.second p (chunk_start (row_length t.first) c + q))
+    (length (chunk t.first.offsets.items c))

@@ -17,14 +17,14 @@ use crate::rows::strips::Strips;
 use crate::tiling::Tiled;
 use std::alloc::{AllocError, Allocator, Global};
 
-/// From so many rows of the second operand on tiles are used, of which fewer would leave columns
-/// empty.
+/// From so many rows of the second operand on tiles are used, whose packing takes longer than so few
+/// sums.
 const TILE: usize = 4;
 
 /// A contraction made ready to be evaluated by ranges of places. It is made once; all who work on
 /// ranges of it share it.
 pub enum Contraction<'a> {
-    /// By tiles of four rows by four columns.
+    /// By tiles of a column of sixteen rows, or of four.
     InTiles(Tiled<'a>),
     /// Row by row, where an operand has few rows.
     InDots(Dots<'a>),
@@ -50,9 +50,9 @@ impl<'a> Contraction<'a> {
     ghost use Rattle.tensor_kernels.specs.Contracting.{contraction_count, contraction_value};
 
     /// The contraction of two operands as rows. Where the first has more than one row and the second
-    /// four or more, the first is packed: a cell for each value, of 4 bytes where all values of both
-    /// fit them, else of 8, up to a multiple of four rows, and for cells of 8 bytes a number for each
-    /// of these and each chunk of 512 products.
+    /// more than 128, the first is packed: a cell of 8 bytes for each value, up to a multiple of
+    /// sixteen or four rows, and where not all values of both fit 32 bits a number for each of these
+    /// rows and each chunk of 128 products.
     pub fn of_rows(
         alloc: Global,
         first: Rows<'a>,
@@ -98,8 +98,10 @@ impl<'a> Contraction<'a> {
     }
 
     /// The values at the places from the first to before the last of the result, in order. Where
-    /// the first operand was packed, up to 32 rows of the second are too, chunk by chunk: that takes
-    /// at most 512 cells of 8 bytes for each, and for numbers past 32 bits one more.
+    /// the first operand has more than one row and the second four or more, both are packed here,
+    /// chunk by chunk of 128 products, but for a first one that is packed already: up to 32 rows of
+    /// the second, or 128 beside all of the first. That takes a cell of 8 bytes for each product of
+    /// these rows, and where numbers don't fit 32 bits one more for each of them.
     pub fn values<A: Allocator>(
         &self,
         alloc: A,

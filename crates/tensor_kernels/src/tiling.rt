@@ -1,5 +1,5 @@
-//! Ranges of a contraction's values, tile by tile. A tile holds four rows by four columns of the
-//! result, a panel of columns four columns, whose places lie side by side, a band up to 32.
+//! Ranges of a contraction's values, tile by tile. A tile holds a panel's rows, sixteen or four, of
+//! one column of the result, whose places lie side by side; a band has up to 32 columns, or 128.
 
 pub(crate) mod halves;
 pub(crate) mod packed_chunk;
@@ -8,46 +8,65 @@ pub(crate) mod placing;
 pub(crate) mod small;
 pub(crate) mod tile;
 
-ghost use Rattle.std.specs.Prelude.{◌≡◌, ℕ, ◌*◌, ◌+◌, ◌<◌, ◌≤◌, length, IfOk, IsTrue, OnOk};
+ghost use Rattle.std.specs.Prelude.{◌≡◌, ℕ, ◌*◌, ◌+◌, ◌+ℤ◌, ◌%◌, ◌<◌, ◌≤◌, length, IfOk, IsTrue, OnOk};
 ghost use Rattle.std.specs.Cow.{cow_slice_items};
 ghost use Rattle.tensor_values.specs.Values.{value_in};
-ghost use Rattle.tensor_kernels.specs.Cells.{AreChunks, AreChunks-prop};
+ghost use Rattle.tensor_kernels.specs.Cells.{AreChunks, AreChunks-prop, IsChunk, height_of};
 ghost use Rattle.tensor_kernels.specs.Panels.{AreSmall};
 ghost use Rattle.tensor_kernels.specs.Rows.{row_count, row_length, dot_at};
 
 use crate::panels::chunks::{chunk_count, chunk_of};
+use crate::panels::height::Height;
 use crate::panels::{Panels, are_small};
 use crate::rows::Rows;
+use crate::rows::part::RowsPart;
 use crate::tiling::packed_chunk::PackedChunk;
 use std::alloc::{AllocError, Global};
 
-/// How many columns are packed together: so many that a block of the first operand's rows is read
+/// How many columns are packed together: so many that a panel of the first operand's rows is used
 /// again and again while it is near, and so few that they stay beside it.
 const BAND: usize = 32;
 
-/// Two operands whose rows have equally many values, the first packed chunk by chunk of the
-/// products. The second is packed by who writes values, band by band.
+/// How many where the first operand is packed for each band anew. A result of at most so many
+/// columns is such a one: to store the panels would take longer than to make them again.
+const WIDE_BAND: usize = 128;
+
+/// How the first operand is packed: how high its panels are, and whether all numbers fit 32 bits.
+#[derive(Clone, Copy, Drop)]
+struct Packing {
+    height: Height,
+    small: bool,
+}
+
+/// Two operands whose rows have equally many values, taken chunk by chunk of the products. Those of
+/// the first are packed beforehand, but where there are few columns; all else is packed by who writes
+/// values, band by band.
 #[derive(Drop)]
 pub struct Tiled<'a> {
     alloc: Global,
     first: Rows<'a>,
     second: Rows<'a>,
-    small: bool,
-    chunks: Vec<Panels>,
+    packing: Packing,
+    /// How many chunks there are, and the first operand's panels of those packed beforehand.
+    chunks: usize,
+    packed: Vec<Panels>,
     rows: usize,
     ghost lengths: { row_length first ≡ row_length second },
     ghost same: { rows ≡ row_count first },
-    ghost fit: { IsTrue small → AreSmall (cow_slice_items second.values) },
-    ghost some: { 0 < length chunks.items },
-    ghost few: { length chunks.items ≤ row_length first + 1 },
-    ghost all: { row_length first ≤ length chunks.items * 512 },
-    ghost each: { AreChunks small first chunks.items } by { AreChunks-prop small first chunks.items },
+    ghost fit_first: { IsTrue packing.small → AreSmall (cow_slice_items first.values) },
+    ghost fit: { IsTrue packing.small → AreSmall (cow_slice_items second.values) },
+    ghost some: { 0 < chunks },
+    ghost few: { chunks ≤ row_length first + 1 },
+    ghost all: { row_length first ≤ chunks * 128 },
+    ghost each: { AreChunks packing.small (height_of packing.height) first packed.items } by { AreChunks-prop packing.small (height_of packing.height) first packed.items },
 }
 
 impl<'a> Tiled<'a> {
-    ghost use Rattle.tensor_kernels.specs.Tiling.{tiled_count, tiled_value};
+    ghost use Rattle.tensor_shape.specs.Wrap.{wrap};
+    ghost use Rattle.tensor_kernels.specs.Chunks.{before};
+    ghost use Rattle.tensor_kernels.specs.Tiling.{tiled_count, tiled_value, chunk_total};
 
-    /// The contraction of two operands, of which the first is packed here.
+    /// The contraction of two operands, of which the first is packed here where that serves.
     pub(crate) fn of(
         alloc: Global,
         first: Rows<'a>,
@@ -61,19 +80,29 @@ impl<'a> Tiled<'a> {
             → tiled_value t p ≡ dot_at first.entry second.entry p) }
     {
         let small = are_small(first.values.as_slice()) && are_small(second.values.as_slice());
-        let chunks = chunks_of(alloc, &first, small)?;
         let rows = first.starts.len();
+        let height = Height::for_rows(rows);
+        let packing = Packing { height, small };
+        let chunks = chunk_count(first.offsets.len());
+        let stored = if second.starts.len() <= WIDE_BAND {
+            0
+        } else {
+            chunks
+        };
+        let packed = panels_of(alloc, &first, packing, stored)?;
         Ok(Tiled {
             alloc,
             first,
             second,
-            small,
+            packing,
             chunks,
+            packed,
             rows,
         })
     }
 
-    /// Writes the values from a place of the result on. Takes the room for a band of columns.
+    /// Writes the values from a place of the result on. Takes the room for a band of columns, and
+    /// for a chunk of the first operand where it isn't packed.
     pub(crate) fn fill(&self, first: usize, out: &mut [i64]) -> Result<(), AllocError>
         requires { first + length out.old ≤ tiled_count self.now }
         ensures len { length out.new ≡ length out.old }
@@ -83,60 +112,133 @@ impl<'a> Tiled<'a> {
         let last = first + out.len();
         let mut place = first;
         while place < last {
-            let (panel, from) = (place / (4 * self.rows), place % (4 * self.rows));
-            let count = (BAND * self.rows - from).min(last - place);
+            let count = (self.band() * self.rows - place % self.rows).min(last - place);
             let part = &mut out[place - first..place - first + count];
-            self.fill_band(panel, from, part)?;
+            self.fill_band(place, part)?;
             place += count;
         }
         Ok(())
     }
 
-    /// Writes values of a band of columns that begins with a panel, from a place of it on.
-    fn fill_band(&self, panel: usize, from: usize, out: &mut [i64]) -> Result<(), AllocError>
+    /// How many columns a band has.
+    fn band(&self) -> usize
+        ensures some { 0 < result }
+        ensures few { result ≤ 128 }
+    {
+        if self.packed.is_empty() {
+            WIDE_BAND
+        } else {
+            BAND
+        }
+    }
+
+    /// Writes values of one band from a place of the result on.
+    fn fill_band(&self, place: usize, out: &mut [i64]) -> Result<(), AllocError>
         requires some { 0 < length out.old }
-        requires inside { from + length out.old ≤ 32 * self.now.rows }
-        requires within { panel * (4 * self.now.rows) + (from + length out.old)
-            ≤ tiled_count self.now }
+        requires inside { place % self.now.rows + length out.old ≤ 128 * self.now.rows }
+        requires within { place + length out.old ≤ tiled_count self.now }
+        ensures len { length out.new ≡ length out.old }
+        ensures each { OnOk result ((k : ℕ) → k < length out.old
+            → value_in out.new k ≡ tiled_value self.now (place + k)) }
+    {
+        for c in 0..self.chunks {
+            self.add_chunk(c, place, out)?;
+        }
+        Ok(())
+    }
+
+    /// Writes the sums of a chunk of the products, whose panels are packed or are to be.
+    fn add_chunk(&self, c: usize, place: usize, out: &mut [i64]) -> Result<(), AllocError>
+        requires chunk { c < self.now.chunks }
+        requires some { 0 < length out.old }
+        requires inside { place % self.now.rows + length out.old ≤ 128 * self.now.rows }
+        requires within { place + length out.old ≤ tiled_count self.now }
         ensures len { length out.new ≡ length out.old }
         ensures each { OnOk result ((k : ℕ) → k < length out.old → value_in out.new k
-            ≡ tiled_value self.now (panel * (4 * self.now.rows) + (from + k))) }
+            ≡ wrap (before c (value_in out.old k) +ℤ chunk_total self.now c (place + k))) }
     {
-        let values = self.second.values.as_slice();
-        let columns = (from + out.len()).div_ceil(self.rows);
-        let starts = &self.second.starts.as_slice()[panel * 4..panel * 4 + columns];
-        for c in 0..self.chunks.len() {
-            let panels = &self.chunks[c];
-            let offsets = chunk_of(&self.second.offsets, c);
-            let band = panels.pack(self.alloc, values, starts, offsets)?;
-            let chunk = PackedChunk {
-                number: c,
-                products: offsets.len(),
-                rows: self.rows,
-                columns,
-                first: panels,
-                second: &band,
-            };
-            chunk.put(from, out);
+        if c < self.packed.len() {
+            return self.put_chunk(c, &self.packed[c], place, out);
         }
+        let panels = panels_at(self.alloc, &self.first, self.packing, c)?;
+        self.put_chunk(c, &panels, place, out)
+    }
+
+    /// The same, given the first operand's panels.
+    fn put_chunk(
+        &self,
+        c: usize,
+        first: &Panels,
+        place: usize,
+        out: &mut [i64],
+    ) -> Result<(), AllocError>
+        requires panels { IsChunk self.now.packing.small (height_of self.now.packing.height)
+            self.now.first c first.now }
+        requires chunk { c < self.now.chunks }
+        requires some { 0 < length out.old }
+        requires inside { place % self.now.rows + length out.old ≤ 128 * self.now.rows }
+        requires within { place + length out.old ≤ tiled_count self.now }
+        ensures len { length out.new ≡ length out.old }
+        ensures each { OnOk result ((k : ℕ) → k < length out.old → value_in out.new k
+            ≡ wrap (before c (value_in out.old k) +ℤ chunk_total self.now c (place + k))) }
+    {
+        let (column, from) = (place / self.rows, place % self.rows);
+        let columns = (from + out.len()).div_ceil(self.rows);
+        let part = RowsPart {
+            values: self.second.values.as_slice(),
+            starts: &self.second.starts.as_slice()[column..column + columns],
+            offsets: chunk_of(&self.second.offsets, c),
+        };
+        let band = Panels::of(self.alloc, self.packing.small, &part, 1)?;
+        let chunk = PackedChunk {
+            number: c,
+            products: part.offsets.len(),
+            rows: self.rows,
+            columns,
+            height: self.packing.height,
+            small: self.packing.small,
+            first,
+            second: &band,
+        };
+        chunk.put(from, out);
         Ok(())
     }
 }
 
-/// The first operand's panels of each chunk of its offsets, in cells of 32 bits or not.
-fn chunks_of(alloc: Global, rows: &Rows<'_>, small: bool) -> Result<Vec<Panels>, AllocError>
-    requires small { IsTrue small → AreSmall (cow_slice_items rows.now.values) }
-    ensures some { IfOk result (λ chunks. 0 < length chunks.items) }
-    ensures few { IfOk result (λ chunks. length chunks.items ≤ row_length rows.now + 1) }
-    ensures all { IfOk result (λ chunks. row_length rows.now ≤ length chunks.items * 512) }
-    ensures chunks { IfOk result (λ chunks. AreChunks small rows.now chunks.items) }
+/// The first operand's panels of so many first chunks of its offsets.
+fn panels_of(
+    alloc: Global,
+    rows: &Rows<'_>,
+    packing: Packing,
+    count: usize,
+) -> Result<Vec<Panels>, AllocError>
+    requires small { IsTrue packing.small → AreSmall (cow_slice_items rows.now.values) }
+    requires few { count ≤ row_length rows.now + 1 }
+    ensures chunks { IfOk result (λ chunks.
+        AreChunks packing.small (height_of packing.height) rows.now chunks.items) }
 {
-    let values = rows.values.as_slice();
-    let count = chunk_count(rows.offsets.len());
     let mut chunks = Vec::with_capacity(alloc, count)?;
     for c in 0..count {
-        let offsets = chunk_of(&rows.offsets, c);
-        chunks.push_reserved(Panels::of(alloc, small, values, &rows.starts, offsets)?);
+        chunks.push_reserved(panels_at(alloc, rows, packing, c)?);
     }
     Ok(chunks)
+}
+
+/// The first operand's panels of chunk c of its offsets.
+fn panels_at(
+    alloc: Global,
+    rows: &Rows<'_>,
+    packing: Packing,
+    c: usize,
+) -> Result<Panels, AllocError>
+    requires small { IsTrue packing.small → AreSmall (cow_slice_items rows.now.values) }
+    requires few { c ≤ row_length rows.now }
+    ensures { IfOk result (IsChunk packing.small (height_of packing.height) rows.now c) }
+{
+    let part = RowsPart {
+        values: rows.values.as_slice(),
+        starts: rows.starts.as_slice(),
+        offsets: chunk_of(&rows.offsets, c),
+    };
+    Panels::of(alloc, packing.small, &part, packing.height.rows())
 }

@@ -10,10 +10,8 @@ ghost use Rattle.tensor_kernels.specs.Products.{list_product};
 use crate::dots::sixteens::{small_sixteen, wide_sixteen};
 use crate::dots::small_eight::small_eight;
 use crate::dots::wide_eight::wide_eight;
+use crate::rows::starts::side_by_side;
 use crate::tiling::tile::mul_add;
-
-/// The most rows whose starts are looked at before their sums are made.
-const TOGETHER: usize = 1024;
 
 /// The sums of the products of each row of a and the row of b at y.
 pub(crate) fn row_sums(
@@ -48,25 +46,6 @@ pub(crate) fn row_sums(
         );
         k += count;
     }
-}
-
-/// How many rows from row k on begin side by side, up to as many as are passed together.
-fn side_by_side(starts: &[usize], k: usize) -> usize
-    requires { k < length starts.now }
-    ensures some { 0 < result }
-    ensures few { k + result ≤ length starts.now }
-    ensures each { (j : ℕ) → j < result
-        → slice_index starts.now (k + j) ≡ slice_index starts.now k + j }
-{
-    let most = (starts.len() - k).min(TOGETHER);
-    let first = starts[k];
-    for j in 1..most {
-        let start = starts[k + j];
-        if start < first || start - first != j {
-            return j;
-        }
-    }
-    most
 }
 
 /// The same sums of rows that begin side by side, the first of them at x: sixteen at a time or

@@ -4,14 +4,14 @@
 ghost use Rattle.std.specs.Prelude.{◌≡◌, ◌*◌, ◌+◌, ◌<◌, ◌≤◌, ◌^◌};
 ghost use Rattle.tensor_kernels.specs.Chunks.{chunk};
 
-/// The products of a chunk, but for the last one: of these a panel has 8 or 16 KB.
-const CHUNK: usize = 512;
+/// The products of a chunk, but for the last one: of these a panel of sixteen rows has 16 KB.
+const CHUNK: usize = 128;
 
 /// How many chunks so many products are cut into. No products are one chunk of none.
 pub(crate) fn chunk_count(products: usize) -> usize
     ensures some { 0 < result }
     ensures few { result ≤ products + 1 }
-    ensures all { products ≤ result * 512 }
+    ensures all { products ≤ result * 128 }
 {
     products.div_ceil(CHUNK).max(1)
 }

@@ -1,90 +1,174 @@
-//! The rows of an operand, brought into panels of four rows.
+//! The rows of an operand, brought into panels.
 
-ghost use Rattle.std.specs.Prelude.{◌≡◌, ℕ, ◌*◌, ◌+◌, ◌-◌, ◌/◌, ◌<◌, ◌≤◌, ◌^◌, ◌++◌};
+ghost use Rattle.std.specs.Prelude.{◌≡◌, ℕ, ◌*◌, ◌+◌, ◌-◌, ◌<◌, ◌≤◌, ◌++◌};
 ghost use Rattle.std.specs.Prelude.{length, map, min, slice_index, vec_len, vec_capacity};
-ghost use Rattle.std.specs.Prelude.{IfOk};
-ghost use Rattle.tensor_kernels.specs.Panels.{AreCells, AreInside};
+ghost use Rattle.std.specs.Prelude.{IfOk, IsTrue};
+ghost use Rattle.std.specs.Int.{div_ceil};
+ghost use Rattle.tensor_kernels.specs.Panels.{AreCells};
 ghost use Rattle.tensor_values.specs.Values.{value_in};
 
-use crate::panels::cell::Cell;
+use crate::rows::part::RowsPart;
+use crate::rows::starts::side_by_side;
 use std::alloc::{AllocError, Global};
 
-/// The rows of an operand in panels of four. Row x has the values at its place, moved by each of
-/// the offsets. In the last panel the last row stands again where there is none.
-pub(crate) fn packed<C: Cell>(
+/// The rows of an operand in panels of a height. Row x has the values at its start, moved by each
+/// of the offsets. In the last panel the last row stands again where there is none.
+pub(crate) fn packed(
     alloc: Global,
-    values: &[i64],
-    rows: &[usize],
-    offsets: &[usize],
-) -> Result<Vec<C>, AllocError>
-    requires inside { AreInside values.now rows.now offsets.now }
-    requires held { (k : ℕ) → k < length values.now → C.Holds (value_in values.now k) }
-    requires few { (length rows.now + 3) / 4 * (length offsets.now * 4) < 2 ^ 60 }
-    ensures len { IfOk result (λ v. vec_len v
-        ≡ (length rows.now + 3) / 4 * (length offsets.now * 4)) }
-    ensures cells { IfOk result (λ v.
-        AreCells (map C.number v.items) values.now rows.now offsets.now) }
+    part: &RowsPart<'_>,
+    height: usize,
+) -> Result<Vec<i64>, AllocError>
+    requires some { 0 < height }
+    requires low { height ≤ 16 }
+    ensures len { IfOk result (λ v. vec_len v ≡ div_ceil (length part.now.starts.now) height
+        * (length part.now.offsets.now * height)) }
+    ensures cells { IfOk result (λ v. AreCells height v.items part.now.values.now
+        part.now.starts.now part.now.offsets.now) }
 {
-    let panels = rows.len().div_ceil(4);
-    let mut packed = Vec::with_capacity(alloc, panels * (offsets.len() * 4))?;
+    let panels = part.starts.len().div_ceil(height);
+    let mut packed = Vec::with_capacity(alloc, panels * (part.offsets.len() * height))?;
+    let starts = padded(alloc, part.starts, panels * height)?;
     for p in 0..panels {
-        pack_panel(&mut packed, values, rows, p, offsets);
+        pack_panel(
+            &mut packed,
+            part,
+            p,
+            &starts[p * height..p * height + height],
+        );
     }
     Ok(packed)
 }
 
-/// Appends panel p of the rows.
-fn pack_panel<C: Cell>(
-    packed: &mut Vec<C>,
-    values: &[i64],
-    rows: &[usize],
-    p: usize,
-    offsets: &[usize],
-)
-    requires inside { AreInside values.now rows.now offsets.now }
-    requires held { (k : ℕ) → k < length values.now → C.Holds (value_in values.now k) }
-    requires row { p * 4 < length rows.now }
-    requires start { vec_len packed.old ≡ p * (length offsets.now * 4) }
-    requires room { (p + 1) * (length offsets.now * 4) ≤ vec_capacity packed.old }
-    requires cells { AreCells (map C.number packed.old.items) values.now rows.now offsets.now }
-    ensures len { vec_len packed.new ≡ (p + 1) * (length offsets.now * 4) }
-    ensures capacity { vec_capacity packed.new ≡ vec_capacity packed.old }
-    ensures cells { AreCells (map C.number packed.new.items) values.now rows.now offsets.now }
+/// So many starts: past the last row that one's.
+fn padded(alloc: Global, starts: &[usize], count: usize) -> Result<Vec<usize>, AllocError>
+    requires some { 0 < count → 0 < length starts.now }
+    ensures len { IfOk result (λ v. vec_len v ≡ count) }
+    ensures each { IfOk result (λ v. (x : ℕ) → x < count
+        → slice_index v.items x ≡ slice_index starts.now (min x (length starts.now - 1))) }
 {
-    let starts = four_from(rows, p * 4);
-    for offset in offsets {
-        push_four(packed, values, &starts, *offset);
+    let mut padded = Vec::with_capacity(alloc, count)?;
+    for x in 0..count {
+        padded.push_reserved(starts[x.min(starts.len() - 1)]);
+    }
+    Ok(padded)
+}
+
+/// Appends panel p, whose rows have these starts. For the heights that there are the loop stands by
+/// itself, so that the one over the starts is none.
+fn pack_panel(packed: &mut Vec<i64>, part: &RowsPart<'_>, p: usize, starts: &[usize])
+    requires some { 0 < length starts.now }
+    requires rows { p * length starts.now < length part.now.starts.now }
+    requires starts { (j : ℕ) → j < length starts.now → slice_index starts.now j
+        ≡ slice_index part.now.starts.now
+        (min (p * length starts.now + j) (length part.now.starts.now - 1)) }
+    requires start { vec_len packed.old
+        ≡ p * (length part.now.offsets.now * length starts.now) }
+    requires room { (p + 1) * (length part.now.offsets.now * length starts.now)
+        ≤ vec_capacity packed.old }
+    requires cells { AreCells (length starts.now) packed.old.items part.now.values.now
+        part.now.starts.now part.now.offsets.now }
+    ensures len { vec_len packed.new
+        ≡ (p + 1) * (length part.now.offsets.now * length starts.now) }
+    ensures capacity { vec_capacity packed.old ≤ vec_capacity packed.new }
+    ensures cells { AreCells (length starts.now) packed.new.items part.now.values.now
+        part.now.starts.now part.now.offsets.now }
+{
+    match starts.len() {
+        1 => push_panel(packed, part, p, starts),
+        16 => push_panel(packed, part, p, starts),
+        _ => push_panel(packed, part, p, starts),
     }
 }
 
-/// Appends the values at four places, moved by an offset.
+/// The same for any height.
 #[inline(always)]
-fn push_four<C: Cell>(packed: &mut Vec<C>, values: &[i64], starts: &[usize; 4], offset: usize)
-    requires inside { (j : ℕ) → j < 4 → slice_index starts.now j + offset < length values.now }
-    requires held { (k : ℕ) → k < length values.now → C.Holds (value_in values.now k) }
-    requires room { vec_len packed.old + 4 ≤ vec_capacity packed.old }
-    ensures len { vec_len packed.new ≡ vec_len packed.old + 4 }
+fn push_panel(packed: &mut Vec<i64>, part: &RowsPart<'_>, p: usize, starts: &[usize])
+    requires some { 0 < length starts.now }
+    requires rows { p * length starts.now < length part.now.starts.now }
+    requires starts { (j : ℕ) → j < length starts.now → slice_index starts.now j
+        ≡ slice_index part.now.starts.now
+        (min (p * length starts.now + j) (length part.now.starts.now - 1)) }
+    requires start { vec_len packed.old
+        ≡ p * (length part.now.offsets.now * length starts.now) }
+    requires room { (p + 1) * (length part.now.offsets.now * length starts.now)
+        ≤ vec_capacity packed.old }
+    requires cells { AreCells (length starts.now) packed.old.items part.now.values.now
+        part.now.starts.now part.now.offsets.now }
+    ensures len { vec_len packed.new
+        ≡ (p + 1) * (length part.now.offsets.now * length starts.now) }
+    ensures capacity { vec_capacity packed.old ≤ vec_capacity packed.new }
+    ensures cells { AreCells (length starts.now) packed.new.items part.now.values.now
+        part.now.starts.now part.now.offsets.now }
+{
+    let run = are_together(starts);
+    for offset in part.offsets {
+        push_values(packed, part.values, starts, *offset, run);
+    }
+}
+
+/// Whether starts are of several rows, all of which begin side by side.
+#[inline(always)]
+fn are_together(starts: &[usize]) -> bool
+    ensures { IsTrue result → (j : ℕ) → j < length starts.now
+        → slice_index starts.now j ≡ slice_index starts.now 0 + j }
+{
+    starts.len() > 1 && side_by_side(starts, 0) == starts.len()
+}
+
+/// Appends the values at places, moved by an offset. Those of rows that begin side by side are one
+/// run.
+#[inline(always)]
+fn push_values(packed: &mut Vec<i64>, values: &[i64], starts: &[usize], offset: usize, run: bool)
+    requires run { IsTrue run → (j : ℕ) → j < length starts.now
+        → slice_index starts.now j ≡ slice_index starts.now 0 + j }
+    requires some { 0 < length starts.now }
+    requires inside { (j : ℕ) → j < length starts.now
+        → slice_index starts.now j + offset < length values.now }
+    requires room { vec_len packed.old + length starts.now ≤ vec_capacity packed.old }
+    ensures len { vec_len packed.new ≡ vec_len packed.old + length starts.now }
+    ensures capacity { vec_capacity packed.old ≤ vec_capacity packed.new }
+    ensures cells { packed.new.items ≡ packed.old.items
+        ++ map (λ start. value_in values.now (start + offset)) starts.now }
+{
+    if run {
+        push_run(packed, values, starts, offset);
+    } else {
+        push_at(packed, values, starts, offset);
+    }
+}
+
+/// Appends the values of rows that begin side by side, moved by an offset.
+#[inline(always)]
+fn push_run(packed: &mut Vec<i64>, values: &[i64], starts: &[usize], offset: usize)
+    requires run { (j : ℕ) → j < length starts.now
+        → slice_index starts.now j ≡ slice_index starts.now 0 + j }
+    requires some { 0 < length starts.now }
+    requires inside { (j : ℕ) → j < length starts.now
+        → slice_index starts.now j + offset < length values.now }
+    requires room { vec_len packed.old + length starts.now ≤ vec_capacity packed.old }
+    ensures len { vec_len packed.new ≡ vec_len packed.old + length starts.now }
+    ensures capacity { vec_capacity packed.old ≤ vec_capacity packed.new }
+    ensures cells { packed.new.items ≡ packed.old.items
+        ++ map (λ start. value_in values.now (start + offset)) starts.now }
+{
+    let first = starts[0] + offset;
+    let Ok(()) = packed.extend_from_slice(&values[first..first + starts.len()]) else {
+        unreachable!()
+    };
+}
+
+/// Appends the values at places, moved by an offset.
+#[inline(always)]
+fn push_at(packed: &mut Vec<i64>, values: &[i64], starts: &[usize], offset: usize)
+    requires inside { (j : ℕ) → j < length starts.now
+        → slice_index starts.now j + offset < length values.now }
+    requires room { vec_len packed.old + length starts.now ≤ vec_capacity packed.old }
+    ensures len { vec_len packed.new ≡ vec_len packed.old + length starts.now }
     ensures capacity { vec_capacity packed.new ≡ vec_capacity packed.old }
-    ensures cells { map C.number packed.new.items ≡ map C.number packed.old.items
+    ensures cells { packed.new.items ≡ packed.old.items
         ++ map (λ start. value_in values.now (start + offset)) starts.now }
 {
     for start in starts {
-        packed.push_reserved(C::of(values[*start + offset]));
+        packed.push_reserved(values[*start + offset]);
     }
-}
-
-/// The places of four rows from the first on, and past the last row that one's.
-fn four_from(rows: &[usize], first: usize) -> [usize; 4]
-    requires { first < length rows.now }
-    ensures len { length result ≡ 4 }
-    ensures each { (j : ℕ) → j < 4
-        → slice_index result j ≡ slice_index rows.now (min (first + j) (length rows.now - 1)) }
-{
-    let last = rows.len() - 1;
-    [
-        rows[first],
-        rows[(first + 1).min(last)],
-        rows[(first + 2).min(last)],
-        rows[(first + 3).min(last)],
-    ]
 }

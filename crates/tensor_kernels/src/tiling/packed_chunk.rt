@@ -1,18 +1,17 @@
 //! A chunk of the products of a band of columns, whose operands are packed: its sums are written
-//! tile by tile, block by block of the rows.
+//! tile by tile. A panel of the first operand's rows stays in the nearest cache while all columns
+//! of the band go past it.
 
 ghost use Rattle.std.specs.Prelude.{◌≡◌, ℕ, ◌*◌, ◌+◌, ◌<◌, ◌≤◌, ◌+ℤ◌, length};
 ghost use Rattle.tensor_shape.specs.Wrap.{wrap};
+ghost use Rattle.tensor_kernels.specs.Cells.{height_of};
 ghost use Rattle.tensor_kernels.specs.Chunks.{before};
 ghost use Rattle.tensor_values.specs.Values.{value_in};
 
 use crate::panels::Panels;
-use crate::panels::pair_sums::Paired;
-use crate::tiling::placing::{put_tile, tiles_of};
-
-/// How many tiles of rows a block has, times the products of each: its cells, at most 256 KB, stay
-/// in the second cache while all panels of the band are multiplied with them.
-const BLOCK: usize = 8192;
+use crate::panels::height::Height;
+use crate::tiling::placing::add_run;
+use crate::tiling::tile::{Panel, small_tile, wide_tile};
 
 /// A chunk of the products of all rows of the result and some of its columns.
 #[derive(Drop)]
@@ -23,19 +22,17 @@ pub(crate) struct PackedChunk<'a> {
     pub(crate) products: usize,
     pub(crate) rows: usize,
     pub(crate) columns: usize,
+    /// How high the panels of the first operand are. A column is a panel of one row.
+    pub(crate) height: Height,
+    /// Whether all numbers fit 32 bits.
+    pub(crate) small: bool,
     pub(crate) first: &'a Panels,
-    pub(crate) second: &'a Paired,
-}
-
-/// The tiles of rows from a top one to before a bottom one.
-#[derive(Clone, Copy, Drop)]
-pub(crate) struct Block {
-    pub(crate) top: usize,
-    pub(crate) bottom: usize,
+    pub(crate) second: &'a Panels,
 }
 
 impl PackedChunk<'_> {
-    ghost use Rattle.tensor_kernels.specs.PackedChunks.{chunk_sum, IsPacked, IsPut};
+    ghost use Rattle.tensor_kernels.specs.PackedChunks.{chunk_sum, tile_sum, IsPacked};
+    ghost use Rattle.tensor_kernels.specs.PackedChunks.{IsPutInTile, IsPutInPanel};
 
     /// Writes the sums of the products to places of the columns, from one on.
     pub(crate) fn put(&self, from: usize, out: &mut [i64])
@@ -45,51 +42,72 @@ impl PackedChunk<'_> {
         ensures each { (k : ℕ) → k < length out.old → value_in out.new k
             ≡ wrap (before self.now.number (value_in out.old k) +ℤ chunk_sum self.now (from + k)) }
     {
-        let tiles = self.rows.div_ceil(4);
-        let height = (BLOCK / self.products.max(1)).max(1);
-        let mut top = 0;
-        while top < tiles {
-            let bottom = top + height;
-            self.put_block(Block { top, bottom }, from, out);
-            top = bottom;
+        for s in 0..self.rows.div_ceil(self.height.rows()) {
+            self.put_panel(s, from, out);
         }
     }
 
-    /// Writes the sums of a block's rows, panel by panel. All else stays.
-    fn put_block(&self, block: Block, from: usize, out: &mut [i64])
+    /// Writes the sums of a panel's rows, column by column. All else stays.
+    fn put_panel(&self, s: usize, from: usize, out: &mut [i64])
         requires packed { IsPacked self.now }
+        requires panel { s * height_of self.now.height < self.now.rows }
         requires inside { from + length out.old ≤ self.now.columns * self.now.rows }
         ensures len { length out.new ≡ length out.old }
-        ensures each { (k : ℕ) → k < length out.old → IsPut self.now block.top block.bottom
-            (from + k) (value_in out.old k) (value_in out.new k) }
+        ensures each { (k : ℕ) → k < length out.old
+            → IsPutInPanel self.now s (from + k) (value_in out.old k) (value_in out.new k) }
     {
-        let width = 4 * self.rows;
-        let last = from + out.len();
-        let mut place = from;
-        while place < last {
-            let (panel, start) = (place / width, place % width);
-            let count = (width - start).min(last - place);
-            let part = &mut out[place - from..place - from + count];
-            self.put_panel(block, panel, start, part);
-            place += count;
+        let first = from / self.rows;
+        let last = (from + out.len()).div_ceil(self.rows);
+        for j in first..last {
+            self.put_tile(s, j, from, out);
         }
     }
 
-    /// Writes the sums of a block's rows to places of one panel, from one on. All else stays.
-    fn put_panel(&self, block: Block, panel: usize, from: usize, out: &mut [i64])
+    /// Writes the sums of a panel's rows and a column. All else stays.
+    fn put_tile(&self, s: usize, j: usize, from: usize, out: &mut [i64])
         requires packed { IsPacked self.now }
-        requires panel { panel * 4 < self.now.columns }
-        requires some { 0 < length out.old }
-        requires inside { from + length out.old ≤ 4 * self.now.rows }
+        requires panel { s * height_of self.now.height < self.now.rows }
+        requires column { j < self.now.columns }
+        requires inside { from + length out.old ≤ self.now.columns * self.now.rows }
         ensures len { length out.new ≡ length out.old }
-        ensures each { (k : ℕ) → k < length out.old → IsPut self.now block.top block.bottom
-            (panel * (4 * self.now.rows) + (from + k)) (value_in out.old k) (value_in out.new k) }
+        ensures each { (k : ℕ) → k < length out.old
+            → IsPutInTile self.now s j (from + k) (value_in out.old k) (value_in out.new k) }
     {
-        let (first, last) = tiles_of(self.rows, from, out.len());
-        let bottom = last.min(block.bottom);
-        for s in first.max(block.top).min(bottom)..bottom {
-            let sums = self.first.tile(s, self.second, panel, self.products);
-            put_tile(out, from, self.rows, s * 4, self.number, &sums);
+        let height = self.height.rows();
+        let start = j * self.rows + s * height;
+        let end = start + height.min(self.rows - s * height);
+        let first = start.max(from);
+        let last = end.min(from + out.len());
+        if first < last {
+            let sums = self.tile(s, j);
+            let part = &mut out[first - from..last - from];
+            add_run(self.number, &sums[first - start..], part);
         }
+    }
+
+    /// The sums of the products of each row of panel s and column j, modulo 2^64.
+    fn tile(&self, s: usize, j: usize) -> [i64; 16]
+        requires packed { IsPacked self.now }
+        requires panel { s * height_of self.now.height < self.now.rows }
+        requires column { j < self.now.columns }
+        ensures len { length result ≡ 16 }
+        ensures each { (t : ℕ) → t < height_of self.now.height → value_in result t
+            ≡ wrap (tile_sum self.now (s * height_of self.now.height + t) j) }
+    {
+        let (n, rows) = (self.products, self.height.rows());
+        let panel = &self.first.cells[s * (n * rows)..];
+        let column = &self.second.cells[j * n..];
+        if self.small {
+            return small_tile(self.height, panel, column, n);
+        }
+        let panel = Panel {
+            cells: panel,
+            sums: &self.first.sums[s * rows..],
+        };
+        let column = Panel {
+            cells: column,
+            sums: &self.second.sums[j..],
+        };
+        wide_tile(self.height, panel, column, n)
     }
 }

@@ -9,8 +9,9 @@ const SHARES: u64 = 4;
 /// How many columns a leaf of a contraction has at least, where each share has as many.
 const COLUMNS: u64 = 32;
 
-/// And how many a tile has.
-const TILE: u64 = 4;
+/// Up to how many columns each leaf packs the first operand for itself, so that there is one for each
+/// worker and no more.
+const FEW_COLUMNS: u64 = 128;
 
 /// What leaves are sized for: so many workers, which take at most a block of places at a time.
 #[derive(Clone, Copy, Drop)]
@@ -33,19 +34,22 @@ impl Grain {
     /// How many values a leaf has of a contraction over operands of so many places at most, where a
     /// column of the result has so many rows: whole columns, since one that is cut is packed twice,
     /// of about a block, but not few of them. On one worker it is one leaf, so that no piece is
-    /// copied.
+    /// copied, and of a result of few columns there is none more than workers.
     pub(crate) fn leaf_of_columns(self, values: u64, places: u64, rows: u64) -> u64
         ensures { 0 < result }
     {
         let rows = rows.max(1);
         let all = values.div_ceil(rows);
-        let share = all.div_ceil(self.shares(values.max(places)));
-        let columns = share.min((self.block / rows).max(COLUMNS));
+        let mut shares = self.shares(values.max(places));
+        if all <= FEW_COLUMNS {
+            shares = shares.min(self.workers.max(1));
+        }
+        let columns = all.div_ceil(shares).min((self.block / rows).max(COLUMNS));
         if self.workers <= 1 || columns == all {
             return values.max(1);
         }
         let whole = if columns < COLUMNS {
-            columns.div_ceil(TILE) * TILE
+            columns
         } else {
             columns / COLUMNS * COLUMNS
         };

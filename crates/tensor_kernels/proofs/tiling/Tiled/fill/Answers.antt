@@ -1,7 +1,7 @@
-use Rattle.std.proofs.Common.{◌+◌, ◌*◌, ◌≤◌, length, ap, sym, subst, ◌∙◌}
+use Rattle.std.proofs.Common.{◌+◌, ◌≤◌, length, sym, subst, ◌∙◌}
 use Rattle.std.proofs.Common.{le_trans, le-add_right}
 use Rattle.tensor_kernels.specs.Tiling.{tiled_value}
-use Rattle.tensor_kernels.proofs.Parts.{length-written, get_or-written, places-below, line-place}
+use Rattle.tensor_kernels.proofs.Parts.{length-written, get_or-written, places-below}
 use Rattle.tensor_kernels.proofs.tiling.Tiled.fill.Goals as goal
 
 pub loop-place-preserved : goal.loop-place-preserved
@@ -21,7 +21,5 @@ loop-place-preserved c =
       len = length-written first place count out part l.above within c.fill_band.ensures.len
           ∙ l.len;
       each = get_or-written first place count out part l.above within c.fill_band.ensures.len
-          (tiled_value c.args.self.now) l.each
-          (λ k few. c.in_ok-fill_band.ensures.each k few
-          ∙ ap (tiled_value c.args.self.now) (line-place (4 * c.args.self.now.rows) place k));
+          (tiled_value c.args.self.now) l.each c.in_ok-fill_band.ensures.each;
     }

@@ -33,7 +33,7 @@ pub returns-clause-each : goal.returns-clause-each
 returns-clause-each c r h =
     let b = c.args.b.now in
     let so_far = joined c.args.low c.args.crossed r in
-    let x = value_in c.args.x r +ℤ value_in b (c.args.i + 4) in
+    let x = value_in c.args.x r +ℤ value_in b (c.args.i + 1) in
     let y = value_in c.args.y r +ℤ value_in b c.args.i in
     let first : value_in (map (to_z w64) (map (of_z w64) c.sums_of-first.result)) r ≡ wrap x =
     value_in-lanes c.sums_of-first.result c.sums_of-first.ensures.lanes r h
@@ -53,6 +53,7 @@ returns-clause-each c r h =
     ∙ ap (λ z. wrap (z +ℤ (value_in (map (to_z w64) (map (of_z w64) c.sums_of-first.result)) r
     *ℤ value_in (map (to_z w64) (map (of_z w64) c.sums_of-second.result)) r)))
     (joined-bits c.args.low c.args.crossed r c.requires.low h)
-    ∙ ap (λ z. wrap (so_far +ℤ (z *ℤ value_in (map (to_z w64) (map (of_z w64) c.sums_of-second.result)) r))) first
+    ∙ ap (λ z. wrap (so_far
+    +ℤ (z *ℤ value_in (map (to_z w64) (map (of_z w64) c.sums_of-second.result)) r))) first
     ∙ ap (λ z. wrap (so_far +ℤ (wrap x *ℤ z))) second
     ∙ wrap-product so_far x y

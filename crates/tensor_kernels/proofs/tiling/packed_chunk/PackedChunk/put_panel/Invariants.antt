@@ -1,12 +1,14 @@
--- The rows of the block's tiles before s are written, all else is as it was.
-use Rattle.std.proofs.Common.{◌≡◌, ℕ, ◌+◌, ◌*◌, ◌<◌, length}
-use Rattle.tensor_kernels.specs.PackedChunks.{IsPut}
+-- The panel's rows of the columns before j are written, all else is as it was.
+use Rattle.std.proofs.Common.{◌≡◌, ℕ, ◌+◌, ◌/◌, ◌<◌, ◌≤◌, length}
+use Rattle.tensor_kernels.specs.PackedChunks.{IsPutInPanel}
 use Rattle.tensor_values.specs.Values.{value_in}
 use Rattle.tensor_kernels.proofs.tiling.packed_chunk.PackedChunk.put_panel.Given as goal
 
-abbrev pub invariant-loop-s : goal.invariant-loop-s
-invariant-loop-s l = record {
+abbrev pub invariant-loop-j : goal.invariant-loop-j
+invariant-loop-j l = record {
   len : length l.out ≡ length l.initial.out;
-  each : (k : ℕ) → k < length l.initial.out → IsPut l.self l.fn.block.top l.s
-      (l.panel * (4 * l.self.rows) + (l.from + k)) (value_in l.initial.out k) (value_in l.out k);
+  put : (k : ℕ) → k < length l.initial.out → (l.from + k) / l.self.rows < l.j
+      → IsPutInPanel l.self l.s (l.from + k) (value_in l.initial.out k) (value_in l.out k);
+  kept : (k : ℕ) → k < length l.initial.out → l.j ≤ (l.from + k) / l.self.rows
+      → value_in l.out k ≡ value_in l.initial.out k;
 }

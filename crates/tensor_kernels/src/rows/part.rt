@@ -1,0 +1,17 @@
+//! Some rows of an operand, with some of the values of each.
+
+ghost use Rattle.std.specs.Prelude.{◌≤◌, length};
+ghost use Rattle.tensor_shape.specs.Legal.{most_elements};
+ghost use Rattle.tensor_kernels.specs.Panels.{AreInside};
+
+/// The rows that begin at these places of a list. Value q of each lies at its start, moved by
+/// offset q.
+#[derive(Clone, Copy, Drop)]
+pub(crate) struct RowsPart<'a> {
+    pub(crate) values: &'a [i64],
+    pub(crate) starts: &'a [usize],
+    pub(crate) offsets: &'a [usize],
+    ghost inside: { AreInside values.now starts.now offsets.now },
+    ghost few: { length starts.now ≤ most_elements },
+    ghost short: { length offsets.now ≤ most_elements },
+}
