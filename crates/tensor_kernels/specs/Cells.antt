@@ -13,6 +13,7 @@ use Rattle.tensor_kernels.specs.declared.panels.Panels.{Panels}
 use Rattle.tensor_kernels.specs.declared.panels.height.Height.{Height}
 use Rattle.tensor_kernels.specs.declared.panels.height.Height.TheVariants.{Sixteen, Four}
 use Rattle.tensor_kernels.specs.declared.rows.Rows.{Rows}
+use Rattle.tensor_kernels.specs.declared.tiling.Packing.{Packing}
 
 -- how many rows a panel has
 abbrev pub height_of : Height → ℕ
@@ -32,17 +33,19 @@ HoldsRows h cells values rows offsets =
     (length cells ≡ div_ceil (length rows) h * (length offsets * h))
     × AreCells h cells values rows offsets
 
--- panels are those of chunk c of an operand, of numbers of 32 bits or not
-abbrev pub IsChunk : Bool → ℕ → Rows → ℕ → Panels → Type 0
-IsChunk small h rows c panels =
-    HoldsRows h panels.cells.items (cow_slice_items rows.values) rows.starts.items
-    (chunk rows.offsets.items c)
-    × AreReady small h (div_ceil (row_count rows) h) (length (chunk rows.offsets.items c)) panels
+-- panels are those of chunk c of an operand
+abbrev pub IsChunk : Packing → Rows → ℕ → Panels → Type 0
+IsChunk packing rows c panels =
+    HoldsRows (height_of packing.height) panels.cells.items (cow_slice_items rows.values)
+    rows.starts.items (chunk rows.offsets.items c)
+    × AreReady packing.small (height_of packing.height)
+    (div_ceil (row_count rows) (height_of packing.height))
+    (length (chunk rows.offsets.items c)) panels
 
 -- and each in a list is that of its chunk
-abbrev pub AreChunks : Bool → ℕ → Rows → List Panels → Type 0
-AreChunks small h rows chunks = (c : ℕ) (panels : Panels) → c < length chunks
-    → get_or chunks c panels ≡ panels → IsChunk small h rows c panels
+abbrev pub AreChunks : Packing → Rows → List Panels → Type 0
+AreChunks packing rows chunks = (c : ℕ) (panels : Panels) → c < length chunks
+    → get_or chunks c panels ≡ panels → IsChunk packing rows c panels
 
 -- which is known in one way only, as are its parts
 AreReady-prop : (small : Bool) (h k n : ℕ) (panels : Panels) → IsProp (AreReady small h k n panels)
@@ -56,15 +59,17 @@ HoldsRows-prop h cells values rows offsets =
     ×_prop (Coded-set coded_ℕ (length cells) (div_ceil (length rows) h * (length offsets * h)))
     (Π_prop λ x. Π_prop λ q. Π_prop λ within. Π_prop λ few. Coded-set coded_ℤ _ _)
 
-IsChunk-prop : (small : Bool) (h : ℕ) (rows : Rows) (c : ℕ) (panels : Panels)
-    → IsProp (IsChunk small h rows c panels)
-IsChunk-prop small h rows c panels =
+IsChunk-prop : (packing : Packing) (rows : Rows) (c : ℕ) (panels : Panels)
+    → IsProp (IsChunk packing rows c panels)
+IsChunk-prop packing rows c panels =
+    let h = height_of packing.height in
     ×_prop
     (HoldsRows-prop h panels.cells.items (cow_slice_items rows.values) rows.starts.items
     (chunk rows.offsets.items c))
-    (AreReady-prop small h (div_ceil (row_count rows) h) (length (chunk rows.offsets.items c)) panels)
+    (AreReady-prop packing.small h (div_ceil (row_count rows) h)
+    (length (chunk rows.offsets.items c)) panels)
 
-pub AreChunks-prop : (small : Bool) (h : ℕ) (rows : Rows) (chunks : List Panels)
-    → IsProp (AreChunks small h rows chunks)
-AreChunks-prop small h rows chunks =
-    Π_prop λ c. Π_prop λ panels. Π_prop λ below. Π_prop λ is. IsChunk-prop small h rows c panels
+pub AreChunks-prop : (packing : Packing) (rows : Rows) (chunks : List Panels)
+    → IsProp (AreChunks packing rows chunks)
+AreChunks-prop packing rows chunks =
+    Π_prop λ c. Π_prop λ panels. Π_prop λ below. Π_prop λ is. IsChunk-prop packing rows c panels

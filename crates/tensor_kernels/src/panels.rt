@@ -6,7 +6,7 @@ pub(crate) mod height;
 pub(crate) mod packing;
 pub(crate) mod pair_sums;
 
-ghost use Rattle.std.specs.Prelude.{◌<◌, ◌≤◌, length, IfOk, IsTrue};
+ghost use Rattle.std.specs.Prelude.{◌↔◌, ◌<◌, ◌≤◌, length, IfOk, IsTrue};
 ghost use Rattle.std.specs.Int.{div_ceil};
 ghost use Rattle.tensor_kernels.specs.Panels.{AreSmall};
 
@@ -55,7 +55,7 @@ impl Panels {
 
 /// Whether all values fit 32 bits.
 pub(crate) fn are_small(values: &[i64]) -> bool
-    ensures { IsTrue result → AreSmall values.now }
+    ensures { IsTrue result ↔ AreSmall values.now }
 {
     for value in values {
         if *value < -2147483648 || *value > 2147483647 {

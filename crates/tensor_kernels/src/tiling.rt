@@ -8,10 +8,11 @@ pub(crate) mod placing;
 pub(crate) mod small;
 pub(crate) mod tile;
 
-ghost use Rattle.std.specs.Prelude.{◌≡◌, ℕ, ◌*◌, ◌+◌, ◌+ℤ◌, ◌%◌, ◌<◌, ◌≤◌, length, IfOk, IsTrue, OnOk};
+ghost use Rattle.std.specs.Prelude.{◌≡◌, ℕ, ◌*◌, ◌+◌, ◌+ℤ◌, ◌%◌, ◌<◌, ◌≤◌, length};
+ghost use Rattle.std.specs.Prelude.{IfOk, IsTrue, OnOk};
 ghost use Rattle.std.specs.Cow.{cow_slice_items};
 ghost use Rattle.tensor_values.specs.Values.{value_in};
-ghost use Rattle.tensor_kernels.specs.Cells.{AreChunks, AreChunks-prop, IsChunk, height_of};
+ghost use Rattle.tensor_kernels.specs.Cells.{AreChunks, AreChunks-prop, IsChunk};
 ghost use Rattle.tensor_kernels.specs.Panels.{AreSmall};
 ghost use Rattle.tensor_kernels.specs.Rows.{row_count, row_length, dot_at};
 
@@ -33,7 +34,7 @@ const WIDE_BAND: usize = 128;
 
 /// How the first operand is packed: how high its panels are, and whether all numbers fit 32 bits.
 #[derive(Clone, Copy, Drop)]
-struct Packing {
+pub(crate) struct Packing {
     height: Height,
     small: bool,
 }
@@ -58,7 +59,7 @@ pub struct Tiled<'a> {
     ghost some: { 0 < chunks },
     ghost few: { chunks ≤ row_length first + 1 },
     ghost all: { row_length first ≤ chunks * 128 },
-    ghost each: { AreChunks packing.small (height_of packing.height) first packed.items } by { AreChunks-prop packing.small (height_of packing.height) first packed.items },
+    ghost each: { AreChunks packing first packed.items } by { AreChunks-prop packing first packed.items },
 }
 
 impl<'a> Tiled<'a> {
@@ -172,8 +173,7 @@ impl<'a> Tiled<'a> {
         place: usize,
         out: &mut [i64],
     ) -> Result<(), AllocError>
-        requires panels { IsChunk self.now.packing.small (height_of self.now.packing.height)
-            self.now.first c first.now }
+        requires panels { IsChunk self.now.packing self.now.first c first.now }
         requires chunk { c < self.now.chunks }
         requires some { 0 < length out.old }
         requires inside { place % self.now.rows + length out.old ≤ 128 * self.now.rows }
@@ -214,8 +214,8 @@ fn panels_of(
 ) -> Result<Vec<Panels>, AllocError>
     requires small { IsTrue packing.small → AreSmall (cow_slice_items rows.now.values) }
     requires few { count ≤ row_length rows.now + 1 }
-    ensures chunks { IfOk result (λ chunks.
-        AreChunks packing.small (height_of packing.height) rows.now chunks.items) }
+    ensures count { IfOk result (λ chunks. length chunks.items ≡ count) }
+    ensures chunks { IfOk result (λ chunks. AreChunks packing rows.now chunks.items) }
 {
     let mut chunks = Vec::with_capacity(alloc, count)?;
     for c in 0..count {
@@ -233,7 +233,7 @@ fn panels_at(
 ) -> Result<Panels, AllocError>
     requires small { IsTrue packing.small → AreSmall (cow_slice_items rows.now.values) }
     requires few { c ≤ row_length rows.now }
-    ensures { IfOk result (IsChunk packing.small (height_of packing.height) rows.now c) }
+    ensures { IfOk result (IsChunk packing rows.now c) }
 {
     let part = RowsPart {
         values: rows.values.as_slice(),

@@ -2,7 +2,7 @@
 
 ghost use Rattle.std.specs.Prelude.{◌≡◌, ℕ, ◌*◌, ◌+◌, ◌-◌, ◌<◌, ◌≤◌, ◌++◌};
 ghost use Rattle.std.specs.Prelude.{length, map, min, slice_index, vec_len, vec_capacity};
-ghost use Rattle.std.specs.Prelude.{IfOk, IsTrue};
+ghost use Rattle.std.specs.Prelude.{IfOk, IsTrue, IsFalse};
 ghost use Rattle.std.specs.Int.{div_ceil};
 ghost use Rattle.tensor_kernels.specs.Panels.{AreCells};
 ghost use Rattle.tensor_values.specs.Values.{value_in};
@@ -57,6 +57,7 @@ fn padded(alloc: Global, starts: &[usize], count: usize) -> Result<Vec<usize>, A
 /// itself, so that the one over the starts is none.
 fn pack_panel(packed: &mut Vec<i64>, part: &RowsPart<'_>, p: usize, starts: &[usize])
     requires some { 0 < length starts.now }
+    requires low { length starts.now ≤ 16 }
     requires rows { p * length starts.now < length part.now.starts.now }
     requires starts { (j : ℕ) → j < length starts.now → slice_index starts.now j
         ≡ slice_index part.now.starts.now
@@ -84,6 +85,7 @@ fn pack_panel(packed: &mut Vec<i64>, part: &RowsPart<'_>, p: usize, starts: &[us
 #[inline(always)]
 fn push_panel(packed: &mut Vec<i64>, part: &RowsPart<'_>, p: usize, starts: &[usize])
     requires some { 0 < length starts.now }
+    requires low { length starts.now ≤ 16 }
     requires rows { p * length starts.now < length part.now.starts.now }
     requires starts { (j : ℕ) → j < length starts.now → slice_index starts.now j
         ≡ slice_index part.now.starts.now
@@ -109,8 +111,11 @@ fn push_panel(packed: &mut Vec<i64>, part: &RowsPart<'_>, p: usize, starts: &[us
 /// Whether starts are of several rows, all of which begin side by side.
 #[inline(always)]
 fn are_together(starts: &[usize]) -> bool
-    ensures { IsTrue result → (j : ℕ) → j < length starts.now
+    requires { length starts.now ≤ 16 }
+    ensures run { IsTrue result → (j : ℕ) → j < length starts.now
         → slice_index starts.now j ≡ slice_index starts.now 0 + j }
+    ensures apart { IsFalse result → 1 < length starts.now → ((j : ℕ) → j < length starts.now
+        → slice_index starts.now j ≡ slice_index starts.now 0 + j) → ⊥ }
 {
     starts.len() > 1 && side_by_side(starts, 0) == starts.len()
 }

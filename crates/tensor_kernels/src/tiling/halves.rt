@@ -87,10 +87,10 @@ pub(crate) fn spread(b: &[i64], i: usize) -> i64x4
     i64x4::splat(b[i])
 }
 
-/// Stores a column of a tile. The columns before it stay.
+/// Stores four rows of a tile, from row 4 j on. The rows before them stay.
 #[inline(always)]
 pub(crate) fn store(sums: &mut [i64; 16], j: usize, low: i64x4, crossed: u32x8)
-    requires column { j < 4 }
+    requires four { j < 4 }
     requires low { AreLanes low }
     requires crossed { AreWords crossed }
     ensures stored { (r : ℕ) → r < 4 → value_in sums.new (4 * j + r) ≡ joined low crossed r }

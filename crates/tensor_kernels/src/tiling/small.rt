@@ -107,10 +107,10 @@ pub(crate) fn small_four(a: &[i64], b: &[i64], n: usize) -> [i64; 16]
     sums
 }
 
-/// Stores a column of a tile. The columns before it stay.
+/// Stores four rows of a tile, from row 4 j on. The rows before them stay.
 #[inline(always)]
 pub(crate) fn store(sums: &mut [i64; 16], j: usize, lanes: i64x4)
-    requires column { j < 4 }
+    requires four { j < 4 }
     requires lanes { AreLanes lanes }
     ensures stored { (r : ℕ) → r < 4 → value_in sums.new (4 * j + r) ≡ value_in lanes r }
     ensures kept { (s : ℕ) → s < 4 * j → value_in sums.new s ≡ value_in sums.old s }

@@ -1,17 +1,18 @@
-use Rattle.std.proofs.Common.{◌≡◌, ℕ, ◌-◌, Bool, List, [], ◌∷◌, ◌++◌, length, get_or}
+use Rattle.std.proofs.Common.{◌≡◌, ℕ, ◌-◌, List, [], ◌∷◌, ◌++◌, length, get_or}
 use Rattle.std.proofs.Common.{refl, ap, sym, subst, ◌∙◌, arith, inl, inr, length-append}
 use Rattle.std.proofs.lemmas.Bool.{cases_lt}
 use Rattle.std.proofs.lemmas.List.{get_or_append_left, get_or-append_right}
-use Rattle.tensor_kernels.specs.Cells.{height_of, IsChunk, AreChunks}
+use Rattle.tensor_kernels.specs.Cells.{IsChunk, AreChunks}
 use Rattle.tensor_kernels.specs.declared.panels.Panels.{Panels}
 use Rattle.tensor_kernels.specs.declared.rows.Rows.{Rows}
+use Rattle.tensor_kernels.specs.declared.tiling.Packing.{Packing}
 use Rattle.tensor_kernels.proofs.tiling.panels_of.Goals as goal
 
 -- one chunk more
-are_chunks-next : (small : Bool) (h : ℕ) (rows : Rows) (chunks new : List Panels) (more : Panels)
-    (c : ℕ) → c ≡ length chunks → new ≡ chunks ++ more ∷ [] → IsChunk small h rows c more
-    → AreChunks small h rows chunks → AreChunks small h rows new
-are_chunks-next small h rows chunks new more c count is here so_far k panels below found =
+are_chunks-next : (packing : Packing) (rows : Rows) (chunks new : List Panels) (more : Panels)
+    (c : ℕ) → c ≡ length chunks → new ≡ chunks ++ more ∷ [] → IsChunk packing rows c more
+    → AreChunks packing rows chunks → AreChunks packing rows new
+are_chunks-next packing rows chunks new more c count is here so_far k panels below found =
     let at_k : get_or (chunks ++ more ∷ []) k panels ≡ panels =
     ap (λ l. get_or l k panels) (sym is) ∙ found in
     elim (cases_lt k (length chunks)) [
@@ -25,14 +26,14 @@ are_chunks-next small h rows chunks new more c count is here so_far k panels bel
           let same : more ≡ panels =
           sym (get_or-append_right chunks (more ∷ []) (length chunks) k panels refl after
           ∙ ap (λ j. get_or (more ∷ []) j panels) first) ∙ at_k in
-          subst (λ c. IsChunk small h rows c panels) (sym last)
-          (subst (λ panels. IsChunk small h rows c panels) same here)
+          subst (λ c. IsChunk packing rows c panels) (sym last)
+          (subst (λ panels. IsChunk packing rows c panels) same here)
     ]
 
 pub loop-c-preserved : goal.loop-c-preserved
 loop-c-preserved c =
     record {
-      chunks = are_chunks-next c.args.packing.small (height_of c.args.packing.height)
+      chunks = are_chunks-next c.args.packing
           c.args.rows.now c.loop-c.chunks.items c.push_reserved.new.self.items
           c.in_ok-panels_at.field-0 c.loop-c.c
           (sym c.loop-c.invariant.len ∙ c.loop-c.chunks.ok.0) c.push_reserved.ensures.items
