@@ -1,7 +1,8 @@
 //! The calls that may wait: each looks and tries until no other step comes between the two. Only a
 //! notification may pop, and so it alone looks at the top's next word too.
-ghost use Rattle.std.specs.Prelude.{◌≡◌, [], false, None, IsTrue, IsFalse};
+ghost use Rattle.std.specs.Prelude.{◌≡◌, ℕ, [], false, None, IsTrue, IsFalse};
 ghost use Rattle.event_word.specs.declared.phase.Phase.TheVariants.{Running, Pre, Stacked};
+ghost use Rattle.event_count.specs.declared.view.Card.{Card};
 
 use crate::answers::{Committed, TryCancel, TryCommit, TryNotify, TryNotifyAll};
 use crate::counter::Counter;
@@ -12,9 +13,10 @@ use std::alloc::Allocator;
 use std::sync::Wait;
 
 impl<A: Allocator> Counter<A> {
-    ghost use Rattle.event_count.specs.Gains.{settling};
+    ghost use Rattle.event_count.specs.Gains.{settling, IsLoadIn, IsLookIn};
     ghost use Rattle.event_count.specs.Seats.{card_of, looked_of, key_of, IsAt};
     ghost use Rattle.event_count.specs.Kinds.{IsKind, MayCommit};
+    ghost use Rattle.event_count.specs.Tries.{IsTryCancel, IsTryNotify};
     ghost use Rattle.event_count.specs.Waits.{RestsOnCommitIn, RestsOnCancelIn, RestsOnNotifyIn};
     ghost use Rattle.event_count.specs.Waits.{RestsOnNotifyAllIn, Sleeps};
     ghost use Rattle.event_count.specs.Waits.{IsLater};
@@ -75,6 +77,9 @@ impl<A: Allocator> Counter<A> {
         ensures done { IsTrue result
             → RestsOnCancelIn K.rowed (card_of seat.old) (card_of seat.new) }
         ensures contended { IsFalse result → IsLater (card_of seat.old) (card_of seat.new) }
+        ensures lost { IsFalse result → (after : Card) × (word : ℕ)
+            × IsLoadIn K.rowed (card_of seat.old) word after
+            × IsTryCancel after word TryCancel.Contended (card_of seat.new) }
     {
         let word = self.load_state::<K>(seat);
         match self.cancel_at(seat, word) {
@@ -117,6 +122,9 @@ impl<A: Allocator> Counter<A> {
         ensures done { IsTrue result
             → RestsOnNotifyIn K.rowed (card_of seat.old) (card_of seat.new) }
         ensures contended { IsFalse result → IsLater (card_of seat.old) (card_of seat.new) }
+        ensures lost { IsFalse result → (after : Card) × (word : ℕ)
+            × IsLookIn K.rowed (card_of seat.old) word after
+            × IsTryNotify after word TryNotify.Contended (card_of seat.new) }
         ensures silent { IsTrue result → (card_of seat.new).announcing ≡ false }
     {
         self.look::<K>(seat);

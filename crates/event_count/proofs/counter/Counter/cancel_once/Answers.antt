@@ -5,3 +5,7 @@ pub returns-in-Contended-clause-contended : goal.returns-in-Contended-clause-con
 returns-in-Contended-clause-contended g c _ =
     lost_cancel _ _ _ _ _ _ (later_same _) c.load_state-word.ensures.card c.requires.pre
     c.in-Contended.ensures.answer
+
+pub returns-in-Contended-clause-lost : goal.returns-in-Contended-clause-lost
+returns-in-Contended-clause-lost g c _ =
+    (_, _, c.load_state-word.ensures.card, c.in-Contended.ensures.answer)
