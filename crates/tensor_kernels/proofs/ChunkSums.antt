@@ -1,5 +1,5 @@
 -- Sums of products chunk by chunk.
-use Rattle.std.proofs.Common.{◌≡◌, ℕ, zero, suc, ◌+◌, ◌-◌, ◌<◌, ◌≤◌, ℤ, ◌+ℤ◌}
+use Rattle.std.proofs.Common.{◌≡◌, ℕ, zero, suc, ◌+◌, ◌-◌, ◌*◌, ◌<◌, ◌≤◌, ℤ, ◌+ℤ◌}
 use Rattle.std.proofs.Common.{◌*ℤ◌, List, length, drop, slice_index, refl, ap, sym, ◌∙◌, arith}
 use Rattle.std.proofs.Common.{take, length-drop, length-take}
 use Rattle.std.proofs.lemmas.Int.{int_wrap-add_left}
@@ -32,6 +32,11 @@ wrap-chunk f a m b v so_far more end is_far is_more is =
 pub before-later : (c : ℕ) (v : ℤ) → 0 < c → before c v ≡ v
 before-later zero v some = absurd (omega (arith, some))
 before-later (suc c) v some = refl
+
+-- twice as many chunks are none where these are none
+pub before-twice : (c : ℕ) (v : ℤ) → before (2 * c) v ≡ before c v
+before-twice zero v = refl
+before-twice (suc c) v = before-later (2 * suc c) v (omega arith)
 
 -- a chunk's offsets
 pub length-chunk : (offsets : List ℕ) (c : ℕ)

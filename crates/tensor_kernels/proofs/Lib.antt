@@ -1,4 +1,7 @@
 pub mod ChunkSums
+pub mod Columns
+pub mod Congruence
+pub mod DotLaws
 pub mod HalfLanes
 pub mod HalfProducts
 pub mod HalfWords
@@ -8,10 +11,14 @@ pub mod ListWrites
 pub mod PackedRows
 pub mod PairLanes
 pub mod PairProducts
+pub mod PairTotals
 pub mod PanelPlaces
 pub mod Parts
 pub mod ProductSums
+pub mod Quadrants
+pub mod QuarterCells
 pub mod SimdLanes
+pub mod Strassen
 pub mod TilePlaces
 pub mod TurnedRows
 pub mod WordPairs

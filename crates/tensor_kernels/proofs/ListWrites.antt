@@ -1,8 +1,9 @@
 -- What a list holds after one of its values was set.
 use Rattle.std.proofs.Common.{◌≡◌, ◌≢◌, ℕ, ◌+◌, ◌-◌, ◌<◌, ℤ, pos, List, length, take, drop}
+use Rattle.std.proofs.Common.{[], ◌∷◌, ◌++◌, ◌∙◌}
 use Rattle.std.proofs.Common.{slice_set, refl, sym, subst, arith, below_more}
 use Rattle.std.proofs.Common.{get_or-set_other, get_or-set_same, to_z, of_z}
-use Rattle.std.proofs.lemmas.List.{take_rest, get_or-drop}
+use Rattle.std.proofs.lemmas.List.{take_rest, get_or-drop, get_or_append_left, get_or_push}
 use Rattle.std.proofs.lemmas.Int.{SFits-int_wrap, to_z-of_z}
 use Rattle.std.specs.Int.{w64}
 use mir.Val.{SFits}
@@ -44,3 +45,12 @@ stored-next f xs k t v room before here =
 pub kept-next : (xs : List ℤ) (k : ℕ) (v : ℤ) (s : ℕ) → s < k
     → value_in (slice_set xs k v) s ≡ value_in xs s
 kept-next xs k v s before = let ne : s ≢ k = omega arith in rw get_or-set_other refl
+
+-- one value more at the end
+pub push-next : (f : ℕ → ℤ) (xs : List ℤ) (v : ℤ) (n : ℕ) → length xs ≡ n
+    → ((k : ℕ) → k < n → value_in xs k ≡ f k) → v ≡ f n
+    → (k : ℕ) → k < n + 1 → value_in (xs ++ v ∷ []) k ≡ f k
+push-next f xs v n long before here =
+    below_more _ _
+    (λ k h. get_or_append_left xs (v ∷ []) (pos 0) k (omega (arith, long)) ∙ before k h)
+    (get_or_push xs v (pos 0) n long ∙ here)

@@ -19,7 +19,7 @@ zero-plus n k =
     ap (λ z. z *ℤ k) (+ℤ_idl n) ∙ sym (ap (λ z. z +ℤ n *ℤ k) (zero-*ℤ k) ∙ +ℤ_idl (n *ℤ k))
 
 -- a sum times a number
-distrib : (m n k : ℤ) → (m +ℤ n) *ℤ k ≡ m *ℤ k +ℤ n *ℤ k
+pub distrib : (m n k : ℤ) → (m +ℤ n) *ℤ k ≡ m *ℤ k +ℤ n *ℤ k
 distrib (pos zero) n k = zero-plus n k
 distrib (pos (suc a)) n k =
     ap (λ z. z *ℤ k) (suc_ℤ-+ℤ (pos a) n) ∙ suc_ℤ-*ℤ (pos a +ℤ n) k

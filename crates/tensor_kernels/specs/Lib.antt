@@ -5,12 +5,16 @@ pub mod Contracting
 pub mod Dots
 pub mod Halves
 pub mod PackedChunks
+pub mod PairedBands
 pub mod Pairs
 pub mod Panels
 pub mod Products
+pub mod Quartering
 pub mod Rows
 pub mod SlidDots
 pub mod SlidRuns
+pub mod Strassen
 pub mod StripDots
 pub mod Strips
+pub mod Tiles
 pub mod Tiling

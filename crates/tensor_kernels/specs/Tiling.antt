@@ -24,3 +24,11 @@ abbrev pub chunk_total : Tiled → ℕ → ℕ → ℤ
 chunk_total t c p =
     sum_to (λ q. product_at t.first t.second p (chunk_start (row_length t.first) c + q))
     (length (chunk t.first.offsets.items c))
+
+-- the sum of the products of chunk c and the next one, which are whole
+abbrev pub pair_total : Tiled → ℕ → ℕ → ℤ
+pair_total t c p = sum_to (λ q. product_at t.first t.second p (c * 128 + q)) 256
+
+-- the sum of the products that are taken by two chunks at once
+abbrev pub pairs_total : Tiled → ℕ → ℤ
+pairs_total t p = sum_to (product_at t.first t.second p) (t.pairs * 256)

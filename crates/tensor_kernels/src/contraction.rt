@@ -52,7 +52,8 @@ impl<'a> Contraction<'a> {
     /// The contraction of two operands as rows. Where the first has more than one row and the second
     /// more than 128, the first is packed: a cell of 8 bytes for each value, up to a multiple of
     /// sixteen or four rows, and where not all values of both fit 32 bits a number for each of these
-    /// rows and each chunk of 128 products.
+    /// rows and each chunk of 128 products. Then it isn't where the first has 256 rows, the second
+    /// 1,024, and each 256 values or more.
     pub fn of_rows(
         alloc: Global,
         first: Rows<'a>,
@@ -101,7 +102,9 @@ impl<'a> Contraction<'a> {
     /// the first operand has more than one row and the second four or more, both are packed here,
     /// chunk by chunk of 128 products, but for a first one that is packed already: up to 32 rows of
     /// the second, or 128 beside all of the first. That takes a cell of 8 bytes for each product of
-    /// these rows, and where numbers don't fit 32 bits one more for each of them.
+    /// these rows, and where numbers don't fit 32 bits one more for each of them. Large operands are
+    /// packed in two chunks at once, up to 256 rows of the second beside 32 of the first, and take
+    /// some four cells for each product of a chunk, and a cell for each of 3,584 values of the result.
     pub fn values<A: Allocator>(
         &self,
         alloc: A,

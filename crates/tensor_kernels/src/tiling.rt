@@ -1,11 +1,12 @@
 //! Ranges of a contraction's values, tile by tile. A tile holds a panel's rows, sixteen or four, of
-//! one column of the result, whose places lie side by side; a band has up to 32 columns, or 128.
+//! one column of the result, whose places lie side by side; a band has up to 32, 128 or 256 columns.
 
 pub(crate) mod halves;
 pub(crate) mod packed_chunk;
 pub(crate) mod pairs;
 pub(crate) mod placing;
 pub(crate) mod small;
+pub(crate) mod strassen;
 pub(crate) mod tile;
 
 ghost use Rattle.std.specs.Prelude.{◌≡◌, ℕ, ◌*◌, ◌+◌, ◌+ℤ◌, ◌%◌, ◌<◌, ◌≤◌, length};
@@ -22,6 +23,7 @@ use crate::panels::{Panels, are_small};
 use crate::rows::Rows;
 use crate::rows::part::RowsPart;
 use crate::tiling::packed_chunk::PackedChunk;
+use crate::tiling::strassen::pairs_of;
 use std::alloc::{AllocError, Global};
 
 /// How many columns are packed together: so many that a panel of the first operand's rows is used
@@ -32,6 +34,10 @@ const BAND: usize = 32;
 /// columns is such a one: to store the panels would take longer than to make them again.
 const WIDE_BAND: usize = 128;
 
+/// How many where chunks are taken two by two: so many that to pack the factors of both operands
+/// costs little beside their products.
+const PAIRED_BAND: usize = 256;
+
 /// How the first operand is packed: how high its panels are, and whether all numbers fit 32 bits.
 #[derive(Clone, Copy, Drop)]
 pub(crate) struct Packing {
@@ -39,9 +45,9 @@ pub(crate) struct Packing {
     small: bool,
 }
 
-/// Two operands whose rows have equally many values, taken chunk by chunk of the products. Those of
-/// the first are packed beforehand, but where there are few columns; all else is packed by who writes
-/// values, band by band.
+/// Two operands whose rows have equally many values, taken chunk by chunk of the products, or two
+/// chunks at once. Those of the first are packed beforehand, but where there are few columns or chunks
+/// are taken two by two; all else is packed by who writes values, band by band.
 #[derive(Drop)]
 pub struct Tiled<'a> {
     alloc: Global,
@@ -51,6 +57,8 @@ pub struct Tiled<'a> {
     /// How many chunks there are, and the first operand's panels of those packed beforehand.
     chunks: usize,
     packed: Vec<Panels>,
+    /// How often two chunks are taken at once, from the first on.
+    pairs: usize,
     rows: usize,
     ghost lengths: { row_length first ≡ row_length second },
     ghost same: { rows ≡ row_count first },
@@ -59,13 +67,14 @@ pub struct Tiled<'a> {
     ghost some: { 0 < chunks },
     ghost few: { chunks ≤ row_length first + 1 },
     ghost all: { row_length first ≤ chunks * 128 },
+    ghost paired: { pairs * 256 ≤ row_length first },
     ghost each: { AreChunks packing first packed.items } by { AreChunks-prop packing first packed.items },
 }
 
 impl<'a> Tiled<'a> {
     ghost use Rattle.tensor_shape.specs.Wrap.{wrap};
     ghost use Rattle.tensor_kernels.specs.Chunks.{before};
-    ghost use Rattle.tensor_kernels.specs.Tiling.{tiled_count, tiled_value, chunk_total};
+    ghost use Rattle.tensor_kernels.specs.Tiling.{tiled_count, tiled_value, chunk_total, pairs_total};
 
     /// The contraction of two operands, of which the first is packed here where that serves.
     pub(crate) fn of(
@@ -85,7 +94,12 @@ impl<'a> Tiled<'a> {
         let height = Height::for_rows(rows);
         let packing = Packing { height, small };
         let chunks = chunk_count(first.offsets.len());
-        let stored = if second.starts.len() <= WIDE_BAND {
+        let pairs = if small {
+            0
+        } else {
+            pairs_of(rows, second.starts.len(), first.offsets.len())
+        };
+        let stored = if pairs > 0 || second.starts.len() <= WIDE_BAND {
             0
         } else {
             chunks
@@ -98,6 +112,7 @@ impl<'a> Tiled<'a> {
             packing,
             chunks,
             packed,
+            pairs,
             rows,
         })
     }
@@ -124,9 +139,11 @@ impl<'a> Tiled<'a> {
     /// How many columns a band has.
     fn band(&self) -> usize
         ensures some { 0 < result }
-        ensures few { result ≤ 128 }
+        ensures few { result ≤ 256 }
     {
-        if self.packed.is_empty() {
+        if self.pairs > 0 {
+            PAIRED_BAND
+        } else if self.packed.is_empty() {
             WIDE_BAND
         } else {
             BAND
@@ -136,14 +153,31 @@ impl<'a> Tiled<'a> {
     /// Writes values of one band from a place of the result on.
     fn fill_band(&self, place: usize, out: &mut [i64]) -> Result<(), AllocError>
         requires some { 0 < length out.old }
-        requires inside { place % self.now.rows + length out.old ≤ 128 * self.now.rows }
+        requires inside { place % self.now.rows + length out.old ≤ 256 * self.now.rows }
         requires within { place + length out.old ≤ tiled_count self.now }
         ensures len { length out.new ≡ length out.old }
         ensures each { OnOk result ((k : ℕ) → k < length out.old
             → value_in out.new k ≡ tiled_value self.now (place + k)) }
     {
-        for c in 0..self.chunks {
+        self.fill_pairs(place, out)?;
+        for c in 2 * self.pairs..self.chunks {
             self.add_chunk(c, place, out)?;
+        }
+        Ok(())
+    }
+
+    /// Writes the sums of the chunks that are taken two by two.
+    fn fill_pairs(&self, place: usize, out: &mut [i64]) -> Result<(), AllocError>
+        requires some { 0 < length out.old }
+        requires inside { place % self.now.rows + length out.old ≤ 256 * self.now.rows }
+        requires within { place + length out.old ≤ tiled_count self.now }
+        ensures len { length out.new ≡ length out.old }
+        ensures each { OnOk result ((k : ℕ) → k < length out.old
+            → before self.now.pairs (value_in out.new k)
+            ≡ wrap (pairs_total self.now (place + k))) }
+    {
+        for pair in 0..self.pairs {
+            self.add_pair(2 * pair, place, out)?;
         }
         Ok(())
     }
@@ -152,7 +186,7 @@ impl<'a> Tiled<'a> {
     fn add_chunk(&self, c: usize, place: usize, out: &mut [i64]) -> Result<(), AllocError>
         requires chunk { c < self.now.chunks }
         requires some { 0 < length out.old }
-        requires inside { place % self.now.rows + length out.old ≤ 128 * self.now.rows }
+        requires inside { place % self.now.rows + length out.old ≤ 256 * self.now.rows }
         requires within { place + length out.old ≤ tiled_count self.now }
         ensures len { length out.new ≡ length out.old }
         ensures each { OnOk result ((k : ℕ) → k < length out.old → value_in out.new k
@@ -176,7 +210,7 @@ impl<'a> Tiled<'a> {
         requires panels { IsChunk self.now.packing self.now.first c first.now }
         requires chunk { c < self.now.chunks }
         requires some { 0 < length out.old }
-        requires inside { place % self.now.rows + length out.old ≤ 128 * self.now.rows }
+        requires inside { place % self.now.rows + length out.old ≤ 256 * self.now.rows }
         requires within { place + length out.old ≤ tiled_count self.now }
         ensures len { length out.new ≡ length out.old }
         ensures each { OnOk result ((k : ℕ) → k < length out.old → value_in out.new k

@@ -40,7 +40,11 @@ pub(crate) fn packed(
 }
 
 /// So many starts: past the last row that one's.
-fn padded(alloc: Global, starts: &[usize], count: usize) -> Result<Vec<usize>, AllocError>
+pub(crate) fn padded(
+    alloc: Global,
+    starts: &[usize],
+    count: usize,
+) -> Result<Vec<usize>, AllocError>
     requires some { 0 < count → 0 < length starts.now }
     ensures len { IfOk result (λ v. vec_len v ≡ count) }
     ensures each { IfOk result (λ v. (x : ℕ) → x < count

@@ -10,7 +10,7 @@ ghost use Rattle.tensor_values.specs.Values.{value_in};
 
 use crate::panels::Panels;
 use crate::panels::height::Height;
-use crate::tiling::placing::add_run;
+use crate::tiling::placing::Tile;
 use crate::tiling::tile::{Panel, small_tile, wide_tile};
 
 /// A chunk of the products of all rows of the result and some of its columns.
@@ -73,20 +73,19 @@ impl PackedChunk<'_> {
         ensures each { (k : ℕ) → k < length out.old
             → IsPutInTile self.now s j (from + k) (value_in out.old k) (value_in out.new k) }
     {
-        let height = self.height.rows();
-        let start = j * self.rows + s * height;
-        let end = start + height.min(self.rows - s * height);
-        let first = start.max(from);
-        let last = end.min(from + out.len());
-        if first < last {
-            let sums = self.tile(s, j);
-            let part = &mut out[first - from..last - from];
-            add_run(self.number, &sums[first - start..], part);
+        let tile = Tile {
+            rows: self.rows,
+            height: self.height,
+            panel: s,
+            column: j,
+        };
+        if tile.meets(from, out.len()) {
+            tile.put(self.number, &self.tile(s, j), from, out);
         }
     }
 
     /// The sums of the products of each row of panel s and column j, modulo 2^64.
-    fn tile(&self, s: usize, j: usize) -> [i64; 16]
+    pub(crate) fn tile(&self, s: usize, j: usize) -> [i64; 16]
         requires packed { IsPacked self.now }
         requires panel { s * height_of self.now.height < self.now.rows }
         requires column { j < self.now.columns }

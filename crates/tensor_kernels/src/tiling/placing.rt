@@ -1,12 +1,71 @@
-//! Writing the sums of a chunk's products to a run of places.
+//! Writing the sums of a tile to the places of a band.
 
-ghost use Rattle.std.specs.Prelude.{◌≡◌, ℕ, ◌<◌, ◌≤◌, ◌+ℤ◌, length};
+ghost use Rattle.std.specs.Prelude.{◌≡◌, ℕ, ◌*◌, ◌+◌, ◌/◌, ◌%◌, ◌<◌, ◌≤◌, ◌^◌, ◌+ℤ◌, length, IsFalse};
 ghost use Rattle.tensor_shape.specs.Wrap.{wrap};
+ghost use Rattle.tensor_kernels.specs.Cells.{height_of};
 ghost use Rattle.tensor_kernels.specs.Chunks.{before};
 ghost use Rattle.tensor_values.specs.Values.{value_in};
 
+use crate::panels::height::Height;
+
+/// A tile of a band of columns, of so many rows each: the rows of one panel in one column.
+#[derive(Clone, Copy, Drop)]
+pub(crate) struct Tile {
+    pub(crate) rows: usize,
+    pub(crate) height: Height,
+    pub(crate) panel: usize,
+    pub(crate) column: usize,
+    ghost some: { panel * height_of height < rows },
+    ghost few: { column * rows + rows < 2 ^ 40 },
+}
+
+impl Tile {
+    ghost use Rattle.tensor_kernels.specs.Tiles.{IsPut, start_of, end_of};
+
+    /// Where its rows begin.
+    fn start(self) -> usize
+        ensures { result ≡ start_of self }
+    {
+        self.column * self.rows + self.panel * self.height.rows()
+    }
+
+    /// Where they end: after the panel, or with the column.
+    fn end(self) -> usize
+        ensures { result ≡ end_of self }
+    {
+        let height = self.height.rows();
+        self.start() + height.min(self.rows - self.panel * height)
+    }
+
+    /// Whether one of its places is among so many from one on.
+    pub(crate) fn meets(self, from: usize, count: usize) -> bool
+        requires { from + count < 2 ^ 40 }
+        ensures { IsFalse result → (k : ℕ) → k < count
+            → (from + k) % self.rows / height_of self.height ≡ self.panel
+            → (from + k) / self.rows ≡ self.column → ⊥ }
+    {
+        self.start().max(from) < self.end().min(from + count)
+    }
+
+    /// Writes its sums, of chunk c, to those of its places that are among these, from one on.
+    pub(crate) fn put(self, c: usize, sums: &[i64; 16], from: usize, out: &mut [i64])
+        requires { from + length out.old < 2 ^ 40 }
+        ensures len { length out.new ≡ length out.old }
+        ensures each { (k : ℕ) → k < length out.old
+            → IsPut self c sums.now (from + k) (value_in out.old k) (value_in out.new k) }
+    {
+        let start = self.start();
+        let first = start.max(from);
+        let last = self.end().min(from + out.len());
+        if first < last {
+            let part = &mut out[first - from..last - from];
+            add_run(c, &sums[first - start..], part);
+        }
+    }
+}
+
 /// Writes the sums of chunk c: those of chunk 0 are put there, those of later ones added.
-pub(crate) fn add_run(c: usize, sums: &[i64], out: &mut [i64])
+fn add_run(c: usize, sums: &[i64], out: &mut [i64])
     requires { length out.old ≤ length sums.now }
     ensures len { length out.new ≡ length out.old }
     ensures each { (k : ℕ) → k < length out.old → value_in out.new k

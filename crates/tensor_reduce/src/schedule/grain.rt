@@ -13,6 +13,13 @@ const COLUMNS: u64 = 32;
 /// worker and no more.
 const FEW_COLUMNS: u64 = 128;
 
+/// From how many columns on each leaf does so again.
+const MANY_COLUMNS: u64 = 1024;
+
+/// How many columns it has then at most, or half as many at least: so many that packing takes little
+/// of its time.
+const WIDE: u64 = 256;
+
 /// What leaves are sized for: so many workers, which take at most a block of places at a time.
 #[derive(Clone, Copy, Drop)]
 pub(crate) struct Grain {
@@ -32,28 +39,54 @@ impl Grain {
     }
 
     /// How many values a leaf has of a contraction over operands of so many places at most, where a
-    /// column of the result has so many rows: whole columns, since one that is cut is packed twice,
-    /// of about a block, but not few of them. On one worker it is one leaf, so that no piece is
-    /// copied, and of a result of few columns there is none more than workers.
+    /// column of the result has so many rows: whole columns, since one that is cut is packed twice.
+    /// On one worker it is one leaf, so that no piece is copied.
     pub(crate) fn leaf_of_columns(self, values: u64, places: u64, rows: u64) -> u64
         ensures { 0 < result }
     {
         let rows = rows.max(1);
         let all = values.div_ceil(rows);
-        let mut shares = self.shares(values.max(places));
-        if all <= FEW_COLUMNS {
-            shares = shares.min(self.workers.max(1));
-        }
-        let columns = all.div_ceil(shares).min((self.block / rows).max(COLUMNS));
-        if self.workers <= 1 || columns == all {
+        let shares = self.shares(values.max(places));
+        let columns = if all < MANY_COLUMNS {
+            self.narrow(all, shares, rows)
+        } else {
+            self.wide(all, shares)
+        };
+        if self.workers <= 1 || columns >= all {
             return values.max(1);
         }
-        let whole = if columns < COLUMNS {
+        columns.saturating_mul(rows).max(1)
+    }
+
+    /// How many of all columns a leaf has that finds the first operand packed: about a block, but not
+    /// few of them. Of few columns in all there is no leaf more than workers.
+    fn narrow(self, all: u64, shares: u64, rows: u64) -> u64
+        requires shares { 0 < shares }
+        requires rows { 0 < rows }
+    {
+        let shares = if all <= FEW_COLUMNS {
+            shares.min(self.workers.max(1))
+        } else {
+            shares
+        };
+        let columns = all.div_ceil(shares).min((self.block / rows).max(COLUMNS));
+        if columns < COLUMNS {
             columns
         } else {
             columns / COLUMNS * COLUMNS
-        };
-        whole.saturating_mul(rows).max(1)
+        }
+    }
+
+    /// How many of many columns a leaf has that packs the first operand: as many as there are for each
+    /// worker, or for each of its turns.
+    fn wide(self, all: u64, shares: u64) -> u64
+        requires shares { 0 < shares }
+    {
+        let workers = self.workers.max(1);
+        let turns = all.div_ceil(workers.saturating_mul(WIDE).max(1)).max(1);
+        let shares = shares.min(workers.saturating_mul(turns).max(1));
+        let columns = all.div_ceil(shares).max(WIDE / 2);
+        columns.div_ceil(COLUMNS).saturating_mul(COLUMNS)
     }
 
     /// Among how many leaves the work over so many places is shared: one for each block of them, up

@@ -1,6 +1,6 @@
-use Rattle.std.proofs.Common.{◌≡◌, ℕ, ◌≤◌, ◌+◌, ◌*◌, ◌-◌, ◌/◌, ◌%◌, ◌<◌, ◌+ℤ◌, ◌*ℤ◌, ℤ, List, length}
-use Rattle.std.proofs.Common.{take, drop, ap, sym, subst, ◌∙◌, arith, length-drop, length-take}
-use Rattle.std.proofs.Common.{slice_index, div-add-mod'}
+use Rattle.std.proofs.Common.{◌≡◌, ℕ, ◌+◌, ◌*◌, ◌-◌, ◌/◌, ◌%◌, ◌<◌, ◌+ℤ◌, ◌*ℤ◌, ℤ, List, length}
+use Rattle.std.proofs.Common.{take, drop, ap, sym, subst, ◌∙◌, arith}
+use Rattle.std.proofs.Common.{slice_index}
 use Rattle.std.proofs.Math.Nat.{mul-add-mod_self_right, mul-add-div_right}
 use Rattle.std.specs.Int.{div_ceil}
 use Rattle.std.specs.Cow.{cow_slice_items}
@@ -11,45 +11,15 @@ use Rattle.tensor_kernels.specs.Panels.{AreInside, cell_of}
 use Rattle.tensor_values.specs.Values.{value_in}
 use Rattle.tensor_kernels.specs.Products.{dot, sum_to}
 use Rattle.tensor_kernels.specs.Rows.{row_count, row_length, row_value}
-use Rattle.tensor_kernels.specs.Tiling.{tiled_count, product_at, chunk_total}
+use Rattle.tensor_kernels.specs.Tiling.{product_at, chunk_total}
 use Rattle.tensor_kernels.specs.declared.rows.Rows.{Rows}
-use Rattle.tensor_kernels.specs.declared.tiling.Tiled.{Tiled}
 use Rattle.tensor_kernels.proofs.ChunkSums.{length-chunk}
 use Rattle.tensor_kernels.proofs.ChunkSums.{are_inside-chunk, are_inside-part, dot-chunk}
+use Rattle.tensor_kernels.proofs.Columns.{length-columns, columns-few, place-columns}
 use Rattle.tensor_kernels.proofs.Heights.{height-some}
 use Rattle.tensor_kernels.proofs.Parts.{get_or-part, line-place}
-use Rattle.tensor_kernels.proofs.TilePlaces.{columns-inside, part-of}
+use Rattle.tensor_kernels.proofs.TilePlaces.{part-of}
 use Rattle.tensor_kernels.proofs.tiling.Tiled.put_chunk.Goals as goal
-
--- how many rows of the second operand are packed: no more than there are left, nor than a band has
-columns-left : (t : Tiled) (column len n : ℕ) → n ≡ div_ceil len t.rows → 0 < t.rows
-    → column * t.rows + len ≤ tiled_count t → column + n ≤ row_count t.second
-columns-left t column len n is some within =
-    columns-inside t.rows (row_count t.second) column len n is some
-    (subst (λ m. column * t.rows + len ≤ row_count t.second * m) (sym t.same) within)
-
-length-columns : (t : Tiled) (starts : List ℕ) (a n : ℕ) → starts ≡ t.second.starts.items
-    → a + n ≤ row_count t.second → length (take (a + n - a) (drop a starts)) ≡ n
-length-columns t starts a n is left =
-    omega (
-      arith,
-      left,
-      ap length is,
-      length-take (a + n - a) (drop a starts),
-      length-drop a starts,
-    )
-
-columns-few : (m len n : ℕ) → n ≡ div_ceil len m → 0 < m → len ≤ 128 * m → n ≤ 128
-columns-few m len n is some within =
-    omega (arith, columns-inside m 128 0 len n is some (omega (arith, within)))
-
--- a place of the result is in a column that there is
-place-columns : (t : Tiled) (place len n : ℕ) → 0 < t.rows
-    → n ≡ div_ceil (place % t.rows + len) t.rows → place + len ≤ tiled_count t
-    → place / t.rows + n ≤ row_count t.second
-place-columns t place len n some is within =
-    columns-left t (place / t.rows) (place % t.rows + len) n is some
-    (omega (arith, within, div-add-mod' place t.rows))
 
 pub slice_bounds-part-end : goal.slice_bounds-part-end
 slice_bounds-part-end c =

@@ -1,0 +1,16 @@
+-- How an operand is cut into quarters: its rows in two halves, and two chunks of their products.
+use Rattle.std.specs.Prelude.{◌≡◌, ℕ, ℤ, ◌+◌, ◌*◌, ◌<◌, List, length, slice_index}
+use Rattle.tensor_values.specs.Values.{value_in}
+use Rattle.tensor_kernels.specs.Panels.{cell_of}
+use Rattle.tensor_kernels.specs.declared.rows.part.RowsPart.{RowsPart}
+use Rattle.tensor_kernels.specs.declared.tiling.strassen.half.Half.{Half}
+
+-- how many cells a quarter has
+abbrev pub half_size : Half → ℕ
+half_size half = half.panels * (128 * half.height)
+
+-- cells in panels of a height are those of rows in a chunk of their products, which is whole
+abbrev pub HasChunk : ℕ → List ℤ → RowsPart → ℕ → Type 0
+HasChunk h cells part c = (x q : ℕ) → x < length part.starts.now → q < 128
+    → cell_of h cells 128 x q ≡ value_in part.values.now
+    (slice_index part.starts.now x + slice_index part.offsets.now (c * 128 + q))
