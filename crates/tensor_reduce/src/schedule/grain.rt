@@ -55,7 +55,12 @@ impl Grain {
         if self.workers <= 1 || columns >= all {
             return values.max(1);
         }
-        columns.saturating_mul(rows).max(1)
+        let whole = if columns < COLUMNS {
+            columns
+        } else {
+            columns / COLUMNS * COLUMNS
+        };
+        whole.saturating_mul(rows).max(1)
     }
 
     /// How many of all columns a leaf has that finds the first operand packed: about a block, but not
@@ -69,12 +74,7 @@ impl Grain {
         } else {
             shares
         };
-        let columns = all.div_ceil(shares).min((self.block / rows).max(COLUMNS));
-        if columns < COLUMNS {
-            columns
-        } else {
-            columns / COLUMNS * COLUMNS
-        }
+        all.div_ceil(shares).min((self.block / rows).max(COLUMNS))
     }
 
     /// How many of many columns a leaf has that packs the first operand: as many as there are for each
