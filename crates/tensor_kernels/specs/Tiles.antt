@@ -17,6 +17,11 @@ end_of tile =
     let height = height_of tile.height in
     start_of tile + min height (tile.rows - tile.panel * height)
 
+-- a place is of one of its rows
+abbrev pub IsAmong : Tile → ℕ → Type 0
+IsAmong tile p =
+    (p % tile.rows / height_of tile.height ≡ tile.panel) × (p / tile.rows ≡ tile.column)
+
 -- at a place stands a new value for an old one: the sum of its row is put, or added, where it is one
 -- of the tile's, and else it is the old one
 pub record IsPut (tile : Tile) (c : ℕ) (sums : List ℤ) (p : ℕ) (old new : ℤ) : Type 0 where

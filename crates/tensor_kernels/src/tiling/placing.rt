@@ -1,6 +1,6 @@
 //! Writing the sums of a tile to the places of a band.
 
-ghost use Rattle.std.specs.Prelude.{◌≡◌, ℕ, ◌*◌, ◌+◌, ◌/◌, ◌%◌, ◌<◌, ◌≤◌, ◌^◌, ◌+ℤ◌, length, IsFalse};
+ghost use Rattle.std.specs.Prelude.{◌≡◌, ℕ, ◌*◌, ◌+◌, ◌/◌, ◌%◌, ◌<◌, ◌≤◌, ◌^◌, ◌+ℤ◌, length, IsFalse, IsTrue};
 ghost use Rattle.tensor_shape.specs.Wrap.{wrap};
 ghost use Rattle.tensor_kernels.specs.Cells.{height_of};
 ghost use Rattle.tensor_kernels.specs.Chunks.{before};
@@ -20,7 +20,7 @@ pub(crate) struct Tile {
 }
 
 impl Tile {
-    ghost use Rattle.tensor_kernels.specs.Tiles.{IsPut, start_of, end_of};
+    ghost use Rattle.tensor_kernels.specs.Tiles.{IsAmong, IsPut, start_of, end_of};
 
     /// Where its rows begin.
     fn start(self) -> usize
@@ -40,9 +40,8 @@ impl Tile {
     /// Whether one of its places is among so many from one on.
     pub(crate) fn meets(self, from: usize, count: usize) -> bool
         requires { from + count < 2 ^ 40 }
-        ensures { IsFalse result → (k : ℕ) → k < count
-            → (from + k) % self.rows / height_of self.height ≡ self.panel
-            → (from + k) / self.rows ≡ self.column → ⊥ }
+        ensures met { IsTrue result → (k : ℕ) × (k < count) × IsAmong self (from + k) }
+        ensures apart { IsFalse result → (k : ℕ) → k < count → IsAmong self (from + k) → ⊥ }
     {
         self.start().max(from) < self.end().min(from + count)
     }
