@@ -13,6 +13,11 @@ pub column-order : (rows k l : ℕ) → 0 < rows → k ≤ l → k / rows ≤ l 
 column-order rows k l some order =
     le-div (k / rows) l rows some (omega (arith, div-mul-le_self k rows))
 
+-- so no later place is in a column before that of an earlier one
+pub no-earlier-column : (rows from k : ℕ) → 0 < rows → (from + k) / rows < from / rows → ⊥
+no-earlier-column rows from k some earlier =
+    absurd (omega (arith, column-order rows from (from + k) some (omega arith), earlier))
+
 -- of the parts of a size that cover a length each that has its start within is one
 pub part-below : (size len n : ℕ) → 0 < size → n * size < len → n < div_ceil len size
 part-below size len n some start =
@@ -26,6 +31,12 @@ part-below size len n some start =
 pub part-of : (size len k : ℕ) → 0 < size → k < len → k / size < div_ceil len size
 part-of size len k some below =
     div_below k size (div_ceil len size) some (omega (arith, (div_ceil_times len size some).0))
+
+-- and a place before the end of so many is in a column before the last of them
+pub column-of : (rows from len last k : ℕ) → last ≡ div_ceil (from + len) rows → 0 < rows → k < len
+    → (from + k) / rows < last
+column-of rows from len last k is some below =
+    rw is (part-of rows (from + len) (from + k) some (omega (arith, below)))
 
 -- columns up to a place before the end of so many are no more
 pub columns-inside : (rows columns column len n : ℕ) → n ≡ div_ceil len rows → 0 < rows

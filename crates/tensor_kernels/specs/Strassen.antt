@@ -106,8 +106,8 @@ pub record AreLong (n : ℕ) (p : Products) : Type 0 where
   pub m6 : length p.m6.items ≡ n
   pub m7 : length p.m7.items ≡ n
 
--- how the products make up a value of one of the four quadrants of the result: those of the first half of
--- the rows, or of the second, and of the first half of the columns, or of the second
+-- how the products make up a value of one of the four quadrants of the result: of the first half of
+-- the rows or the second, and of the first half of the columns or the second
 abbrev pub quadrant_sum : ℕ → ℕ → (m1 m2 m3 m4 m5 m6 m7 : ℤ) → ℤ
 quadrant_sum zero zero m1 m2 m3 m4 m5 m6 m7 = ((m1 +ℤ m4) +ℤ m7) -ℤ m5
 quadrant_sum zero (suc s) m1 m2 m3 m4 m5 m6 m7 = m3 +ℤ m5

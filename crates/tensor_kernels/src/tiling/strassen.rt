@@ -3,9 +3,11 @@
 //! wrap are a ring, so the sums are the same to the last bit.
 //!
 //! ```text
-//! 32 rows of the first operand    ──> four quarters ──> seven factors ─┐
-//!   in two chunks, packed                                             ├─> seven products ──> a block
-//! a band of columns, once for all ──> four quarters ──> seven factors ─┘      of 16 rows and half the band
+//! 32 rows of the first operand,
+//!   two chunks, packed      ──> four quarters ──> seven factors ─┐
+//!                                                                ├─> seven products ──> a block
+//! a band of columns,        ──> four quarters ──> seven factors ─┘   of 16 rows and   of the result
+//!   once for all rows                                                half the band
 //! ```
 
 pub(crate) mod block;
@@ -28,8 +30,8 @@ use crate::tiling::strassen::products::Products;
 use crate::tiling::strassen::quarters::Quarters;
 use std::alloc::{AllocError, Global};
 
-/// From so many rows on seven products of halves take less time than eight do: with fewer, the sums and
-/// differences of a band's columns take as long as the product that they spare.
+/// From so many rows on seven products of halves take less time than eight do: with fewer, the sums
+/// and differences of a band's columns take as long as the product that they spare.
 const ROWS: usize = 256;
 
 /// From so many columns on, of which each range has many: each packs all of the first operand for

@@ -1,17 +1,12 @@
-use Rattle.std.proofs.Common.{◌+◌, length, refl, arith}
-use Rattle.tensor_kernels.proofs.TilePlaces.{column-order, part-of}
+use Rattle.std.proofs.Common.{length, refl, arith}
+use Rattle.tensor_kernels.proofs.TilePlaces.{no-earlier-column, column-of}
 use Rattle.tensor_kernels.proofs.tiling.packed_chunk.PackedChunk.put_panel.Goals as goal
 
 pub loop-j-init : goal.loop-j-init
 loop-j-init c = record {
   len = refl;
   put = λ k within earlier.
-      absurd (omega (
-        arith,
-        column-order c.args.self.now.rows c.args.from (c.args.from + k) (omega arith)
-            (omega arith),
-        earlier,
-      ));
+      absurd (no-earlier-column c.args.self.now.rows c.args.from k (omega arith) earlier);
   kept = λ k within later. refl;
 }
 
@@ -20,7 +15,6 @@ returns-clause-each c k within =
     c.loop-j.invariant.put k within
     (omega (
       arith,
-      part-of c.args.self.now.rows (c.args.from + length c.args.out.now) (c.args.from + k)
-          (omega arith) (omega arith),
-      c.div_ceil-last.ensures,
+      column-of c.args.self.now.rows c.args.from (length c.args.out.now) _ k
+          c.div_ceil-last.ensures (omega arith) within,
     ))
