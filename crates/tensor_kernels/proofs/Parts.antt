@@ -1,10 +1,11 @@
 -- Values of a list of which a part was written.
 use Rattle.std.proofs.Common.{◌≡◌, ℕ, ℤ, pos, ◌+◌, ◌-◌, ◌<◌, ◌≤◌, List, ◌++◌, length, take, drop}
 use Rattle.std.proofs.Common.{get_or, ap, sym, subst, ◌∙◌, arith, inl, inr, ◌*◌, ◌/◌, ◌%◌, min}
+use Rattle.std.proofs.Common.{[], ◌∷◌, refl, length-append}
 use Rattle.std.proofs.Common.{add_assoc, div-add-mod'}
 use Rattle.std.proofs.lemmas.Bool.{cases_lt}
 use Rattle.std.proofs.lemmas.List.{get_or-drop, get_or_append_left, get_or-append_right}
-use Rattle.std.proofs.lemmas.List.{get_or-take, length-take-le, length-append}
+use Rattle.std.proofs.lemmas.List.{get_or-take, length-take-le}
 use Rattle.std.proofs.Common.{length-drop, length-take}
 use borrow.Rule.Slice.PartMut.{put_mid, post_of}
 
@@ -130,3 +131,23 @@ pub line-place : (width place k : ℕ) → place / width * width + (place % widt
 line-place width place k =
     sym (add_assoc (place / width * width) (place % width) k)
     ∙ ap (λ p. p + k) (div-add-mod' place width)
+
+-- what holds of each item of a list and of one more holds of each of both
+pub each-next : {A : Type 0} (P : ℕ → A → Type 0) (items new : List A) (more : A) (c : ℕ)
+    → c ≡ length items → new ≡ items ++ more ∷ [] → P c more
+    → ((k : ℕ) (x : A) → k < length items → get_or items k x ≡ x → P k x)
+    → (k : ℕ) (x : A) → k < length new → get_or new k x ≡ x → P k x
+each-next P items new more c count is here so_far k x below found =
+    let at_k : get_or (items ++ more ∷ []) k x ≡ x = ap (λ l. get_or l k x) (sym is) ∙ found in
+    elim (cases_lt k (length items)) [
+      | inl before ↦
+          so_far k x before (sym (get_or_append_left items (more ∷ []) x k before) ∙ at_k)
+      | inr after ↦
+          let last : k ≡ c =
+          omega (arith, count, ap length is, length-append items (more ∷ [])) in
+          let first : k - length items ≡ 0 = omega (arith, count) in
+          let same : more ≡ x =
+          sym (get_or-append_right items (more ∷ []) (length items) k x refl after
+          ∙ ap (λ j. get_or (more ∷ []) j x) first) ∙ at_k in
+          subst (λ c. P c x) (sym last) (subst (λ x. P c x) same here)
+    ]

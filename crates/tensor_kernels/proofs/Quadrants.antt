@@ -8,19 +8,18 @@ use Rattle.tensor_values.specs.Values.{value_in}
 use Rattle.tensor_kernels.specs.Panels.{cell_of, panel_place}
 use Rattle.tensor_kernels.specs.Products.{dot}
 use Rattle.tensor_kernels.specs.Quartering.{half_size}
-use Rattle.tensor_kernels.specs.Strassen.{cell, sum_of, difference_of, IsFactor, IsProduct}
+use Rattle.tensor_kernels.specs.Strassen.{cell, sum_of, difference_of, IsFactor, product_sum}
 use Rattle.tensor_kernels.specs.Strassen.{AreFirstFactors}
-use Rattle.tensor_kernels.specs.Strassen.{AreSecondFactors, AreProducts, quadrant_value}
+use Rattle.tensor_kernels.specs.Strassen.{AreSecondFactors, quadrant_sum}
 use Rattle.tensor_kernels.specs.declared.panels.Panels.{Panels}
 use Rattle.tensor_kernels.specs.declared.tiling.strassen.factors.Factors.{Factors}
 use Rattle.tensor_kernels.specs.declared.tiling.strassen.half.Half.{Half}
-use Rattle.tensor_kernels.specs.declared.tiling.strassen.products.Products.{Products}
 use Rattle.tensor_kernels.specs.declared.tiling.strassen.quarters.Quarter.TheVariants.{FirstEarlier}
 use Rattle.tensor_kernels.specs.declared.tiling.strassen.quarters.Quarter.TheVariants.{FirstLater}
 use Rattle.tensor_kernels.specs.declared.tiling.strassen.quarters.Quarter.TheVariants.{SecondEarlier}
 use Rattle.tensor_kernels.specs.declared.tiling.strassen.quarters.Quarter.TheVariants.{SecondLater}
 use Rattle.tensor_kernels.specs.declared.tiling.strassen.quarters.Quarters.{Quarters}
-use Rattle.tensor_kernels.proofs.Congruence.{same-add, same-sub, same-dot, wrap-wrap}
+use Rattle.tensor_kernels.proofs.Congruence.{same-add, same-sub, same-dot}
 use Rattle.tensor_kernels.proofs.LaneSums.{same-factors}
 use Rattle.tensor_kernels.proofs.PanelPlaces.{panel_place-inside}
 use Rattle.tensor_kernels.proofs.ProductSums.{sum_to-ext}
@@ -42,21 +41,18 @@ place-second h panels x q some =
     rw (panel, row) (omega arith)
 
 -- value k of a product, by the numbers that its factors are
-product-value : (left right : Half) (a b : Panels) (f g : ℕ → ℤ) (sums : List ℤ) (n j t : ℕ)
+product-value : (left right : Half) (a b : Panels) (f g : ℕ → ℤ) (n j t : ℕ)
     → left.height ≡ 16 → left.panels ≡ 1 → right.height ≡ 1 → right.panels ≡ n → t < 16 → j < n
-    → IsFactor left a f → IsFactor right b g → IsProduct a b n sums
-    → wrap (value_in sums (16 * j + t))
+    → IsFactor left a f → IsFactor right b g → wrap (product_sum a b (16 * j + t))
     ≡ wrap (dot (λ q. f (panel_place 16 128 t q)) (λ q. g (panel_place 1 128 j q)) 128)
-product-value left right a b f g sums n j t height panels single all row column is_a is_b product =
+product-value left right a b f g n j t height panels single all row column is_a is_b =
     let k = 16 * j + t in
     let turn : k ≡ j * 16 + t = omega arith in
     let row_of : k % 16 ≡ t = ap (λ k. k % 16) turn ∙ mod-mul-add j 16 t row in
     let column_of : k / 16 ≡ j = ap (λ k. k / 16) turn ∙ div-mul-add j 16 t row in
     let size : half_size left ≡ 1 * (128 * 16) = rw (height, panels) refl in
     let size' : half_size right ≡ n * (128 * 1) = rw (single, all) refl in
-    ap wrap (product.each k (omega (arith, column)))
-    ∙ wrap-wrap _
-    ∙ ap (λ x. wrap (dot (cell_of 16 a.cells.items 128 x) (cell_of 1 b.cells.items 128 (k / 16))
+    ap (λ x. wrap (dot (cell_of 16 a.cells.items 128 x) (cell_of 1 b.cells.items 128 (k / 16))
     128)) row_of
     ∙ ap (λ y. wrap (dot (cell_of 16 a.cells.items 128 t) (cell_of 1 b.cells.items 128 y) 128))
     column_of
@@ -78,12 +74,19 @@ second-row q xs h panels x z some height count =
     ap (value_in xs)
     (place-second h panels x z some ∙ ap (λ n. n + panel_place h 128 x z) (sym size))
 
+-- what the products of factors make up, in a quadrant
+abbrev pub factors_quadrant : Factors → Factors → ℕ → ℕ → ℕ → ℤ
+factors_quadrant a b r s k =
+    quadrant_sum r s (product_sum a.m1 b.m1 k) (product_sum a.m2 b.m2 k)
+    (product_sum a.m3 b.m3 k) (product_sum a.m4 b.m4 k) (product_sum a.m5 b.m5 k)
+    (product_sum a.m6 b.m6 k) (product_sum a.m7 b.m7 k)
+
 -- one row of either half of the first operand's rows, and one column of either half
-module _ (rows columns : Quarters) (of_rows of_columns : Factors) (p : Products) (n j t : ℕ)
+module _ (rows columns : Quarters) (of_rows of_columns : Factors) (n j t : ℕ)
     (height : rows.half.height ≡ 16) (panels : rows.half.panels ≡ 1)
     (single : columns.half.height ≡ 1) (all : columns.half.panels ≡ n) (row : t < 16)
     (column : j < n) (firsts : AreFirstFactors rows of_rows)
-    (seconds : AreSecondFactors columns of_columns) (products : AreProducts of_rows of_columns n p)
+    (seconds : AreSecondFactors columns of_columns)
   where
     abbrev k : ℕ
     k = 16 * j + t
@@ -113,7 +116,7 @@ module _ (rows columns : Quarters) (of_rows of_columns : Factors) (p : Products)
     h q = cell columns SecondLater (panel_place 1 128 j q)
 
     abbrev v1 : ℤ
-    v1 = value_in p.m1.items k
+    v1 = product_sum of_rows.m1 of_columns.m1 k
 
     abbrev m1 : ℤ
     m1 =
@@ -123,11 +126,11 @@ module _ (rows columns : Quarters) (of_rows of_columns : Factors) (p : Products)
     same1 : wrap v1 ≡ wrap m1
     same1 =
         product-value rows.half columns.half of_rows.m1 of_columns.m1 (sum_of rows FirstEarlier SecondLater)
-        (sum_of columns FirstEarlier SecondLater) p.m1.items n j t height panels single all row column
-        firsts.m1 seconds.m1 products.m1
+        (sum_of columns FirstEarlier SecondLater) n j t height panels single all row column
+        firsts.m1 seconds.m1
 
     abbrev v2 : ℤ
-    v2 = value_in p.m2.items k
+    v2 = product_sum of_rows.m2 of_columns.m2 k
 
     abbrev m2 : ℤ
     m2 =
@@ -137,11 +140,11 @@ module _ (rows columns : Quarters) (of_rows of_columns : Factors) (p : Products)
     same2 : wrap v2 ≡ wrap m2
     same2 =
         product-value rows.half columns.half of_rows.m2 of_columns.m2 (sum_of rows SecondEarlier SecondLater)
-        (cell columns FirstEarlier) p.m2.items n j t height panels single all row column
-        firsts.m2 seconds.m2 products.m2
+        (cell columns FirstEarlier) n j t height panels single all row column
+        firsts.m2 seconds.m2
 
     abbrev v3 : ℤ
-    v3 = value_in p.m3.items k
+    v3 = product_sum of_rows.m3 of_columns.m3 k
 
     abbrev m3 : ℤ
     m3 =
@@ -151,11 +154,11 @@ module _ (rows columns : Quarters) (of_rows of_columns : Factors) (p : Products)
     same3 : wrap v3 ≡ wrap m3
     same3 =
         product-value rows.half columns.half of_rows.m3 of_columns.m3 (cell rows FirstEarlier)
-        (difference_of columns SecondEarlier SecondLater) p.m3.items n j t height panels single all row column
-        firsts.m3 seconds.m3 products.m3
+        (difference_of columns SecondEarlier SecondLater) n j t height panels single all row column
+        firsts.m3 seconds.m3
 
     abbrev v4 : ℤ
-    v4 = value_in p.m4.items k
+    v4 = product_sum of_rows.m4 of_columns.m4 k
 
     abbrev m4 : ℤ
     m4 =
@@ -165,11 +168,11 @@ module _ (rows columns : Quarters) (of_rows of_columns : Factors) (p : Products)
     same4 : wrap v4 ≡ wrap m4
     same4 =
         product-value rows.half columns.half of_rows.m4 of_columns.m4 (cell rows SecondLater)
-        (difference_of columns FirstLater FirstEarlier) p.m4.items n j t height panels single all row column
-        firsts.m4 seconds.m4 products.m4
+        (difference_of columns FirstLater FirstEarlier) n j t height panels single all row column
+        firsts.m4 seconds.m4
 
     abbrev v5 : ℤ
-    v5 = value_in p.m5.items k
+    v5 = product_sum of_rows.m5 of_columns.m5 k
 
     abbrev m5 : ℤ
     m5 =
@@ -179,11 +182,11 @@ module _ (rows columns : Quarters) (of_rows of_columns : Factors) (p : Products)
     same5 : wrap v5 ≡ wrap m5
     same5 =
         product-value rows.half columns.half of_rows.m5 of_columns.m5 (sum_of rows FirstEarlier FirstLater)
-        (cell columns SecondLater) p.m5.items n j t height panels single all row column
-        firsts.m5 seconds.m5 products.m5
+        (cell columns SecondLater) n j t height panels single all row column
+        firsts.m5 seconds.m5
 
     abbrev v6 : ℤ
-    v6 = value_in p.m6.items k
+    v6 = product_sum of_rows.m6 of_columns.m6 k
 
     abbrev m6 : ℤ
     m6 =
@@ -193,11 +196,11 @@ module _ (rows columns : Quarters) (of_rows of_columns : Factors) (p : Products)
     same6 : wrap v6 ≡ wrap m6
     same6 =
         product-value rows.half columns.half of_rows.m6 of_columns.m6 (difference_of rows SecondEarlier FirstEarlier)
-        (sum_of columns FirstEarlier SecondEarlier) p.m6.items n j t height panels single all row column
-        firsts.m6 seconds.m6 products.m6
+        (sum_of columns FirstEarlier SecondEarlier) n j t height panels single all row column
+        firsts.m6 seconds.m6
 
     abbrev v7 : ℤ
-    v7 = value_in p.m7.items k
+    v7 = product_sum of_rows.m7 of_columns.m7 k
 
     abbrev m7 : ℤ
     m7 =
@@ -207,8 +210,8 @@ module _ (rows columns : Quarters) (of_rows of_columns : Factors) (p : Products)
     same7 : wrap v7 ≡ wrap m7
     same7 =
         product-value rows.half columns.half of_rows.m7 of_columns.m7 (difference_of rows FirstLater SecondLater)
-        (sum_of columns FirstLater SecondLater) p.m7.items n j t height panels single all row column
-        firsts.m7 seconds.m7 products.m7
+        (sum_of columns FirstLater SecondLater) n j t height panels single all row column
+        firsts.m7 seconds.m7
 
     seven : AreSeven a b c d e f g h 128 m1 m2 m3 m4 m5 m6 m7
     seven = record {
@@ -269,7 +272,7 @@ module _ (rows columns : Quarters) (of_rows of_columns : Factors) (p : Products)
 
     -- each quadrant has the sums of the products of both chunks
     pub quadrant-total : (r s : ℕ) → r < 2 → s < 2
-        → wrap (quadrant_value p r s (16 * j + t)) ≡ wrap (total r s)
+        → wrap (factors_quadrant of_rows of_columns r s (16 * j + t)) ≡ wrap (total r s)
     quadrant-total zero zero row column =
         same-sub ((v1 +ℤ v4) +ℤ v7) ((m1 +ℤ m4) +ℤ m7) v5 m5
         (same-add (v1 +ℤ v4) (m1 +ℤ m4) v7 m7 (same-add v1 m1 v4 m4 same1 same4) same7) same5

@@ -1,10 +1,13 @@
 -- The identity behind seven products for eight. Of a row in the first half of the rows a and b are the
 -- values in the earlier and the later chunk, of one in the second half c and d; of a column likewise
 -- e f, g h.
-use Rattle.std.proofs.Common.{◌≡◌, ℕ, ℤ, ◌+ℤ◌, ◌-ℤ◌, ap, ◌∙◌, arith}
+use Rattle.std.proofs.Common.{◌≡◌, ℕ, zero, suc, ℤ, ◌+ℤ◌, ◌-ℤ◌, refl, ap, ◌∙◌, arith}
 use Rattle.std.proofs.lemmas.Int.{ints}
+use Rattle.tensor_shape.specs.Wrap.{wrap}
+use Rattle.tensor_kernels.specs.Chunks.{before}
 use Rattle.tensor_kernels.specs.Products.{dot}
 use Rattle.tensor_kernels.specs.Strassen.{quadrant_sum}
+use Rattle.tensor_kernels.proofs.Congruence.{same-add, same-sub}
 use Rattle.tensor_kernels.proofs.DotLaws.{dot-add, dot-sub, dot-add_right, dot-sub_right}
 
 -- the seven products
@@ -61,3 +64,44 @@ module _ {a b c d e f g h : ℕ → ℤ} {n : ℕ} {m1 m2 m3 m4 m5 m6 m7 : ℤ}
 
   pub second_second : quadrant_sum 1 1 m1 m2 m3 m4 m5 m6 m7 ≡ dot c g n +ℤ dot d h n
   second_second = omega (arith, ints, first, second, third, sixth)
+
+-- a quadrant of nothing is nothing
+pub before-quadrant : (c r s : ℕ) (m1 m2 m3 m4 m5 m6 m7 : ℤ)
+    → quadrant_sum r s (before c m1) (before c m2) (before c m3) (before c m4) (before c m5)
+    (before c m6) (before c m7) ≡ before c (quadrant_sum r s m1 m2 m3 m4 m5 m6 m7)
+before-quadrant (suc c) r s m1 m2 m3 m4 m5 m6 m7 = refl
+before-quadrant zero zero zero m1 m2 m3 m4 m5 m6 m7 = refl
+before-quadrant zero zero (suc s) m1 m2 m3 m4 m5 m6 m7 = refl
+before-quadrant zero (suc r) zero m1 m2 m3 m4 m5 m6 m7 = refl
+before-quadrant zero (suc r) (suc s) m1 m2 m3 m4 m5 m6 m7 = refl
+
+two-and-two : (o p d e : ℤ) → (o +ℤ d) +ℤ (p +ℤ e) ≡ (o +ℤ p) +ℤ (d +ℤ e)
+two-and-two o p d e = omega (arith, ints)
+
+four-and-four : (o p q r d e f g : ℤ)
+    → (((o +ℤ d) +ℤ (p +ℤ e)) +ℤ (q +ℤ f)) -ℤ (r +ℤ g)
+    ≡ (((o +ℤ p) +ℤ q) -ℤ r) +ℤ (((d +ℤ e) +ℤ f) -ℤ g)
+four-and-four o p q r d e f g = omega (arith, ints)
+
+-- where each product is a sum of two, modulo 2^64, so is a quadrant
+module _ (n1 n2 n3 n4 n5 n6 n7 o1 o2 o3 o4 o5 o6 o7 d1 d2 d3 d4 d5 d6 d7 : ℤ)
+    (is1 : wrap n1 ≡ wrap (o1 +ℤ d1)) (is2 : wrap n2 ≡ wrap (o2 +ℤ d2))
+    (is3 : wrap n3 ≡ wrap (o3 +ℤ d3)) (is4 : wrap n4 ≡ wrap (o4 +ℤ d4))
+    (is5 : wrap n5 ≡ wrap (o5 +ℤ d5)) (is6 : wrap n6 ≡ wrap (o6 +ℤ d6))
+    (is7 : wrap n7 ≡ wrap (o7 +ℤ d7)) where
+  pub quadrant-add : (r s : ℕ) → wrap (quadrant_sum r s n1 n2 n3 n4 n5 n6 n7)
+      ≡ wrap (quadrant_sum r s o1 o2 o3 o4 o5 o6 o7 +ℤ quadrant_sum r s d1 d2 d3 d4 d5 d6 d7)
+  quadrant-add zero zero =
+      same-sub ((n1 +ℤ n4) +ℤ n7) (((o1 +ℤ d1) +ℤ (o4 +ℤ d4)) +ℤ (o7 +ℤ d7)) n5 (o5 +ℤ d5)
+      (same-add (n1 +ℤ n4) ((o1 +ℤ d1) +ℤ (o4 +ℤ d4)) n7 (o7 +ℤ d7)
+      (same-add n1 (o1 +ℤ d1) n4 (o4 +ℤ d4) is1 is4) is7) is5
+      ∙ ap wrap (four-and-four o1 o4 o7 o5 d1 d4 d7 d5)
+  quadrant-add zero (suc s) =
+      same-add n3 (o3 +ℤ d3) n5 (o5 +ℤ d5) is3 is5 ∙ ap wrap (two-and-two o3 o5 d3 d5)
+  quadrant-add (suc r) zero =
+      same-add n2 (o2 +ℤ d2) n4 (o4 +ℤ d4) is2 is4 ∙ ap wrap (two-and-two o2 o4 d2 d4)
+  quadrant-add (suc r) (suc s) =
+      same-sub ((n1 +ℤ n3) +ℤ n6) (((o1 +ℤ d1) +ℤ (o3 +ℤ d3)) +ℤ (o6 +ℤ d6)) n2 (o2 +ℤ d2)
+      (same-add (n1 +ℤ n3) ((o1 +ℤ d1) +ℤ (o3 +ℤ d3)) n6 (o6 +ℤ d6)
+      (same-add n1 (o1 +ℤ d1) n3 (o3 +ℤ d3) is1 is3) is6) is2
+      ∙ ap wrap (four-and-four o1 o3 o6 o2 d1 d3 d6 d2)

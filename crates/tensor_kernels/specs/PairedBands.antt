@@ -1,33 +1,57 @@
--- A band of columns, of which two chunks of the products are taken at once.
-use Rattle.std.specs.Prelude.{◌≡◌, ◌≢◌, ℕ, ℤ, ◌+ℤ◌, ◌+◌, ◌*◌, ◌/◌, ◌%◌, ◌<◌, ◌≤◌, List}
+-- A band of columns, of which two chunks of the products are taken at once, a group of such pairs at
+-- a time.
+use Rattle.std.specs.Prelude.{◌≡◌, ◌≢◌, ℕ, ℤ, ◌+ℤ◌, ◌+◌, ◌*◌, ◌/◌, ◌%◌, ◌<◌, ◌≤◌, List, length, get_or}
+use Rattle.std.specs.Int.{div_ceil}
 use Rattle.tensor_shape.specs.Wrap.{wrap}
 use Rattle.tensor_kernels.specs.Chunks.{before}
 use Rattle.tensor_kernels.specs.Panels.{cell_of}
 use Rattle.tensor_kernels.specs.Rows.{row_count, row_length, row_value}
-use Rattle.tensor_kernels.specs.Strassen.{AreSecondFactors}
-use Rattle.tensor_kernels.specs.Tiling.{pair_total}
+use Rattle.tensor_kernels.specs.Strassen.{AreSecondFactors, sum_at}
+use Rattle.tensor_kernels.specs.Tiling.{gathered_total, group_pairs, group_total}
 use Rattle.tensor_kernels.specs.declared.tiling.Tiled.{Tiled}
 use Rattle.tensor_kernels.specs.declared.tiling.strassen.Band.{Band}
+use Rattle.tensor_kernels.specs.declared.tiling.strassen.factors.Factors.{Factors}
+use Rattle.tensor_kernels.specs.declared.tiling.strassen.products.Products.{Products}
+use Rattle.tensor_kernels.specs.declared.tiling.strassen.quarters.Quarters.{Quarters}
 
--- the cells of the band's columns have their values in chunk c
-abbrev pub HasColumns : Tiled → Band → List ℤ → ℕ → Type 0
-HasColumns t band cells c = (y q : ℕ) → y < band.columns → q < 128
-    → cell_of 1 cells 128 y q ≡ row_value t.second (band.place / t.rows + y) (c * 128 + q)
+-- cells of so many columns of the second operand, from one on, have their values in chunk c
+abbrev pub HasColumns : Tiled → ℕ → ℕ → List ℤ → ℕ → Type 0
+HasColumns t column columns cells c = (y q : ℕ) → y < columns → q < 128
+    → cell_of 1 cells 128 y q ≡ row_value t.second (column + y) (c * 128 + q)
 
--- both chunks of the band's columns are packed, and are whole
+-- factors are those that these columns give in a pair of chunks, cut into quarters
+pub record IsOfColumns (t : Tiled) (column columns pair : ℕ) (f : Factors) : Type 0 where
+  pub quarters : Quarters
+  pub single : quarters.half.height ≡ 1
+  pub half : quarters.half.panels ≡ div_ceil columns 2
+  pub earlier : HasColumns t column columns quarters.earlier.items (2 * pair)
+  pub later : HasColumns t column columns quarters.later.items (2 * pair + 1)
+  pub factors : AreSecondFactors quarters f
+
+-- and each in a list is of its pair, from one on
+abbrev pub AreOfColumns : Tiled → ℕ → ℕ → ℕ → List Factors → Type 0
+AreOfColumns t column columns first factors = (i : ℕ) (f : Factors) → i < length factors
+    → get_or factors i f ≡ f → IsOfColumns t column columns (first + i) f
+
+-- the band's columns are packed in the chunks of the group, which are whole
 pub record IsBand (t : Tiled) (band : Band) : Type 0 where
-  pub whole : (band.number + 2) * 128 ≤ row_length t.first
+  pub group : band.group * 2 < t.pairs
   pub there : band.place / t.rows + band.columns ≤ row_count t.second
   pub few : band.columns ≤ 256
-  pub single : band.quarters.now.half.height ≡ 1
-  pub half : band.columns ≤ 2 * band.quarters.now.half.panels
-  pub earlier : HasColumns t band band.quarters.now.earlier.items band.number
-  pub later : HasColumns t band band.quarters.now.later.items (band.number + 1)
-  pub factors : AreSecondFactors band.quarters.now band.factors.now
+  pub half : band.half ≡ div_ceil band.columns 2
+  pub count : length band.factors.now ≡ group_pairs t band.group
+  pub factors : AreOfColumns t (band.place / t.rows) band.columns (band.group * 2) band.factors.now
 
--- at a place of the band stands a new value for an old one: the sum of both chunks is put there, or
+-- the products of block b of the rows are added up over the first pairs of the group, so many: at each
+-- place of these rows, counted from where the band's first column begins
+abbrev pub AreGathered : Tiled → Band → ℕ → ℕ → Products → Type 0
+AreGathered t band b n products = (l : ℕ) → l < band.columns * t.rows → l % t.rows / 32 ≡ b
+    → wrap (before n (sum_at t.rows band.half products l))
+    ≡ wrap (gathered_total t band.group n (band.place / t.rows * t.rows + l))
+
+-- at a place of the band stands a new value for an old one: the sum of the group is put there, or
 -- added, where its row is of block b, and else it is the old one
 pub record IsAdded (t : Tiled) (band : Band) (b k : ℕ) (old new : ℤ) : Type 0 where
   pub within : (band.place + k) % t.rows / 32 ≡ b
-      → new ≡ wrap (before band.number old +ℤ pair_total t band.number (band.place + k))
+      → new ≡ wrap (before band.group old +ℤ group_total t band.group (band.place + k))
   pub other : (band.place + k) % t.rows / 32 ≢ b → new ≡ old

@@ -82,19 +82,21 @@ abbrev pub product_sum : Panels → Panels → ℕ → ℤ
 product_sum a b k =
     dot (cell_of 16 a.cells.items 128 (k % 16)) (cell_of 1 b.cells.items 128 (k / 16)) 128
 
--- the same for all rows and n columns, column by column
-pub record IsProduct (a b : Panels) (n : ℕ) (sums : List ℤ) : Type 0 where
-  pub len : length sums ≡ 16 * n
-  pub each : (k : ℕ) → k < 16 * n → value_in sums k ≡ wrap (product_sum a b k)
+-- at the values of a product stand new ones for old ones: its sums for all rows and n columns, column
+-- by column, are put there, or added
+pub record IsProductAdded (pair : ℕ) (a b : Panels) (n : ℕ) (old new : List ℤ) : Type 0 where
+  pub len : length new ≡ 16 * n
+  pub each : (k : ℕ) → k < 16 * n
+      → value_in new k ≡ wrap (before pair (value_in old k) +ℤ product_sum a b k)
 
-pub record AreProducts (a b : Factors) (n : ℕ) (p : Products) : Type 0 where
-  pub m1 : IsProduct a.m1 b.m1 n p.m1.items
-  pub m2 : IsProduct a.m2 b.m2 n p.m2.items
-  pub m3 : IsProduct a.m3 b.m3 n p.m3.items
-  pub m4 : IsProduct a.m4 b.m4 n p.m4.items
-  pub m5 : IsProduct a.m5 b.m5 n p.m5.items
-  pub m6 : IsProduct a.m6 b.m6 n p.m6.items
-  pub m7 : IsProduct a.m7 b.m7 n p.m7.items
+pub record AreAdded (pair : ℕ) (a b : Factors) (n : ℕ) (old new : Products) : Type 0 where
+  pub m1 : IsProductAdded pair a.m1 b.m1 n old.m1.items new.m1.items
+  pub m2 : IsProductAdded pair a.m2 b.m2 n old.m2.items new.m2.items
+  pub m3 : IsProductAdded pair a.m3 b.m3 n old.m3.items new.m3.items
+  pub m4 : IsProductAdded pair a.m4 b.m4 n old.m4.items new.m4.items
+  pub m5 : IsProductAdded pair a.m5 b.m5 n old.m5.items new.m5.items
+  pub m6 : IsProductAdded pair a.m6 b.m6 n old.m6.items new.m6.items
+  pub m7 : IsProductAdded pair a.m7 b.m7 n old.m7.items new.m7.items
 
 -- each of them has as many values
 pub record AreLong (n : ℕ) (p : Products) : Type 0 where
@@ -120,11 +122,16 @@ quadrant_value p r s k =
     quadrant_sum r s (value_in p.m1.items k) (value_in p.m2.items k) (value_in p.m3.items k)
     (value_in p.m4.items k) (value_in p.m5.items k) (value_in p.m6.items k) (value_in p.m7.items k)
 
+-- what products make up at a place of a band of so many rows, of whose columns the first half are so
+-- many
+abbrev pub sum_at : ℕ → ℕ → Products → ℕ → ℤ
+sum_at rows half products p =
+    quadrant_value products (p % rows / 16 % 2) (p / rows / half)
+    (16 * (p / rows % half) + p % rows % 16)
+
 -- the value of a block at a place of the band
 abbrev pub block_sum : Block → ℕ → ℤ
-block_sum block p =
-    quadrant_value block.products.now (p % block.rows / 16 % 2) (p / block.rows / block.half)
-    (16 * (p / block.rows % block.half) + p % block.rows % 16)
+block_sum block p = sum_at block.rows block.half block.products.now p
 
 -- a block of rows that are there, with products for all columns
 pub record IsBlock (block : Block) : Type 0 where

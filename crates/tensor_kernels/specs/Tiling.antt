@@ -1,5 +1,5 @@
 -- Contractions tile by tile.
-use Rattle.std.specs.Prelude.{ℕ, ℤ, ◌+◌, ◌*◌, ◌/◌, ◌%◌, ◌*ℤ◌, length}
+use Rattle.std.specs.Prelude.{ℕ, ℤ, ◌+◌, ◌-◌, ◌*◌, ◌/◌, ◌%◌, ◌*ℤ◌, length, min}
 use Rattle.tensor_kernels.specs.Chunks.{chunk, chunk_start}
 use Rattle.tensor_kernels.specs.Products.{sum_to}
 use Rattle.tensor_kernels.specs.Rows.{row_count, row_length, row_value, dot_at}
@@ -25,9 +25,21 @@ chunk_total t c p =
     sum_to (λ q. product_at t.first t.second p (chunk_start (row_length t.first) c + q))
     (length (chunk t.first.offsets.items c))
 
--- the sum of the products of chunk c and the next one, which are whole
+-- the sum of the products of pair c of chunks, which are whole
 abbrev pub pair_total : Tiled → ℕ → ℕ → ℤ
-pair_total t c p = sum_to (λ q. product_at t.first t.second p (c * 128 + q)) 256
+pair_total t c p = sum_to (λ q. product_at t.first t.second p (c * 256 + q)) 256
+
+-- the sum of those of the first pairs of a group, of so many
+abbrev pub gathered_total : Tiled → ℕ → ℕ → ℕ → ℤ
+gathered_total t group n p =
+    sum_to (λ q. product_at t.first t.second p (group * 512 + q)) (n * 256)
+
+-- how many pairs a group has, of which the last may have one, and the sum of all of it
+abbrev pub group_pairs : Tiled → ℕ → ℕ
+group_pairs t group = min 2 (t.pairs - group * 2)
+
+abbrev pub group_total : Tiled → ℕ → ℕ → ℤ
+group_total t group p = gathered_total t group (group_pairs t group) p
 
 -- the sum of the products that are taken by two chunks at once
 abbrev pub pairs_total : Tiled → ℕ → ℤ

@@ -103,8 +103,9 @@ impl<'a> Contraction<'a> {
     /// chunk by chunk of 128 products, but for a first one that is packed already: up to 32 rows of
     /// the second, or 128 beside all of the first. That takes a cell of 8 bytes for each product of
     /// these rows, and where numbers don't fit 32 bits one more for each of them. Large operands are
-    /// packed in two chunks at once, up to 256 rows of the second beside 32 of the first, which takes
-    /// six cells for each of their products in a chunk, and up to 14,336 for the sums of these.
+    /// packed in two chunks at once, up to 256 rows of the second, in four chunks of which they are held,
+    /// beside 32 of the first. That takes up to nine cells for each product of a chunk of these rows,
+    /// and up to 14,336 for the sums.
     pub fn values<A: Allocator>(
         &self,
         alloc: A,

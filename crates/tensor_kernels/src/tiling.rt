@@ -23,7 +23,7 @@ use crate::panels::{Panels, are_small};
 use crate::rows::Rows;
 use crate::rows::part::RowsPart;
 use crate::tiling::packed_chunk::PackedChunk;
-use crate::tiling::strassen::pairs_of;
+use crate::tiling::strassen::{groups_of, pairs_of};
 use std::alloc::{AllocError, Global};
 
 /// How many columns are packed together: so many that a panel of the first operand's rows is used
@@ -176,8 +176,8 @@ impl<'a> Tiled<'a> {
             → before self.now.pairs (value_in out.new k)
             ≡ wrap (pairs_total self.now (place + k))) }
     {
-        for pair in 0..self.pairs {
-            self.add_pair(2 * pair, place, out)?;
+        for group in 0..groups_of(self.pairs) {
+            self.add_group(group, place, out)?;
         }
         Ok(())
     }

@@ -65,7 +65,7 @@ impl Tile {
 }
 
 /// Writes the sums of chunk c: those of chunk 0 are put there, those of later ones added.
-fn add_run(c: usize, sums: &[i64], out: &mut [i64])
+pub(crate) fn add_run(c: usize, sums: &[i64], out: &mut [i64])
     requires { length out.old ≤ length sums.now }
     ensures len { length out.new ≡ length out.old }
     ensures each { (k : ℕ) → k < length out.old → value_in out.new k

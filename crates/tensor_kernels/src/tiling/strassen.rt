@@ -7,7 +7,8 @@
 //!   two chunks, packed      ──> four quarters ──> seven factors ─┐
 //!                                                                ├─> seven products ──> a block
 //! a band of columns,        ──> four quarters ──> seven factors ─┘   of 16 rows and   of the result
-//!   once for all rows                                                half the band
+//!   once for all rows                                                half the band,
+//!                                                                    of some pairs of chunks
 //! ```
 
 pub(crate) mod block;
@@ -17,8 +18,9 @@ pub(crate) mod products;
 pub(crate) mod quarters;
 
 ghost use Rattle.std.specs.Prelude.{◌≡◌, ℕ, ◌*◌, ◌+◌, ◌+ℤ◌, ◌%◌, ◌<◌, ◌≤◌, length};
-ghost use Rattle.std.specs.Prelude.{OnOk};
-ghost use Rattle.tensor_kernels.specs.Rows.{row_length};
+ghost use Rattle.std.specs.Prelude.{IfOk, OnOk};
+ghost use Rattle.tensor_kernels.specs.Rows.{row_count, row_length};
+ghost use Rattle.std.specs.Int.{div_ceil};
 ghost use Rattle.tensor_values.specs.Values.{value_in};
 
 use crate::rows::part::RowsPart;
@@ -41,6 +43,10 @@ const COLUMNS: usize = 1024;
 /// How many products two chunks have.
 const PAIR: usize = 256;
 
+/// Of how many pairs of chunks the products are added up before a block is written: its places lie far
+/// apart, but the factors of the band's columns are held for all these pairs.
+const GROUP: usize = 2;
+
 /// How often two chunks of so many products are taken at once, where there are so many rows and
 /// columns.
 pub(crate) fn pairs_of(rows: usize, columns: usize, products: usize) -> usize
@@ -53,36 +59,97 @@ pub(crate) fn pairs_of(rows: usize, columns: usize, products: usize) -> usize
     }
 }
 
-/// The columns of a band, packed in two chunks of the products.
+/// How many groups so many pairs of chunks are taken in.
+pub(crate) fn groups_of(pairs: usize) -> usize
+    ensures { result ≡ div_ceil pairs 2 }
+{
+    pairs.div_ceil(GROUP)
+}
+
+/// The columns of a band, packed in the chunks of a group of pairs.
 #[derive(Clone, Copy, Drop)]
 pub(crate) struct Band<'a> {
-    /// Which chunk the earlier one is.
-    number: usize,
+    /// Which group.
+    group: usize,
     /// The first place that is written.
     place: usize,
     columns: usize,
-    quarters: &'a Quarters,
-    factors: &'a Factors,
+    /// How many columns the first half of the band has.
+    half: usize,
+    /// The factors that the columns give in each of the pairs.
+    factors: &'a [Factors],
 }
 
 impl Tiled<'_> {
     ghost use Rattle.tensor_shape.specs.Wrap.{wrap};
     ghost use Rattle.tensor_kernels.specs.Chunks.{before};
-    ghost use Rattle.tensor_kernels.specs.PairedBands.{IsBand, IsAdded};
-    ghost use Rattle.tensor_kernels.specs.Tiling.{tiled_count, pair_total};
+    ghost use Rattle.tensor_kernels.specs.PairedBands.{IsBand, IsOfColumns, AreOfColumns};
+    ghost use Rattle.tensor_kernels.specs.PairedBands.{AreGathered, IsAdded};
+    ghost use Rattle.tensor_kernels.specs.Strassen.{AreLong};
+    ghost use Rattle.tensor_kernels.specs.Tiling.{tiled_count, group_total};
 
-    /// Writes the sums of chunk c and the next one.
-    pub(crate) fn add_pair(&self, c: usize, place: usize, out: &mut [i64]) -> Result<(), AllocError>
-        requires chunks { (c + 2) * 128 ≤ row_length self.now.first }
+    /// Writes the sums of a group of pairs of chunks. Takes the room for the factors of a band of
+    /// columns, and beside them for a block of the rows.
+    pub(crate) fn add_group(
+        &self,
+        group: usize,
+        place: usize,
+        out: &mut [i64],
+    ) -> Result<(), AllocError>
+        requires group { group * 2 < self.now.pairs }
         requires some { 0 < length out.old }
         requires inside { place % self.now.rows + length out.old ≤ 256 * self.now.rows }
         requires within { place + length out.old ≤ tiled_count self.now }
         ensures len { length out.new ≡ length out.old }
         ensures each { OnOk result ((k : ℕ) → k < length out.old → value_in out.new k
-            ≡ wrap (before c (value_in out.old k) +ℤ pair_total self.now c (place + k))) }
+            ≡ wrap (before group (value_in out.old k) +ℤ group_total self.now group (place + k))) }
     {
         let column = place / self.rows;
         let columns = (place % self.rows + out.len()).div_ceil(self.rows);
+        let first = group * GROUP;
+        let count = GROUP.min(self.pairs - first);
+        let factors = self.factors_of(first, count, column, columns)?;
+        let band = Band {
+            group,
+            place,
+            columns,
+            half: columns.div_ceil(2),
+            factors: &factors,
+        };
+        self.add_blocks(&band, out)
+    }
+
+    /// The factors that so many columns, from one on, give in each of so many pairs of chunks.
+    fn factors_of(
+        &self,
+        first: usize,
+        count: usize,
+        column: usize,
+        columns: usize,
+    ) -> Result<Vec<Factors>, AllocError>
+        requires some { 0 < columns }
+        requires few { columns ≤ 256 }
+        requires there { column + columns ≤ row_count self.now.second }
+        requires whole { (first + count) * 256 ≤ row_length self.now.first }
+        ensures count { IfOk result (λ factors. length factors.items ≡ count) }
+        ensures each { IfOk result (λ factors.
+            AreOfColumns self.now column columns first factors.items) }
+    {
+        let mut factors = Vec::with_capacity(self.alloc, count)?;
+        for i in 0..count {
+            factors.push_reserved(self.factors_at(first + i, column, columns)?);
+        }
+        Ok(factors)
+    }
+
+    /// The same of one pair.
+    fn factors_at(&self, pair: usize, column: usize, columns: usize) -> Result<Factors, AllocError>
+        requires some { 0 < columns }
+        requires few { columns ≤ 256 }
+        requires there { column + columns ≤ row_count self.now.second }
+        requires whole { (pair + 1) * 256 ≤ row_length self.now.first }
+        ensures { IfOk result (IsOfColumns self.now column columns pair) }
+    {
         let half = Half {
             panels: columns.div_ceil(2),
             height: 1,
@@ -92,43 +159,89 @@ impl Tiled<'_> {
             starts: &self.second.starts.as_slice()[column..column + columns],
             offsets: self.second.offsets.as_slice(),
         };
-        let quarters = Quarters::of(self.alloc, half, &part, c)?;
+        let quarters = Quarters::of(self.alloc, half, &part, 2 * pair)?;
         let factors = Factors::of_second(self.alloc, &quarters)?;
-        let band = Band {
-            number: c,
-            place,
-            columns,
-            quarters: &quarters,
-            factors: &factors,
-        };
-        self.add_blocks(&band, out)
+        Ok(factors)
     }
 
-    /// Writes the sums of a band's two chunks, block by block of the rows.
+    /// Writes the sums of a band, block by block of the rows.
     fn add_blocks(&self, band: &Band<'_>, out: &mut [i64]) -> Result<(), AllocError>
         requires band { IsBand self.now band.now }
         requires inside { band.now.place % self.now.rows + length out.old
             ≤ band.now.columns * self.now.rows }
         ensures len { length out.new ≡ length out.old }
         ensures each { OnOk result ((k : ℕ) → k < length out.old → value_in out.new k
-            ≡ wrap (before band.now.number (value_in out.old k)
-            +ℤ pair_total self.now band.now.number (band.now.place + k))) }
+            ≡ wrap (before band.now.group (value_in out.old k)
+            +ℤ group_total self.now band.now.group (band.now.place + k))) }
     {
+        let mut products = Products::of(self.alloc, band.half)?;
         for b in 0..self.rows.div_ceil(32) {
-            self.add_block(b, band, out)?;
+            self.add_block(b, band, &mut products, out)?;
         }
         Ok(())
     }
 
-    /// Writes those of block b of the rows. All else stays.
-    fn add_block(&self, b: usize, band: &Band<'_>, out: &mut [i64]) -> Result<(), AllocError>
+    /// Writes those of block b of the rows. All else stays. What the products were is of no account.
+    fn add_block(
+        &self,
+        b: usize,
+        band: &Band<'_>,
+        products: &mut Products,
+        out: &mut [i64],
+    ) -> Result<(), AllocError>
         requires band { IsBand self.now band.now }
         requires block { b * 32 < self.now.rows }
+        requires long { AreLong (16 * band.now.half) products.old }
         requires inside { band.now.place % self.now.rows + length out.old
             ≤ band.now.columns * self.now.rows }
+        ensures long { AreLong (16 * band.now.half) products.new }
         ensures len { length out.new ≡ length out.old }
         ensures each { OnOk result ((k : ℕ) → k < length out.old
             → IsAdded self.now band.now b k (value_in out.old k) (value_in out.new k)) }
+    {
+        self.gather(b, band, products)?;
+        let block = Block {
+            number: band.group,
+            rows: self.rows,
+            columns: band.columns,
+            half: band.half,
+            block: b,
+            products,
+        };
+        block.put(band.place % self.rows, out);
+        Ok(())
+    }
+
+    /// Adds up the products of block b of the rows over the band's pairs.
+    fn gather(&self, b: usize, band: &Band<'_>, products: &mut Products) -> Result<(), AllocError>
+        requires band { IsBand self.now band.now }
+        requires block { b * 32 < self.now.rows }
+        requires long { AreLong (16 * band.now.half) products.old }
+        ensures long { AreLong (16 * band.now.half) products.new }
+        ensures each { OnOk result
+            (AreGathered self.now band.now b (length band.now.factors.now) products.new) }
+    {
+        for i in 0..band.factors.len() {
+            self.add_products(i, b, band, products)?;
+        }
+        Ok(())
+    }
+
+    /// Adds those of one pair more.
+    fn add_products(
+        &self,
+        i: usize,
+        b: usize,
+        band: &Band<'_>,
+        products: &mut Products,
+    ) -> Result<(), AllocError>
+        requires band { IsBand self.now band.now }
+        requires block { b * 32 < self.now.rows }
+        requires pair { i < length band.now.factors.now }
+        requires long { AreLong (16 * band.now.half) products.old }
+        requires so_far { AreGathered self.now band.now b i products.old }
+        ensures long { AreLong (16 * band.now.half) products.new }
+        ensures each { OnOk result (AreGathered self.now band.now b (i + 1) products.new) }
     {
         let part = RowsPart {
             values: self.first.values.as_slice(),
@@ -139,19 +252,10 @@ impl Tiled<'_> {
             panels: 1,
             height: 16,
         };
-        let quarters = Quarters::of(self.alloc, half, &part, band.number)?;
+        let chunk = 2 * (band.group * GROUP + i);
+        let quarters = Quarters::of(self.alloc, half, &part, chunk)?;
         let factors = Factors::of_first(self.alloc, &quarters)?;
-        let columns = band.quarters.half.panels;
-        let products = Products::of(self.alloc, &factors, band.factors, columns)?;
-        let block = Block {
-            number: band.number,
-            rows: self.rows,
-            columns: band.columns,
-            half: columns,
-            block: b,
-            products: &products,
-        };
-        block.put(band.place % self.rows, out);
+        products.add(i, &factors, &band.factors[i], band.half);
         Ok(())
     }
 }

@@ -13,8 +13,8 @@ use crate::tiling::strassen::products::Products;
 /// Two panels of rows, and the columns of a band.
 #[derive(Drop)]
 pub(crate) struct Block<'a> {
-    /// Which chunk the earlier of the two is. The sums of chunk 0 are put where they belong, those of
-    /// later ones added.
+    /// Of which group of pairs of chunks. The sums of group 0 are put where they belong, those of later
+    /// ones added.
     pub(crate) number: usize,
     pub(crate) rows: usize,
     pub(crate) columns: usize,

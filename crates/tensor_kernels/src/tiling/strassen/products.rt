@@ -1,11 +1,16 @@
-//! Strassen's seven products of sixteen rows and half of a band's columns.
+//! Strassen's seven products of sixteen rows and half of a band's columns, added up over pairs of
+//! chunks.
 
-ghost use Rattle.std.specs.Prelude.{◌≤◌, IfOk};
-ghost use Rattle.tensor_kernels.specs.Strassen.{IsPanels, IsProduct};
+ghost use Rattle.std.specs.Prelude.{◌≡◌, ℕ, ◌*◌, ◌+ℤ◌, ◌<◌, ◌≤◌, length, IfOk};
+ghost use Rattle.tensor_shape.specs.Wrap.{wrap};
+ghost use Rattle.tensor_kernels.specs.Chunks.{before};
+ghost use Rattle.tensor_kernels.specs.Strassen.{IsPanels, product_sum};
+ghost use Rattle.tensor_values.specs.Values.{value_in};
 
 use crate::panels::Panels;
 use crate::panels::height::Height;
 use crate::tiling::packed_chunk::PackedChunk;
+use crate::tiling::placing::add_run;
 use crate::tiling::strassen::factors::Factors;
 use std::alloc::{AllocError, Global};
 
@@ -22,38 +27,52 @@ pub(crate) struct Products {
 }
 
 impl Products {
-    ghost use Rattle.tensor_kernels.specs.Strassen.{ArePanels, AreProducts};
+    ghost use Rattle.tensor_kernels.specs.Strassen.{AreAdded, AreLong, ArePanels};
 
-    /// The products of the factors of sixteen rows and of so many columns.
-    pub(crate) fn of(
-        alloc: Global,
-        rows: &Factors,
-        columns: &Factors,
-        n: usize,
-    ) -> Result<Products, AllocError>
-        requires few { n ≤ 128 }
-        requires rows { ArePanels 16 1 rows.now }
-        requires columns { ArePanels 1 n columns.now }
-        ensures { IfOk result (AreProducts rows.now columns.now n) }
+    /// Room for those of so many columns.
+    pub(crate) fn of(alloc: Global, n: usize) -> Result<Products, AllocError>
+        requires { n ≤ 128 }
+        ensures { IfOk result (AreLong (16 * n)) }
     {
         Ok(Products {
-            m1: product(alloc, &rows.m1, &columns.m1, n)?,
-            m2: product(alloc, &rows.m2, &columns.m2, n)?,
-            m3: product(alloc, &rows.m3, &columns.m3, n)?,
-            m4: product(alloc, &rows.m4, &columns.m4, n)?,
-            m5: product(alloc, &rows.m5, &columns.m5, n)?,
-            m6: product(alloc, &rows.m6, &columns.m6, n)?,
-            m7: product(alloc, &rows.m7, &columns.m7, n)?,
+            m1: vec![in alloc; 0i64; 16 * n]?,
+            m2: vec![in alloc; 0i64; 16 * n]?,
+            m3: vec![in alloc; 0i64; 16 * n]?,
+            m4: vec![in alloc; 0i64; 16 * n]?,
+            m5: vec![in alloc; 0i64; 16 * n]?,
+            m6: vec![in alloc; 0i64; 16 * n]?,
+            m7: vec![in alloc; 0i64; 16 * n]?,
         })
+    }
+
+    /// Adds the products of the factors of sixteen rows and of so many columns: those of pair 0 are
+    /// put there, those of later ones added.
+    pub(crate) fn add(&mut self, pair: usize, rows: &Factors, columns: &Factors, n: usize)
+        requires few { n ≤ 128 }
+        requires long { AreLong (16 * n) self.old }
+        requires rows { ArePanels 16 1 rows.now }
+        requires columns { ArePanels 1 n columns.now }
+        ensures { AreAdded pair rows.now columns.now n self.old self.new }
+    {
+        add_product(pair, &rows.m1, &columns.m1, n, &mut self.m1);
+        add_product(pair, &rows.m2, &columns.m2, n, &mut self.m2);
+        add_product(pair, &rows.m3, &columns.m3, n, &mut self.m3);
+        add_product(pair, &rows.m4, &columns.m4, n, &mut self.m4);
+        add_product(pair, &rows.m5, &columns.m5, n, &mut self.m5);
+        add_product(pair, &rows.m6, &columns.m6, n, &mut self.m6);
+        add_product(pair, &rows.m7, &columns.m7, n, &mut self.m7);
     }
 }
 
-/// The sums of 128 products of each of sixteen rows and each of n columns.
-fn product(alloc: Global, rows: &Panels, columns: &Panels, n: usize) -> Result<Vec<i64>, AllocError>
+/// Adds the sums of 128 products of each of sixteen rows and each of n columns.
+fn add_product(pair: usize, rows: &Panels, columns: &Panels, n: usize, sums: &mut [i64])
     requires few { n ≤ 128 }
+    requires long { length sums.old ≡ 16 * n }
     requires rows { IsPanels 16 1 rows.now }
     requires columns { IsPanels 1 n columns.now }
-    ensures { IfOk result (λ sums. IsProduct rows.now columns.now n sums.items) }
+    ensures len { length sums.new ≡ 16 * n }
+    ensures each { (k : ℕ) → k < 16 * n → value_in sums.new k
+        ≡ wrap (before pair (value_in sums.old k) +ℤ product_sum rows.now columns.now k) }
 {
     let chunk = PackedChunk {
         number: 0,
@@ -65,11 +84,8 @@ fn product(alloc: Global, rows: &Panels, columns: &Panels, n: usize) -> Result<V
         first: rows,
         second: columns,
     };
-    let mut sums = Vec::with_capacity(alloc, 16 * n)?;
     for j in 0..n {
-        let Ok(()) = sums.extend_from_slice(&chunk.tile(0, j)) else {
-            unreachable!()
-        };
+        let column = &mut sums[16 * j..16 * j + 16];
+        add_run(pair, &chunk.tile(0, j), column);
     }
-    Ok(sums)
 }

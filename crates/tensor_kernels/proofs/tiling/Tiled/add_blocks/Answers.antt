@@ -3,7 +3,7 @@ use Rattle.std.proofs.lemmas.Bool.{cases_lt}
 use Rattle.std.proofs.lemmas.Nat.{mod_below}
 use Rattle.tensor_shape.specs.Wrap.{wrap}
 use Rattle.tensor_kernels.specs.Chunks.{before}
-use Rattle.tensor_kernels.specs.Tiling.{pair_total}
+use Rattle.tensor_kernels.specs.Tiling.{group_total}
 use Rattle.tensor_kernels.proofs.TilePlaces.{part-of}
 use Rattle.tensor_values.proofs.Factors.{some_factor}
 use Rattle.tensor_kernels.proofs.tiling.Tiled.add_blocks.Goals as goal
@@ -17,6 +17,7 @@ loop-b-preserved c =
     let added = λ (k : ℕ) (within : k < length c.args.out.now).
     c.in_ok-add_block.ensures.each k (omega (arith, within, inv.len)) in
     record {
+      long = c.add_block.ensures.long;
       len = c.add_block.ensures.len ∙ inv.len;
       put = λ k within earlier.
           let x = (band.place + k) % t.rows / 32 in
@@ -27,7 +28,7 @@ loop-b-preserved c =
             | inr at ↦
                 let here : x ≡ b = omega (arith, at, earlier) in
                 (added k within).within here
-                ∙ ap (λ v. wrap (before band.number v +ℤ pair_total t band.number (band.place + k)))
+                ∙ ap (λ v. wrap (before band.group v +ℤ group_total t band.group (band.place + k)))
                 (inv.kept k within (omega (arith, here)))
           ];
       kept = λ k within later.
