@@ -25,9 +25,9 @@ length-columns t starts a n is left =
       length-drop a starts,
     )
 
-pub columns-few : (m len n : ℕ) → n ≡ div_ceil len m → 0 < m → len ≤ 256 * m → n ≤ 256
+pub columns-few : (m len n : ℕ) → n ≡ div_ceil len m → 0 < m → len ≤ 512 * m → n ≤ 512
 columns-few m len n is some within =
-    omega (arith, columns-inside m 256 0 len n is some (omega (arith, within)))
+    omega (arith, columns-inside m 512 0 len n is some (omega (arith, within)))
 
 -- a place of the result is in a column that there is
 pub place-columns : (t : Tiled) (place len n : ℕ) → 0 < t.rows

@@ -26,7 +26,7 @@ panel_at chunk p = p % chunk.rows / height_of chunk.height
 -- there are panels for all rows and all columns, which can be multiplied
 pub record IsPacked (chunk : PackedChunk) : Type 0 where
   pub few_rows : chunk.rows ≤ most_elements
-  pub few_columns : chunk.columns ≤ 256
+  pub few_columns : chunk.columns ≤ 512
   pub short : chunk.products ≤ 128
   pub first : div_ceil chunk.rows (height_of chunk.height)
       * (chunk.products * height_of chunk.height) ≤ length chunk.first.now.cells.items

@@ -37,7 +37,7 @@ AreOfColumns t column columns first factors = (i : ℕ) (f : Factors) → i < le
 pub record IsBand (t : Tiled) (band : Band) : Type 0 where
   pub group : band.group * 2 < t.pairs
   pub there : band.place / t.rows + band.columns ≤ row_count t.second
-  pub few : band.columns ≤ 256
+  pub few : band.columns ≤ 512
   pub half : band.half ≡ div_ceil band.columns 2
   pub count : length band.factors.now ≡ group_pairs t band.group
   pub factors : AreOfColumns t (band.place / t.rows) band.columns (band.group * 2) band.factors.now

@@ -136,10 +136,10 @@ block_sum block p = sum_at block.rows block.half block.products.now p
 -- a block of rows that are there, with products for all columns
 pub record IsBlock (block : Block) : Type 0 where
   pub few_rows : block.rows ≤ most_elements
-  pub few_columns : block.columns ≤ 256
+  pub few_columns : block.columns ≤ 512
   pub start : block.block * 32 < block.rows
   pub half : block.columns ≤ 2 * block.half
-  pub few : block.half ≤ 128
+  pub few : block.half ≤ 256
   pub long : AreLong (16 * block.half) block.products.now
 
 -- what stands at a place where its sum was put, or added

@@ -53,7 +53,7 @@ impl<'a> Contraction<'a> {
     /// more than 128, the first is packed: a cell of 8 bytes for each value, up to a multiple of
     /// sixteen or four rows, and where not all values of both fit 32 bits a number for each of these
     /// rows and each chunk of 128 products. Then it isn't where the first has 256 rows, the second
-    /// 1,024, and each 256 values or more.
+    /// 512, and each 256 values or more.
     pub fn of_rows(
         alloc: Global,
         first: Rows<'a>,
@@ -103,9 +103,9 @@ impl<'a> Contraction<'a> {
     /// chunk by chunk of 128 products, but for a first one that is packed already: up to 32 rows of
     /// the second, or 128 beside all of the first. That takes a cell of 8 bytes for each product of
     /// these rows, and where numbers don't fit 32 bits one more for each of them. Large operands are
-    /// packed in two chunks at once, up to 256 rows of the second, in four chunks of which they are held,
+    /// packed in two chunks at once, up to 512 rows of the second, in four chunks of which they are held,
     /// beside 32 of the first. That takes up to nine cells for each product of a chunk of these rows,
-    /// and up to 14,336 for the sums.
+    /// and up to 28,672 for the sums.
     pub fn values<A: Allocator>(
         &self,
         alloc: A,

@@ -1,5 +1,5 @@
 //! Ranges of a contraction's values, tile by tile. A tile holds a panel's rows, sixteen or four, of
-//! one column of the result, whose places lie side by side; a band has up to 32, 128 or 256 columns.
+//! one column of the result, whose places lie side by side; a band has up to 32, 128 or 512 columns.
 
 pub(crate) mod halves;
 pub(crate) mod packed_chunk;
@@ -36,7 +36,7 @@ const WIDE_BAND: usize = 128;
 
 /// How many where chunks are taken two by two: so many that to pack the factors of both operands
 /// costs little beside their products.
-const PAIRED_BAND: usize = 256;
+const PAIRED_BAND: usize = 512;
 
 /// How the first operand is packed: how high its panels are, and whether all numbers fit 32 bits.
 #[derive(Clone, Copy, Drop)]
@@ -139,7 +139,7 @@ impl<'a> Tiled<'a> {
     /// How many columns a band has.
     fn band(&self) -> usize
         ensures some { 0 < result }
-        ensures few { result ≤ 256 }
+        ensures few { result ≤ 512 }
     {
         if self.pairs > 0 {
             PAIRED_BAND
@@ -153,7 +153,7 @@ impl<'a> Tiled<'a> {
     /// Writes values of one band from a place of the result on.
     fn fill_band(&self, place: usize, out: &mut [i64]) -> Result<(), AllocError>
         requires some { 0 < length out.old }
-        requires inside { place % self.now.rows + length out.old ≤ 256 * self.now.rows }
+        requires inside { place % self.now.rows + length out.old ≤ 512 * self.now.rows }
         requires within { place + length out.old ≤ tiled_count self.now }
         ensures len { length out.new ≡ length out.old }
         ensures each { OnOk result ((k : ℕ) → k < length out.old
@@ -169,7 +169,7 @@ impl<'a> Tiled<'a> {
     /// Writes the sums of the chunks that are taken two by two.
     fn fill_pairs(&self, place: usize, out: &mut [i64]) -> Result<(), AllocError>
         requires some { 0 < length out.old }
-        requires inside { place % self.now.rows + length out.old ≤ 256 * self.now.rows }
+        requires inside { place % self.now.rows + length out.old ≤ 512 * self.now.rows }
         requires within { place + length out.old ≤ tiled_count self.now }
         ensures len { length out.new ≡ length out.old }
         ensures each { OnOk result ((k : ℕ) → k < length out.old
@@ -186,7 +186,7 @@ impl<'a> Tiled<'a> {
     fn add_chunk(&self, c: usize, place: usize, out: &mut [i64]) -> Result<(), AllocError>
         requires chunk { c < self.now.chunks }
         requires some { 0 < length out.old }
-        requires inside { place % self.now.rows + length out.old ≤ 256 * self.now.rows }
+        requires inside { place % self.now.rows + length out.old ≤ 512 * self.now.rows }
         requires within { place + length out.old ≤ tiled_count self.now }
         ensures len { length out.new ≡ length out.old }
         ensures each { OnOk result ((k : ℕ) → k < length out.old → value_in out.new k
@@ -210,7 +210,7 @@ impl<'a> Tiled<'a> {
         requires panels { IsChunk self.now.packing self.now.first c first.now }
         requires chunk { c < self.now.chunks }
         requires some { 0 < length out.old }
-        requires inside { place % self.now.rows + length out.old ≤ 256 * self.now.rows }
+        requires inside { place % self.now.rows + length out.old ≤ 512 * self.now.rows }
         requires within { place + length out.old ≤ tiled_count self.now }
         ensures len { length out.new ≡ length out.old }
         ensures each { OnOk result ((k : ℕ) → k < length out.old → value_in out.new k

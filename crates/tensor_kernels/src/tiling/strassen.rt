@@ -38,7 +38,7 @@ const ROWS: usize = 256;
 
 /// From so many columns on, of which each range has many: each packs all of the first operand for
 /// itself, where else it is packed once.
-const COLUMNS: usize = 1024;
+const COLUMNS: usize = 512;
 
 /// How many products two chunks have.
 const PAIR: usize = 256;
@@ -98,7 +98,7 @@ impl Tiled<'_> {
     ) -> Result<(), AllocError>
         requires group { group * 2 < self.now.pairs }
         requires some { 0 < length out.old }
-        requires inside { place % self.now.rows + length out.old ≤ 256 * self.now.rows }
+        requires inside { place % self.now.rows + length out.old ≤ 512 * self.now.rows }
         requires within { place + length out.old ≤ tiled_count self.now }
         ensures len { length out.new ≡ length out.old }
         ensures each { OnOk result ((k : ℕ) → k < length out.old → value_in out.new k
@@ -128,7 +128,7 @@ impl Tiled<'_> {
         columns: usize,
     ) -> Result<Vec<Factors>, AllocError>
         requires some { 0 < columns }
-        requires few { columns ≤ 256 }
+        requires few { columns ≤ 512 }
         requires there { column + columns ≤ row_count self.now.second }
         requires whole { (first + count) * 256 ≤ row_length self.now.first }
         ensures count { IfOk result (λ factors. length factors.items ≡ count) }
@@ -145,7 +145,7 @@ impl Tiled<'_> {
     /// The same of one pair.
     fn factors_at(&self, pair: usize, column: usize, columns: usize) -> Result<Factors, AllocError>
         requires some { 0 < columns }
-        requires few { columns ≤ 256 }
+        requires few { columns ≤ 512 }
         requires there { column + columns ≤ row_count self.now.second }
         requires whole { (pair + 1) * 256 ≤ row_length self.now.first }
         ensures { IfOk result (IsOfColumns self.now column columns pair) }

@@ -9,7 +9,7 @@ pub(crate) struct Half {
     pub(crate) height: usize,
     ghost some: { 0 < height },
     ghost low: { height ≤ 16 },
-    ghost few: { panels * height ≤ 128 },
+    ghost few: { panels * height ≤ 256 },
 }
 
 impl Half {
@@ -18,7 +18,7 @@ impl Half {
     /// How many cells a quarter has.
     pub(crate) fn size(self) -> usize
         ensures cells { result ≡ half_size self }
-        ensures few { result ≤ 16384 }
+        ensures few { result ≤ 32768 }
     {
         self.panels * (128 * self.height)
     }

@@ -31,7 +31,7 @@ impl Products {
 
     /// Room for those of so many columns.
     pub(crate) fn of(alloc: Global, n: usize) -> Result<Products, AllocError>
-        requires { n ≤ 128 }
+        requires { n ≤ 256 }
         ensures { IfOk result (AreLong (16 * n)) }
     {
         Ok(Products {
@@ -48,7 +48,7 @@ impl Products {
     /// Adds the products of the factors of sixteen rows and of so many columns: those of pair 0 are
     /// put there, those of later ones added.
     pub(crate) fn add(&mut self, pair: usize, rows: &Factors, columns: &Factors, n: usize)
-        requires few { n ≤ 128 }
+        requires few { n ≤ 256 }
         requires long { AreLong (16 * n) self.old }
         requires rows { ArePanels 16 1 rows.now }
         requires columns { ArePanels 1 n columns.now }
@@ -66,7 +66,7 @@ impl Products {
 
 /// Adds the sums of 128 products of each of sixteen rows and each of n columns.
 fn add_product(pair: usize, rows: &Panels, columns: &Panels, n: usize, sums: &mut [i64])
-    requires few { n ≤ 128 }
+    requires few { n ≤ 256 }
     requires long { length sums.old ≡ 16 * n }
     requires rows { IsPanels 16 1 rows.now }
     requires columns { IsPanels 1 n columns.now }
