@@ -53,7 +53,7 @@ impl<'a> Contraction<'a> {
     /// more than 128, the first is packed: a cell of 8 bytes for each value, up to a multiple of
     /// sixteen or four rows, and where not all values of both fit 32 bits a number for each of these
     /// rows and each chunk of 128 products. Then it isn't where the first has 256 rows, the second
-    /// 512, and each 256 values or more.
+    /// 1,024, and each 256 values or more.
     pub fn of_rows(
         alloc: Global,
         first: Rows<'a>,

@@ -38,7 +38,7 @@ const ROWS: usize = 256;
 
 /// From so many columns on, of which each range has many: each packs all of the first operand for
 /// itself, where else it is packed once.
-const COLUMNS: usize = 512;
+const COLUMNS: usize = 1024;
 
 /// How many products two chunks have.
 const PAIR: usize = 256;

@@ -13,14 +13,11 @@ const COLUMNS: u64 = 32;
 /// worker and no more.
 const FEW_COLUMNS: u64 = 128;
 
-/// From how many columns on each leaf may do so again, and how many of them it has then at least, where
-/// there are as many for each worker.
-const PAIRED_COLUMNS: u64 = 512;
-const PAIRED: u64 = 64;
-
-/// From how many columns on a leaf has more of them: so many at most, or half as many at least, that
-/// packing takes little of its time.
+/// From how many columns on each leaf does so again.
 const MANY_COLUMNS: u64 = 1024;
+
+/// How many columns it has then at most, or half as many at least: so many that packing takes little
+/// of its time.
 const WIDE: u64 = 256;
 
 /// What leaves are sized for: so many workers, which take at most a block of places at a time.
@@ -50,10 +47,8 @@ impl Grain {
         let rows = rows.max(1);
         let all = values.div_ceil(rows);
         let shares = self.shares(values.max(places));
-        let columns = if all < PAIRED_COLUMNS {
+        let columns = if all < MANY_COLUMNS {
             self.narrow(all, shares, rows)
-        } else if all < MANY_COLUMNS {
-            self.medium(all, shares)
         } else {
             self.wide(all, shares)
         };
@@ -80,15 +75,6 @@ impl Grain {
             shares
         };
         all.div_ceil(shares).min((self.block / rows).max(COLUMNS))
-    }
-
-    /// How many columns a leaf has that may pack the first operand, of so many that there are some such
-    /// leaves for each worker.
-    fn medium(self, all: u64, shares: u64) -> u64
-        requires shares { 0 < shares }
-    {
-        let least = PAIRED.min(all.div_ceil(self.workers.max(1)));
-        all.div_ceil(shares).max(least)
     }
 
     /// How many of many columns a leaf has that packs the first operand: as many as there are for each
