@@ -19,8 +19,8 @@ pub(crate) mod quarters;
 
 ghost use Rattle.std.specs.Prelude.{◌≡◌, ℕ, ◌*◌, ◌+◌, ◌+ℤ◌, ◌%◌, ◌<◌, ◌≤◌, length};
 ghost use Rattle.std.specs.Prelude.{IfOk, OnOk};
-ghost use Rattle.tensor_kernels.specs.Rows.{row_count, row_length};
 ghost use Rattle.std.specs.Int.{div_ceil};
+ghost use Rattle.tensor_kernels.specs.Rows.{row_count, row_length};
 ghost use Rattle.tensor_values.specs.Values.{value_in};
 
 use crate::rows::part::RowsPart;
@@ -43,8 +43,8 @@ const COLUMNS: usize = 1024;
 /// How many products two chunks have.
 const PAIR: usize = 256;
 
-/// Of how many pairs of chunks the products are added up before a block is written: its places lie far
-/// apart, but the factors of the band's columns are held for all these pairs.
+/// Of how many pairs of chunks the products are added up before their sums are written to the result,
+/// whose columns lie far apart. The factors of a band's columns are held for all of these.
 const GROUP: usize = 2;
 
 /// How often two chunks of so many products are taken at once, where there are so many rows and
