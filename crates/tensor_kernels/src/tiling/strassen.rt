@@ -4,11 +4,11 @@
 //!
 //! ```text
 //! 32 rows of the first operand,
-//!   two chunks, packed      ──> four quarters ──> seven factors ─┐
-//!                                                                ├─> seven products ──> a block
-//! a band of columns,        ──> four quarters ──> seven factors ─┘   of 16 rows and   of the result
-//!   once for all rows                                                half the band,
-//!                                                                    of some pairs of chunks
+//!   two chunks, packed   ─> four quarters ─> seven factors ─┐
+//!                                                           ├─> seven products ─> a block
+//! a band of columns,     ─> four quarters ─> seven factors ─┘   of 16 rows and
+//!   once for all rows                                           half the band, of
+//!                                                               some pairs of chunks
 //! ```
 
 pub(crate) mod block;
@@ -43,8 +43,8 @@ const COLUMNS: usize = 1024;
 /// How many products two chunks have.
 const PAIR: usize = 256;
 
-/// Of how many pairs of chunks the products are added up before their sums are written to the result,
-/// whose columns lie far apart. The factors of a band's columns are held for all of these.
+/// Of how many pairs of chunks the products are added up before their sums are written to the
+/// result, whose columns lie far apart. The factors of a band's columns are held for all of these.
 const GROUP: usize = 2;
 
 /// How often two chunks of so many products are taken at once, where there are so many rows and
@@ -181,7 +181,8 @@ impl Tiled<'_> {
         Ok(())
     }
 
-    /// Writes those of block b of the rows. All else stays. What the products were is of no account.
+    /// Writes those of block b of the rows. All else stays. What the products were is of no
+    /// account.
     fn add_block(
         &self,
         b: usize,
