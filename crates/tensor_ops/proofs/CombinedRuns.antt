@@ -5,12 +5,9 @@ use Rattle.std.specs.List.{range_with_len}
 use Rattle.std.proofs.lemmas.Nat.{column_fits}
 use Rattle.tensor_walks.specs.Folds.{folded, run_folded}
 use Rattle.tensor_values.specs.Values.{value_in}
-use Rattle.tensor_ops.specs.InRuns.{run_whole}
 use Rattle.tensor_values.specs.Combining.{unit}
-use Rattle.tensor_ops.specs.ValueRuns.{run_value, run_combined}
-use Rattle.tensor_ops.specs.declared.part_evaluator.in_runs.InRuns.TheVariants.{Combined}
+use Rattle.tensor_ops.specs.Runs.{value_in_run}
 use Rattle.tensor_values.specs.declared.reducer.Reducer.{Reducer}
-use Rattle.tensor_ops.specs.declared.part_evaluator.value_runs.ValueRuns.{ValueRuns}
 use Rattle.tensor_walks.proofs.Folding.{folded-ext}
 use Rattle.tensor_ops.proofs.PartValues.{piece-value}
 use Rattle.tensor_values.proofs.Runs.{map-shifted}
@@ -42,12 +39,14 @@ module _ (r : Reducer) where
       ∙ piece-value f (n * first) (n * count) items (q + n * k) same inside ∙ ap f there))
 
   -- whole runs give what they give from the first value on
-  pub whole-runs : (runs : ValueRuns) (first count : ℕ)
-      → map (run_combined r runs) (range_with_len first count)
-      ≡ map (run_whole (Combined r runs)) (range_with_len first count)
-  whole-runs runs first count =
-      map-shifted (run_combined r runs) (run_whole (Combined r runs)) first first count
+  pub whole-runs : (at : ℕ → ℤ) (n first count : ℕ)
+      → map (run_folded r at n) (range_with_len first count)
+      ≡ map (λ x. folded r (unit r) (λ q. value_in_run at n x (0 + q)) n)
+      (range_with_len first count)
+  whole-runs at n first count =
+      map-shifted (run_folded r at n) (λ x. folded r (unit r) (λ q. value_in_run at n x (0 + q)) n)
+      first first count
       (λ k below.
-      folded-ext r (unit r) (run_value runs (first + k))
-      (λ q. run_value runs (first + k) (0 + q)) runs.length
-      (λ q in_run. ap (run_value runs (first + k)) (omega arith)))
+      folded-ext r (unit r) (value_in_run at n (first + k))
+      (λ q. value_in_run at n (first + k) (0 + q)) n
+      (λ q in_run. ap (value_in_run at n (first + k)) (omega arith)))

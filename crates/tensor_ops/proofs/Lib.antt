@@ -6,8 +6,10 @@ pub mod Convolved
 pub mod Evaluated
 pub mod PartValues
 pub mod Placings
+pub mod ReducedRuns
 pub mod SameTensors
 pub mod Settled
+pub mod Shared
 pub mod SplicedPlacings
 pub mod Worked
 pub mod Zeroes

@@ -24,25 +24,25 @@ use Rattle.tensor_values.specs.Values.{value_in}
 use Rattle.tensor_ops.specs.Placing.{Gives, meaning_at}
 use Rattle.tensor_kernels.specs.Products.{sum_to}
 use Rattle.tensor_terms.specs.Reduction.{are_axes}
-use Rattle.tensor_values.specs.Combining.{combine, unit}
 use Rattle.tensor_terms.specs.Result.{dims_of, shape_of}
-use Rattle.tensor_terms.specs.Term.{Term, unary, binary, reduce, contract, shuffle}
+use Rattle.tensor_terms.specs.Term.{Term, binary, contract, shuffle}
 use Rattle.tensor_terms.specs.Value.{value}
-use Rattle.tensor_ops.specs.ValueRuns.{run_value, LieInRuns}
-use Rattle.tensor_terms.specs.Woven.{among, others, dims_at, other_dims, woven}
-use Rattle.tensor_ops.specs.declared.part_evaluator.in_runs.InRuns.TheVariants.{Combined, Multiplied}
+use Rattle.tensor_ops.specs.Runs.{LieInRuns}
+use Rattle.tensor_ops.specs.ValueRuns.{run_value}
+use Rattle.tensor_terms.specs.Woven.{others, dims_at, other_dims, woven}
+use Rattle.tensor_ops.specs.declared.part_evaluator.in_runs.InRuns.TheVariants.{Multiplied}
 use Rattle.tensor_ops.specs.declared.placed.Placed.{Placed}
 use Rattle.tensor_values.specs.declared.reducer.Reducer.{Reducer}
 use Rattle.tensor_ops.specs.declared.part_evaluator.value_runs.ValueRuns.{ValueRuns}
 use Rattle.tensor_operands.proofs.Contractions.{fold-sum_to}
-use Rattle.tensor_terms.proofs.Dropped.{axes_first, other_dims-among}
+use Rattle.tensor_terms.proofs.Dropped.{axes_first}
 use Rattle.tensor_walks.proofs.Folding.{folded-ext, folded-append}
-use Rattle.tensor_terms.proofs.OtherAxes.{are_axes-among}
 use Rattle.tensor_ops.proofs.Placings.{gives-index}
 use Rattle.tensor_kernels.proofs.ProductSums.{sum_to-ext, sum_to-append}
 use Rattle.tensor_values.proofs.Runs.{map-shifted}
 use Rattle.tensor_terms.proofs.Splits.{size_of-append, dims_at-range}
-use Rattle.tensor_terms.proofs.Terms.{reduced-known, contracted-known, contracted-parts}
+use Rattle.tensor_terms.proofs.SameValues.{Agree}
+use Rattle.tensor_terms.proofs.Terms.{contracted-known, contracted-parts}
 use Rattle.tensor_terms.proofs.TwoParts.{shuffle-first, dims-first, part-below, woven-moved}
 use Rattle.tensor_terms.proofs.TwoParts.{IsIndexOf-parts}
 use Rattle.tensor_terms.proofs.Weaving.{woven-parts}
@@ -148,85 +148,52 @@ module _ (axes ds es : List ℕ) (f : List ℕ → ℤ) (legal : are_axes (lengt
         ap size_of fronted-dims ∙ ap size_of (dims-first axes ds legal)
         ∙ size_of-append (dims_at axes ds) (other_dims axes ds)
 
-    pub lie-in-runs : (runs : ValueRuns)
-        → Gives runs.placed es (λ index. f (moved (shuffle (axes_first axes (length ds))) ds index))
-        → runs.length ≡ size_of (dims_at axes ds) → runs.count ≡ size_of (other_dims axes ds)
-        → LieInRuns runs ds axes f
-    lie-in-runs runs gives long many = record {
+    pub lie-in-runs : (at : ℕ → ℤ) (n count : ℕ)
+        → ((p : ℕ) → p < size_of es
+        → at p ≡ f (moved (shuffle (axes_first axes (length ds))) ds (index_of es p)))
+        → n ≡ size_of (dims_at axes ds) → count ≡ size_of (other_dims axes ds)
+        → LieInRuns at n count ds axes f
+    lie-in-runs at n count each long many = record {
       long = long;
       many = many;
       each = λ x q in_others in_axes.
-          let n : ℕ = size_of (dims_at axes ds) in
-          let at : q + n * x < size_of es =
+          let m : ℕ = size_of (dims_at axes ds) in
+          let below : q + m * x < size_of es =
           omega (arith, ap size_of fronted-dims, part-below axes ds legal q x in_axes in_others) in
-          ap (λ k. meaning runs.placed (q + k * x)) long
-          ∙ gives.means (q + n * x) at
-          ∙ ap (λ d. f (moved (shuffle (axes_first axes (length ds))) ds (index_of d (q + n * x))))
+          ap (λ k. at (q + k * x)) long
+          ∙ each (q + m * x) below
+          ∙ ap (λ d. f (moved (shuffle (axes_first axes (length ds))) ds (index_of d (q + m * x))))
           fronted-dims
           ∙ ap f (woven-moved axes ds legal q x in_axes);
     }
+
+-- which are also those of a function that agrees with it
+lie-same : (at : ℕ → ℤ) (n count : ℕ) (ds axes : List ℕ) (f g : List ℕ → ℤ)
+    → are_axes (length ds) axes ≡ true → LieInRuns at n count ds axes f → Agree ds f g
+    → LieInRuns at n count ds axes g
+lie-same at n count ds axes f g legal lies same = record {
+  long = lies.long;
+  many = lies.many;
+  each = λ x q in_others in_axes.
+      lies.each x q in_others in_axes
+      ∙ same (woven axes ds (index_of (dims_at axes ds) q) (index_of (other_dims axes ds) x))
+      (IsIndexOf-parts axes ds legal q x in_axes in_others);
+}
 
 module _ (inputs : List Contents) where
   -- the value that a run has, where the operand was placed
   run-term : (t : Term) (operand : Placed) (ds axes : List ℕ) (runs : ValueRuns)
       → are_axes (length (shape_of t inputs)) axes ≡ true
       → Gives operand ds (value t inputs) → ds ≡ shape_of t inputs
-      → LieInRuns runs ds axes (meaning_at operand ds)
-      → LieInRuns runs (shape_of t inputs) axes (value t inputs)
+      → LieInRuns (meaning runs.placed) runs.length runs.count ds axes (meaning_at operand ds)
+      → LieInRuns (meaning runs.placed) runs.length runs.count (shape_of t inputs) axes
+      (value t inputs)
   run-term t operand ds axes runs legal gives shape lies =
-      let moved_to : LieInRuns runs (shape_of t inputs) axes (meaning_at operand (shape_of t inputs)) =
-      subst (λ d. LieInRuns runs d axes (meaning_at operand d)) shape lies in
-      let there : Gives operand (shape_of t inputs) (value t inputs) =
-      subst (λ d. Gives operand d (value t inputs)) shape gives in
-      record {
-        long = moved_to.long;
-        many = moved_to.many;
-        each = λ x q in_others in_axes.
-            moved_to.each x q in_others in_axes
-            ∙ gives-index operand (shape_of t inputs) (value t inputs)
-            (woven axes (shape_of t inputs) (index_of (dims_at axes (shape_of t inputs)) q)
-            (index_of (other_dims axes (shape_of t inputs)) x)) there
-            (IsIndexOf-parts axes (shape_of t inputs) legal q x in_axes in_others);
-      }
-
-  -- the parts of a reduction
-  pub gives-reduced : (t : Term) (r : Reducer) (axes ds xs : List ℕ) (operand : Placed)
-      (runs : ValueRuns)
-      → IsOk (dims_of highest_rank (unary (reduce r axes) t) inputs)
-      → Gives operand ds (value t inputs) → ds ≡ shape_of t inputs
-      → xs ≡ among axes (length ds) → LieInRuns runs ds xs (meaning_at operand ds)
-      → GivesParts (Combined r runs) (unary (reduce r axes) t) inputs
-  gives-reduced t r axes ds xs operand runs has_dims gives shape dropped lies =
-      let es : List ℕ = shape_of t inputs in
-      let ys : List ℕ = among axes (length es) in
-      let known = reduced-known inputs r axes t has_dims in
-      let same : xs ≡ ys = dropped ∙ ap (λ d. among axes (length d)) shape in
-      let at : LieInRuns runs es ys (value t inputs) =
-      run-term t operand ds ys runs (are_axes-among axes (length es)) gives shape
-      (subst (λ l. LieInRuns runs ds l (meaning_at operand ds)) same lies) in
-      let others = other_dims-among es axes in
-      record {
-        lengths = tt;
-        inner = at.long;
-        places = at.many ∙ ap size_of others ∙ ap size_of (sym known.shape);
-        parts = λ p first count below within.
-            let in_size : first + count ≤ size_of (dims_at ys es) = within in
-            let is : List ℕ = index_of (shape_of (unary (reduce r axes) t) inputs) p in
-            let is_at : index_of (other_dims ys es) p ≡ is =
-            ap (λ d. index_of d p) (others ∙ sym known.shape) in
-            let inside : p < size_of (other_dims ys es) =
-            omega (arith, ap size_of others, ap size_of known.shape) in
-            ap (fold (combine r) (unit r))
-            (map-shifted (λ q. run_value runs p (first + q))
-            (λ k. value t inputs (woven ys es (index_of (dims_at ys es) k) is)) 0 first count
-            (λ k in_count.
-            let here : first + (0 + k) ≡ first + k = omega arith in
-            ap (run_value runs p) here
-            ∙ at.each p (first + k) inside (omega arith)
-            ∙ ap (λ l. value t inputs (woven ys es (index_of (dims_at ys es) (first + k)) l)) is_at)
-            ∙ sym (map-map (λ js. value t inputs (woven ys es js is))
-            (index_of (dims_at ys es)) (range_with_len first count)));
-      }
+      subst (λ d. LieInRuns (meaning runs.placed) runs.length runs.count d axes (value t inputs))
+      shape
+      (lie-same (meaning runs.placed) runs.length runs.count ds axes (meaning_at operand ds)
+      (value t inputs) (rw shape legal) lies
+      (λ index within. gives-index operand ds (value t inputs) index gives within))
 
   -- the parts of a contraction
   pub gives-contracted : (t u : Term) (pairs : List (ℕ × ℕ)) (ds es xs ys : List ℕ)
@@ -234,8 +201,10 @@ module _ (inputs : List Contents) where
       → IsOk (dims_of highest_rank (binary (contract pairs) t u) inputs)
       → Gives operand ds (value t inputs) → ds ≡ shape_of t inputs
       → Gives other es (value u inputs) → es ≡ shape_of u inputs
-      → xs ≡ firsts pairs → LieInRuns a ds xs (meaning_at operand ds)
-      → ys ≡ seconds pairs → LieInRuns b es ys (meaning_at other es)
+      → xs ≡ firsts pairs
+      → LieInRuns (meaning a.placed) a.length a.count ds xs (meaning_at operand ds)
+      → ys ≡ seconds pairs
+      → LieInRuns (meaning b.placed) b.length b.count es ys (meaning_at other es)
       → GivesParts (Multiplied a b) (binary (contract pairs) t u) inputs
   gives-contracted t u pairs ds es xs ys operand other a b has_dims gives shape gives_other
       shape_other is_xs lies is_ys lies_other =
@@ -243,12 +212,14 @@ module _ (inputs : List Contents) where
       let e : List ℕ = shape_of u inputs in
       let known = contracted-known inputs pairs t u has_dims in
       let paired : dims_at (firsts pairs) d ≡ dims_at (seconds pairs) e = known.known.paired in
-      let left : LieInRuns a d (firsts pairs) (value t inputs) =
+      let left : LieInRuns (meaning a.placed) a.length a.count d (firsts pairs) (value t inputs) =
       run-term t operand ds (firsts pairs) a known.known.first gives shape
-      (subst (λ l. LieInRuns a ds l (meaning_at operand ds)) is_xs lies) in
-      let right : LieInRuns b e (seconds pairs) (value u inputs) =
+      (subst (λ l. LieInRuns (meaning a.placed) a.length a.count ds l (meaning_at operand ds))
+      is_xs lies) in
+      let right : LieInRuns (meaning b.placed) b.length b.count e (seconds pairs) (value u inputs) =
       run-term u other es (seconds pairs) b known.known.second gives_other shape_other
-      (subst (λ l. LieInRuns b es l (meaning_at other es)) is_ys lies_other) in
+      (subst (λ l. LieInRuns (meaning b.placed) b.length b.count es l (meaning_at other es))
+      is_ys lies_other) in
       let kept : List ℕ = other_dims (firsts pairs) d in
       let rest : List ℕ = other_dims (seconds pairs) e in
       record {

@@ -21,9 +21,11 @@ pub mod Evaluator
 pub mod PartEvaluator
 pub mod Parts
 -- for private clauses alone
+pub mod ContractedRuns
 pub mod InRuns
 pub mod Meaning
 pub mod Placing
 pub mod Root
+pub mod Runs
 pub mod Settling
 pub mod ValueRuns

@@ -2,8 +2,10 @@
 use Rattle.std.specs.Prelude.{◌≡◌, ℕ, ℤ, ◌+◌, ◌<◌, ◌≤◌, List, true}
 use Rattle.tensor_shape.specs.Index.{size_of, IsIndexOf, place, index_of}
 use Rattle.tensor_shape.specs.Legal.{most_elements}
+use Rattle.tensor_kernels.specs.Contracting.{contraction_value}
 use Rattle.tensor_operands.specs.Axes.{are_along, by_steps}
 use Rattle.tensor_ops.specs.Meaning.{meaning, count_of, IsSound}
+use Rattle.tensor_kernels.specs.declared.contraction.Contraction.{Contraction}
 use Rattle.tensor_ops.specs.declared.placed.Placed.{Placed}
 use Rattle.tensor_walks.specs.declared.walk.Axis.{Axis}
 
@@ -27,6 +29,10 @@ pub record IsJoined (placed other : Placed) (f : ℕ → ℤ) : Type 0 where
 -- the value at an index list of these dims
 abbrev pub meaning_at : Placed → List ℕ → List ℕ → ℤ
 meaning_at placed ds index = meaning placed (place ds index)
+
+-- the value of a contraction at an index list of its result dims
+abbrev pub contraction_at : Contraction → List ℕ → List ℕ → ℤ
+contraction_at c ds index = contraction_value c (place ds index)
 
 -- a placed expression of these dims, read along axes from a start in another one
 pub record IsView (inner : Placed) (start : ℕ) (axes : List Axis)

@@ -1,5 +1,6 @@
 //! Parts of the values of reductions and contractions.
 
+pub(crate) mod contracted_runs;
 pub(crate) mod in_runs;
 pub(crate) mod value_runs;
 
@@ -23,7 +24,8 @@ use tensor_terms::{Expr, Inputs, Tensor, Tensors};
 /// A reduction or a contraction that has result dims, over its inputs, made ready to be evaluated
 /// by parts of its values: what some of the index lists give that a value is over. It is made once;
 /// all who work on parts of it share it. Its operands are worked out as parts are asked for, so a
-/// part takes no memory but for a few pieces of 1,024 values.
+/// part takes no memory but for a few pieces of 1,024 values, or, where a reduction reads a
+/// contraction along its first axes, for those values of the contraction that it is over.
 #[derive(Drop)]
 pub struct PartEvaluator<'a> {
     alloc: Global,
@@ -46,7 +48,8 @@ impl<'a> PartEvaluator<'a> {
     /// An evaluator of the parts of a reduction or a contraction, where other tensors stand behind
     /// the inputs: the first of them has the number of inputs for its own. Reductions and
     /// contractions below are worked out here, and operands of broadcasts, at most 32,768 values of
-    /// them.
+    /// them. But a contraction that a reduction reads along its first axes is only made ready here,
+    /// and worked out part by part.
     pub fn over(
         alloc: Global,
         expr: &'a Expr,
@@ -95,7 +98,8 @@ impl<'a> PartEvaluator<'a> {
 
     /// The values at the places from the first to before the last, in order, each what all index
     /// lists give that it is over. Takes memory for them. Where they are over few index lists, many
-    /// are worked out together.
+    /// are worked out together; and all are where a reduction reads a contraction along its first
+    /// axes, which takes memory for all values of the contraction that they are over.
     pub fn wholes<A: Allocator>(
         &self,
         alloc: A,

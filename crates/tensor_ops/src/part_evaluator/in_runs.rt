@@ -1,20 +1,29 @@
-//! Reductions and contractions whose operands are placed in runs: parts of their values are worked
-//! out from parts of runs.
+//! Reductions and contractions whose operands lie in runs: parts of their values are worked out
+//! from parts of runs.
 
 ghost use Rattle.std.specs.Prelude.{◌≡◌, ◌<◌, ◌≤◌, ◌+◌, ◌-◌, ℕ, length, map, IsTrue, IsOk, IfOk};
 ghost use Rattle.std.specs.List.{range_with_len};
+ghost use Rattle.tensor_shape.specs.Index.{size_of};
 ghost use Rattle.tensor_shape.specs.Legal.{highest_rank};
+ghost use Rattle.tensor_kernels.specs.Contracting.{contraction_count};
+ghost use Rattle.tensor_ops.specs.Meaning.{count_of, IsSound};
 ghost use Rattle.tensor_ops.specs.Parts.{has_parts};
+ghost use Rattle.tensor_ops.specs.Placing.{contraction_at, meaning_at};
 ghost use Rattle.tensor_terms.specs.Result.{dims_of};
 ghost use Rattle.tensor_terms.specs.Tensors.{tensors_in};
-ghost use Rattle.tensor_terms.specs.Term.{has_inputs};
+ghost use Rattle.tensor_terms.specs.Term.{has_inputs, unary, reduce};
 ghost use Rattle.tensor_terms.specs.Tree.{term_of};
 
 use crate::evaluator::root::KEPT;
-use crate::part_evaluator::value_runs::ValueRuns;
+use crate::part_evaluator::contracted_runs::ContractedRuns;
+use crate::part_evaluator::value_runs::{ValueRuns, come_first};
 use crate::placed::PIECE;
+use crate::placing::part::Part;
+use crate::placing::ready::{contraction_of, worked_out};
 use crate::placing::{place, place_two};
 use std::alloc::{AllocError, Allocator, Global};
+use tensor_kernels::Contraction;
+use tensor_shape::Dims;
 use tensor_terms::{Binary, Expr, Node, Tensors, Unary, all_among, paired_axes};
 use tensor_values::Reducer;
 
@@ -23,13 +32,15 @@ use tensor_values::Reducer;
 pub(crate) enum InRuns<'a> {
     /// The values of a run are combined.
     Combined(Reducer, ValueRuns<'a>),
+    /// The values of a run of a contraction are combined.
+    Contracted(Reducer, ContractedRuns<'a>),
     /// The products of those of two runs are added up.
     Multiplied(ValueRuns<'a>, ValueRuns<'a>),
 }
 
 impl<'a> InRuns<'a> {
     ghost use Rattle.tensor_ops.specs.InRuns.{run_length, run_places, run_part, run_whole};
-    ghost use Rattle.tensor_ops.specs.InRuns.{HaveOneLength, GivesParts};
+    ghost use Rattle.tensor_ops.specs.InRuns.{HaveOneLength, GivesParts, GivesReduced};
 
     /// The runs of a reduction or a contraction.
     pub(crate) fn of(
@@ -43,15 +54,12 @@ impl<'a> InRuns<'a> {
         ensures { IfOk result (λ r.
             GivesParts r (term_of expr.now) (tensors_in tensors.entry)) }
     {
-        let mut room = KEPT;
         match expr.node() {
             Node::Unary(Unary::Reduce(reducer, axes), operand) => {
-                let operand = place(alloc, operand, tensors, &mut room)?;
-                let dropped = all_among(axes, operand.dims.rank());
-                let runs = ValueRuns::along(alloc, dropped.as_slice(), operand, &mut room)?;
-                Ok(InRuns::Combined(reducer, runs))
+                InRuns::of_reduction(alloc, reducer, axes, operand, tensors)
             }
             Node::Binary(Binary::Contract(pairs), first, second) => {
+                let mut room = KEPT;
                 let (first, second) = place_two(alloc, first, second, tensors, &mut room)?;
                 let (firsts, seconds) = paired_axes(pairs, &first.dims).unwrap();
                 let left = ValueRuns::along(alloc, firsts.as_slice(), first, &mut room)?;
@@ -62,12 +70,85 @@ impl<'a> InRuns<'a> {
         }
     }
 
+    /// The runs of a reduction.
+    fn of_reduction(
+        alloc: Global,
+        reducer: Reducer,
+        axes: &[u64],
+        operand: &Expr,
+        tensors: Tensors<'a>,
+    ) -> Result<InRuns<'a>, AllocError>
+        requires inputs { IsTrue (has_inputs (term_of operand.now) (length (tensors_in tensors))) }
+        requires dims { IsOk (dims_of highest_rank
+            (unary (reduce reducer axes.now) (term_of operand.now)) (tensors_in tensors)) }
+        ensures { IfOk result (λ r. GivesParts r
+            (unary (reduce reducer axes.now) (term_of operand.now)) (tensors_in tensors.entry)) }
+    {
+        let mut room = KEPT;
+        match operand.node() {
+            Node::Binary(Binary::Contract(pairs), first, second) => {
+                let (first, second) = place_two(alloc, first, second, tensors, &mut room)?;
+                let (contraction, dims) = contraction_of(alloc, pairs, first, second)?;
+                InRuns::of_contraction(alloc, reducer, axes, contraction, dims)
+            }
+            _ => {
+                let operand = place(alloc, operand, tensors, &mut room)?;
+                InRuns::of_values(alloc, reducer, axes, operand, &mut room)
+            }
+        }
+    }
+
+    /// The runs of a reduction of a contraction. Where the dropped axes are its first ones, the
+    /// values of a run lie side by side, and are worked out as they are asked for. Else all are
+    /// worked out here.
+    fn of_contraction(
+        alloc: Global,
+        reducer: Reducer,
+        axes: &[u64],
+        contraction: Contraction<'a>,
+        dims: Dims,
+    ) -> Result<InRuns<'a>, AllocError>
+        requires { contraction_count contraction ≡ size_of dims }
+        ensures { IfOk result (λ r. GivesReduced r reducer axes.now dims
+            (contraction_at contraction.entry dims)) }
+    {
+        let rank = dims.rank();
+        let dropped = all_among(axes, rank);
+        if come_first(dropped.as_slice(), rank) {
+            let runs = ContractedRuns::along(dropped.as_slice(), contraction, &dims);
+            return Ok(InRuns::Contracted(reducer, runs));
+        }
+        let operand = worked_out(alloc, contraction, dims)?;
+        // A list is read in any order, and takes no room.
+        let mut room = 0;
+        InRuns::of_values(alloc, reducer, axes, operand, &mut room)
+    }
+
+    /// The runs of a reduction of placed values.
+    fn of_values(
+        alloc: Global,
+        reducer: Reducer,
+        axes: &[u64],
+        operand: Part<'a>,
+        room: &mut usize,
+    ) -> Result<InRuns<'a>, AllocError>
+        requires sound { IsSound operand.placed }
+        requires count { count_of operand.placed ≡ size_of operand.dims }
+        ensures { IfOk result (λ r. GivesReduced r reducer axes.now operand.entry.dims
+            (meaning_at operand.entry.placed operand.entry.dims)) }
+    {
+        let dropped = all_among(axes, operand.dims.rank());
+        let runs = ValueRuns::along(alloc, dropped.as_slice(), operand, room)?;
+        Ok(InRuns::Combined(reducer, runs))
+    }
+
     /// How many values a run has.
     pub(crate) fn length(&self) -> usize
         ensures { result ≡ run_length self.now }
     {
         match self {
             InRuns::Combined(_, runs) => runs.length,
+            InRuns::Contracted(_, runs) => runs.length,
             InRuns::Multiplied(first, _) => first.length,
         }
     }
@@ -88,6 +169,7 @@ impl<'a> InRuns<'a> {
     {
         match self {
             InRuns::Combined(reducer, runs) => runs.combined(alloc, *reducer, place, first, last),
+            InRuns::Contracted(reducer, runs) => runs.combined(alloc, *reducer, place, first, last),
             InRuns::Multiplied(left, right) => {
                 let (x, y) = (place % left.count, place / left.count);
                 left.multiplied(alloc, x, right, y, first, last)
@@ -112,6 +194,9 @@ impl<'a> InRuns<'a> {
     {
         match self {
             InRuns::Combined(reducer, runs) if runs.length <= PIECE => {
+                runs.together(alloc, target, *reducer, first, last)
+            }
+            InRuns::Contracted(reducer, runs) => {
                 runs.together(alloc, target, *reducer, first, last)
             }
             _ => self.one_by_one(alloc, target, first, last),

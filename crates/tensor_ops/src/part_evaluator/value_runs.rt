@@ -1,17 +1,18 @@
 //! Values that lie in runs: what is combined into one value of a result lies side by side. They are
 //! worked out as they are asked for, a piece at a time.
 
-ghost use Rattle.std.specs.Prelude.{◌≡◌, ◌<◌, ◌≤◌, ◌+◌, ◌-◌, ◌*◌, ◌*ℤ◌, ◌++◌, length, map};
-ghost use Rattle.std.specs.Prelude.{true, Ok, IsTrue, IfOk, OnOk, vec_len, vec_capacity};
+ghost use Rattle.std.specs.Prelude.{◌≡◌, ◌↔◌, ◌<◌, ◌≤◌, ◌+◌, ◌-◌, ◌*◌, ◌*ℤ◌, ◌++◌, length};
+ghost use Rattle.std.specs.Prelude.{map, true, Ok, IsTrue, IfOk, OnOk, vec_len, vec_capacity};
 ghost use Rattle.std.specs.Cow.{cow_slice_items};
 ghost use Rattle.std.specs.List.{range_with_len};
 ghost use Rattle.tensor_shape.specs.Index.{size_of};
 ghost use Rattle.tensor_shape.specs.Legal.{highest_rank, most_elements};
 ghost use Rattle.tensor_shape.specs.Wrap.{wrap};
 ghost use Rattle.tensor_walks.specs.Folds.{folded};
-ghost use Rattle.tensor_ops.specs.Meaning.{count_of, IsSound, IsSound-prop};
+ghost use Rattle.tensor_ops.specs.Meaning.{meaning, count_of, IsSound, IsSound-prop};
 ghost use Rattle.tensor_terms.specs.Movement.{moved, moved_dims};
 ghost use Rattle.tensor_ops.specs.Placing.{Gives, meaning_at};
+ghost use Rattle.tensor_ops.specs.Runs.{LieInRuns};
 ghost use Rattle.tensor_kernels.specs.Products.{sum_to};
 ghost use Rattle.tensor_terms.specs.Reduction.{are_axes};
 ghost use Rattle.tensor_values.specs.Combining.{unit};
@@ -44,7 +45,7 @@ pub(crate) struct ValueRuns<'a> {
 }
 
 impl<'a> ValueRuns<'a> {
-    ghost use Rattle.tensor_ops.specs.ValueRuns.{run_value, run_combined, LieInRuns};
+    ghost use Rattle.tensor_ops.specs.ValueRuns.{run_value, run_combined};
 
     /// The values of an operand along some of its axes: a run for each index list of the others.
     pub(crate) fn along(
@@ -56,7 +57,8 @@ impl<'a> ValueRuns<'a> {
         requires sound { IsSound operand.placed }
         requires count { count_of operand.placed ≡ size_of operand.dims }
         requires axes { are_axes (length operand.dims) axes.now ≡ true }
-        ensures { IfOk result (λ r. LieInRuns r operand.entry.dims axes.now
+        ensures { IfOk result (λ r. LieInRuns (meaning r.placed) r.length r.count
+            operand.entry.dims axes.now
             (meaning_at operand.entry.placed operand.entry.dims)) }
     {
         let length = dims_at(axes, &operand.dims).size() as usize;
@@ -218,16 +220,25 @@ fn with_axes_first<'a>(
         meaning_at operand.entry.placed operand.entry.dims (moved
         (shuffle (axes.now ++ others axes.now (length operand.entry.dims))) operand.entry.dims index))) }
 {
-    let order = axes_first(axes, operand.dims.rank());
-    if is_in_order(order.as_slice()) {
+    if come_first(axes, operand.dims.rank()) {
         return Ok(operand);
     }
+    let order = axes_first(axes, operand.dims.rank());
     place_movement(alloc, Movement::Shuffle(order.as_slice()), operand, room)
+}
+
+/// Whether these axes, in this order, are the first ones of so many.
+pub(crate) fn come_first(axes: &[u64], rank: usize) -> bool
+    requires few { rank ≤ highest_rank }
+    requires axes { are_axes rank axes.now ≡ true }
+    ensures { IsTrue result ↔ (axes.now ++ others axes.now rank ≡ range_with_len 0 rank) }
+{
+    is_in_order(axes_first(axes, rank).as_slice())
 }
 
 /// Whether these are the numbers from 0 on.
 fn is_in_order(numbers: &[u64]) -> bool
-    ensures { IsTrue result → numbers.now ≡ range_with_len 0 (length numbers.now) }
+    ensures { IsTrue result ↔ (numbers.now ≡ range_with_len 0 (length numbers.now)) }
 {
     for k in 0..numbers.len() {
         if numbers[k] != k as u64 {

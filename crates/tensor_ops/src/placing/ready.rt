@@ -6,7 +6,7 @@ ghost use Rattle.tensor_shape.specs.Index.{size_of};
 ghost use Rattle.tensor_kernels.specs.Contracting.{contraction_count, contraction_value};
 ghost use Rattle.tensor_terms.specs.Contraction.{contracted, contracted_dims};
 ghost use Rattle.tensor_ops.specs.Meaning.{count_of, IsSound};
-ghost use Rattle.tensor_ops.specs.Placing.{Gives, HasValues, meaning_at};
+ghost use Rattle.tensor_ops.specs.Placing.{Gives, HasValues, contraction_at, meaning_at};
 ghost use Rattle.tensor_operands.specs.Reduced.{places_of_result, reduction_at};
 ghost use Rattle.tensor_terms.specs.Reduction.{reduced, reduced_dims};
 
@@ -111,6 +111,20 @@ pub(crate) fn place_contraction<'a>(
         (meaning_at second.entry.placed second.entry.dims))) }
 {
     let (contraction, dims) = contraction_of(alloc, pairs, first, second)?;
+    worked_out(alloc, contraction, dims)
+}
+
+/// A contraction of these result dims that was made ready, worked out.
+pub(crate) fn worked_out<'a>(
+    alloc: Global,
+    contraction: Contraction<'a>,
+    dims: Dims,
+) -> Result<Part<'a>, AllocError>
+    requires { contraction_count contraction ≡ size_of dims }
+    ensures dims { IfOk result (λ r. r.dims ≡ dims) }
+    ensures placed { IfOk result (λ r.
+        Gives r.placed r.dims (contraction_at contraction.entry dims)) }
+{
     let count = dims.size() as usize;
     Ok(Part {
         placed: Placed::Kept(contraction.values(alloc, 0, count)?),

@@ -1,26 +1,25 @@
-use Rattle.std.proofs.Common.{◌-◌, refl, arith}
-use Rattle.tensor_terms.specs.Contraction.{contracted}
+use Rattle.std.proofs.Common.{sym, subst}
 use Rattle.tensor_kernels.specs.Contracting.{contraction_count, contraction_value}
-use Rattle.tensor_ops.specs.Placing.{meaning_at}
-use Rattle.tensor_ops.specs.declared.placed.Placed.TheVariants.{Kept}
-use Rattle.tensor_ops.proofs.Worked.{values-worked, gives-worked}
+use Rattle.tensor_operands.proofs.Outcomes.{IfOk-both}
+use Rattle.tensor_terms.specs.Contraction.{contracted}
+use Rattle.tensor_terms.proofs.SameValues.{Agree}
+use Rattle.tensor_ops.specs.Placing.{contraction_at, meaning_at}
+use Rattle.tensor_ops.proofs.Placings.{gives-other}
+use Rattle.tensor_ops.proofs.Worked.{values-agree}
 use Rattle.tensor_ops.proofs.placing.ready.place_contraction.Goals as goal
 
 pub returns-clause-placed : goal.returns-clause-placed
 returns-clause-placed c =
     let made = c.in_ok-contraction.contraction in
     let rs = c.in_ok-contraction.dims in
-    let values = c.in_ok-values.field-0 in
-    gives-worked (Kept values) values.items rs
-    (contracted c.args.pairs.now c.args.first.dims c.args.second.dims
+    let f = contracted c.args.pairs.now c.args.first.dims c.args.second.dims
     (meaning_at c.args.first.placed c.args.first.dims)
-    (meaning_at c.args.second.placed c.args.second.dims))
-    (record { count = refl; each = λ p. refl }) tt
-    (values-worked (contraction_value made) values.items (contraction_count made)
-    (c.size-count.result - 0) rs (contracted c.args.pairs.now c.args.first.dims c.args.second.dims
-    (meaning_at c.args.first.placed c.args.first.dims)
-    (meaning_at c.args.second.placed c.args.second.dims))
-    c.in_ok-contraction.ensures.values c.in_ok-values.ensures (omega (
-      arith,
-      c.size-count.ensures.value,
-    )))
+    (meaning_at c.args.second.placed c.args.second.dims) in
+    let same : Agree rs (contraction_at made rs) f =
+    values-agree (contraction_count made) (contraction_value made) rs f
+    c.in_ok-contraction.ensures.values in
+    IfOk-both c.worked_out.result _ _ _
+    (λ r gives dims.
+    gives-other r.placed r.dims (contraction_at made rs) f gives
+    (subst (λ d. Agree d (contraction_at made rs) f) (sym dims) same))
+    c.worked_out.ensures.placed c.worked_out.ensures.dims

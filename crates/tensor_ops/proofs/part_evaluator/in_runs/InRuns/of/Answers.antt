@@ -1,38 +1,30 @@
-use Rattle.std.proofs.Common.{◌≡◌, List, length, IsOk, ap, sym, subst, ◌∙◌}
+use Rattle.std.proofs.Common.{◌≡◌, List, IsOk, ap, sym, subst, ◌∙◌}
 use Rattle.tensor_shape.specs.Legal.{highest_rank}
 use Rattle.tensor_terms.specs.Contents.{Contents}
 use Rattle.tensor_terms.specs.Result.{dims_of}
 use Rattle.tensor_terms.specs.Tensors.{tensors_in}
 use Rattle.tensor_terms.specs.Term.{unary, binary, reduce, contract}
 use Rattle.tensor_terms.specs.Tree.{term_of, unary_at, binary_at}
-use Rattle.tensor_terms.specs.Woven.{among}
-use Rattle.tensor_terms.proofs.OtherAxes.{are_axes-among}
-use Rattle.tensor_ops.proofs.PartValues.{gives-reduced, gives-contracted}
+use Rattle.tensor_ops.proofs.PartValues.{gives-contracted}
 use Rattle.tensor_terms.proofs.Terms.{contracted-known}
 use Rattle.tensor_ops.proofs.part_evaluator.in_runs.InRuns.of.Goals as goal
 
-pub returns-in_ok-runs-in-Unary-Reduce-default : goal.returns-in_ok-runs-in-Unary-Reduce-default
-returns-in_ok-runs-in-Unary-Reduce-default c =
+pub of_reduction-requires-clause-dims : goal.of_reduction-requires-clause-dims
+of_reduction-requires-clause-dims c =
     let arm = c.in-Unary-Reduce-default in
-    let inner = c.in_ok-operand-in-Unary-Reduce-default in
     let ts : List Contents = tensors_in c.args.tensors in
     let node : unary (reduce arm.reducer arm.axes.now) (term_of arm.operand.now)
     ≡ term_of c.args.expr.now =
     ap (λ o. unary (unary_at o) (term_of arm.operand.now)) (sym arm.field-0-is) ∙ arm.ensures in
-    let has_dims = subst (λ t. IsOk (dims_of highest_rank t ts)) (sym node) c.requires.dims in
-    rw (← node)
-    (gives-reduced ts (term_of arm.operand.now) arm.reducer arm.axes.now inner.operand.dims
-    c.as_slice.result.now inner.operand.placed c.in_ok-runs-in-Unary-Reduce-default.runs has_dims
-    inner.ensures.placed inner.ensures.dims
-    (c.as_slice.ensures.value ∙ c.all_among-dropped.ensures
-    ∙ ap (λ n. among arm.axes.now n) c.rank.ensures.value)
-    c.in_ok-runs-in-Unary-Reduce-default.ensures)
+    subst (λ t. IsOk (dims_of highest_rank t ts)) (sym node) c.requires.dims
 
-pub along-requires-clause-axes : goal.along-requires-clause-axes
-along-requires-clause-axes c =
-    rw (c.as_slice.ensures.value, c.all_among-dropped.ensures, c.rank.ensures.value)
-    (are_axes-among c.in-Unary-Reduce-default.axes.now
-    (length c.in_ok-operand-in-Unary-Reduce-default.operand.dims))
+pub returns-in-Unary-Reduce-default : goal.returns-in-Unary-Reduce-default
+returns-in-Unary-Reduce-default c =
+    let arm = c.in-Unary-Reduce-default in
+    let node : unary (reduce arm.reducer arm.axes.now) (term_of arm.operand.now)
+    ≡ term_of c.args.expr.now =
+    ap (λ o. unary (unary_at o) (term_of arm.operand.now)) (sym arm.field-0-is) ∙ arm.ensures in
+    rw (← node) c.of_reduction.ensures
 
 pub unwrap-firsts-requires : goal.unwrap-firsts-requires
 unwrap-firsts-requires c =
@@ -62,13 +54,13 @@ returns-in_ok-right-in-Binary-Contract-default-default c =
     rw (← node)
     (gives-contracted ts (term_of arm.first.now) (term_of arm.second.now) arm.pairs.now
     both.first.dims both.second.dims
+    c.as_slice.result.now
     c.as_slice-in-Binary-Contract-default-default.result.now
-    c.as_slice-in-Binary-Contract-default-default-2.result.now
     both.first.placed both.second.placed
     c.in_ok-left-in-Binary-Contract-default-default.left
     c.in_ok-right-in-Binary-Contract-default-default.right
     has_dims both.ensures.first both.ensures.first_dims both.ensures.second both.ensures.second_dims
-    (c.as_slice-in-Binary-Contract-default-default.ensures.value ∙ (rw c.unwrap-firsts.ensures at c.paired_axes.ensures.first))
+    (c.as_slice.ensures.value ∙ (rw c.unwrap-firsts.ensures at c.paired_axes.ensures.first))
     c.in_ok-left-in-Binary-Contract-default-default.ensures
-    (c.as_slice-in-Binary-Contract-default-default-2.ensures.value ∙ (rw c.unwrap-firsts.ensures at c.paired_axes.ensures.second))
+    (c.as_slice-in-Binary-Contract-default-default.ensures.value ∙ (rw c.unwrap-firsts.ensures at c.paired_axes.ensures.second))
     c.in_ok-right-in-Binary-Contract-default-default.ensures)

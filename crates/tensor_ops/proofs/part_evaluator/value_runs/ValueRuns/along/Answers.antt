@@ -1,5 +1,6 @@
 use Rattle.std.proofs.Common.{◌≡◌, ◌*◌, ℕ, List, ap, sym, ◌∙◌, arith}
 use Rattle.tensor_shape.specs.Index.{size_of}
+use Rattle.tensor_ops.specs.Meaning.{meaning}
 use Rattle.tensor_ops.specs.Placing.{meaning_at}
 use Rattle.tensor_terms.specs.Woven.{dims_at, other_dims}
 use Rattle.tensor_ops.proofs.PartValues.{fronted-size, lie-in-runs}
@@ -30,8 +31,10 @@ returns c =
     let axes : List ℕ = c.args.axes.now in
     let ds : List ℕ = c.args.operand.dims in
     let made = c.in_ok-fronted.fronted in
+    let placed = c.in_ok-placed.placed in
+    let gives = gives-after placed made.placed made.dims _ c.in_ok-fronted.ensures.placed
+    c.in_ok-placed.ensures in
     lie-in-runs axes ds made.dims (meaning_at c.args.operand.placed ds) c.requires.axes
-    c.in_ok-fronted.ensures.dims _
-    (gives-after _ made.placed made.dims _ c.in_ok-fronted.ensures.placed c.in_ok-placed.ensures)
+    c.in_ok-fronted.ensures.dims (meaning placed) _ _ gives.means
     (c.size-length.ensures.value ∙ ap size_of c.dims_at.ensures)
     (c.size-count.ensures.value ∙ ap size_of c.other_dims.ensures)

@@ -1,0 +1,18 @@
+-- Values that lie in runs, one run after the other.
+use Rattle.std.specs.Prelude.{◌≡◌, ℕ, ℤ, ◌+◌, ◌*◌, ◌<◌, List}
+use Rattle.tensor_shape.specs.Index.{size_of, index_of}
+use Rattle.tensor_terms.specs.Woven.{dims_at, other_dims, woven}
+
+-- value q of run x, where a run has n values
+abbrev pub value_in_run : (ℕ → ℤ) → ℕ → ℕ → ℕ → ℤ
+value_in_run at n x q = at (q + n * x)
+
+-- so many runs of n values are those of a function at index lists of these dims: a run for each
+-- index list of the other axes, in it a value for each of these axes
+pub record LieInRuns (at : ℕ → ℤ) (n count : ℕ) (ds axes : List ℕ)
+    (f : List ℕ → ℤ) : Type 0 where
+  pub long : n ≡ size_of (dims_at axes ds)
+  pub many : count ≡ size_of (other_dims axes ds)
+  pub each : (x q : ℕ) → x < size_of (other_dims axes ds) → q < size_of (dims_at axes ds)
+      → value_in_run at n x q
+      ≡ f (woven axes ds (index_of (dims_at axes ds) q) (index_of (other_dims axes ds) x))
