@@ -6,6 +6,7 @@ use Rattle.std.proofs.lemmas.Bool.{cases_lt, or_left, or_right, or_cases}
 use Rattle.std.proofs.lemmas.List.{length-append, get_or_append_left, append_assoc}
 use Rattle.std.proofs.Math.Seq.{get_or-append_seam}
 use Rattle.std.specs.Prelude.{nat_eq}
+use Rattle.std.specs.Result.{result_unwrap_or}
 use Rattle.tensor_ops.specs.Index.{IsIndexOf}
 use Rattle.tensor_ops.specs.Contents.{Contents, input_of, nothing, value_at}
 use Rattle.tensor_ops.specs.Legal.{highest_rank}
@@ -35,6 +36,47 @@ IsFusedTensor zero (s ∷ left) all tensor = tensor ≡ tensor_of (term_of_step 
 IsFusedTensor (suc n) (s ∷ left) all tensor =
     (are_reading (length all) (drop (suc n) left) ≡ false)
     × IsFusedTensor n left (all ++ tensor_of (term_of_step s) all ∷ []) tensor
+
+-- a term that gives over what is held what the step behind so many others gives, none of whose
+-- tensors a step behind it reads
+abbrev pub IsFusedTerm : ℕ → List Step → List Contents → List Contents → Term → Type 0
+IsFusedTerm n [] held all t = ⊥
+IsFusedTerm zero (s ∷ left) held all t = IsSameTensor t held (term_of_step s) all
+IsFusedTerm (suc n) (s ∷ left) held all t =
+    (are_reading (length all) (drop (suc n) left) ≡ false)
+    × IsFusedTerm n left held (all ++ tensor_of (term_of_step s) all ∷ []) t
+
+-- what it gives is that tensor
+pub IsFusedTensor-term : (n : ℕ) (left : List Step) (held all : List Contents) (t : Term)
+    → IsFusedTerm n left held all t → IsFusedTensor n left all (tensor_of t held)
+IsFusedTensor-term n [] held all t is = absurd is
+IsFusedTensor-term zero (s ∷ left) held all t is = tensor_of-same t (term_of_step s) held all is
+IsFusedTensor-term (suc n) (s ∷ left) held all t is = (
+  is.0,
+  IsFusedTensor-term n left held (all ++ tensor_of (term_of_step s) all ∷ []) t is.1,
+)
+
+-- and it has the dims of that step
+pub IsFusedTerm-dims : (n : ℕ) (left later : List Step) (held all : List Contents) (t : Term)
+    (s : Step) → AreReady left all → IsFusedTerm n left held all t → drop n left ≡ s ∷ later
+    → dims_of highest_rank t held ≡ Ok (dims_of_step s)
+IsFusedTerm-dims n [] later held all t s ready is here = absurd is
+IsFusedTerm-dims zero (x ∷ left) later held all t s ready is here =
+    let same : x ≡ s = (cc here) in is.dims ∙ ready.0.dims ∙ ap (λ y. Ok (dims_of_step y)) same
+IsFusedTerm-dims (suc n) (x ∷ left) later held all t s ready is here =
+    IsFusedTerm-dims n left later held (all ++ tensor_of (term_of_step x) all ∷ []) t s ready.1 is.1 here
+
+-- terms that give the same tensor as a third
+pub same-through : (s t u : Term) (ss ts us : List Contents) → IsSameTensor s ss t ts
+    → IsSameTensor t ts u us → IsSameTensor s ss u us
+same-through s t u ss ts us first second =
+    let shape : shape_of t ts ≡ shape_of u us = ap (λ r. result_unwrap_or r []) second.dims in
+    record {
+      dims = first.dims ∙ second.dims;
+      values = λ index inside.
+          first.values index (subst (λ d. IsIndexOf d index) (sym shape) inside)
+          ∙ second.values index inside;
+    }
 
 -- a tensor more
 input_of-before : (tensors : List Contents) (t : Contents) (n : ℕ) → n < length tensors
@@ -136,13 +178,31 @@ AreHeld-fused left whole held more t are is =
     (held-read left more held are.0 t for.as_many for.ready
     (λ n r. for.read n (reading-later (suc (length more)) left n r)) (is are.0 for))
 
+-- a term that gives a tensor is read as that is, by the number of the tensor
+pub same-as-read : (u t : Term) (held all : List Contents) (n : ℕ) → IsOk (dims_of highest_rank t all)
+    → n ≡ length all → IsSameTensor u held t all
+    → IsSameTensor u held (input n) (all ++ tensor_of t all ∷ [])
+same-as-read u t held all n has place same =
+    let here : input_of (all ++ tensor_of t all ∷ []) n ≡ tensor_of t all =
+    input_of-there all (tensor_of t all) n place in
+    let shape : (input_of (all ++ tensor_of t all ∷ []) n).dims ≡ shape_of t all =
+    ap (λ x. x.dims) here in
+    record {
+      dims = same.dims ∙ Ok-unwrap (dims_of highest_rank t all) has ∙ ap Ok (sym shape);
+      values = λ index inside.
+          let at : IsIndexOf (shape_of t all) index =
+          subst (λ d. IsIndexOf d index) shape inside in
+          same.values index at ∙ sym (value_at-tensor_of all t index at)
+          ∙ ap (λ x. value_at x index) (sym here);
+    }
+
 -- over what is held a step is ready, and gives its tensor
 module _ (s : Step) (left : List Step) (held all : List Contents)
     (are : AreHeldFor (s ∷ left) held all) where
   read-first : (n : ℕ) → reads n (term_of_step s) ≡ true → input_of held n ≡ input_of all n
   read-first n reading = are.read n (or_left (reads n (term_of_step s)) (are_reading n left) reading)
 
-  same-first : IsSameTensor (term_of_step s) held (term_of_step s) all
+  pub same-first : IsSameTensor (term_of_step s) held (term_of_step s) all
   same-first = same-read held all (term_of_step s) (ap is_ok are.ready.0.dims) read-first
 
   pub IsReady-held : IsReady s held
@@ -176,19 +236,8 @@ module _ (s : Step) (left : List Step) (held all : List Contents)
 
     same-operand : IsSameTensor (term_of_step s) held (input n) more
     same-operand =
-        let u : Term = term_of_step s in
-        let has : IsOk (dims_of highest_rank u all) = ap is_ok are.ready.0.dims in
-        let here : input_of more n ≡ tensor_of u all =
-        input_of-there all (tensor_of u all) n place in
-        let shape : (input_of more n).dims ≡ shape_of u all = ap (λ x. x.dims) here in
-        record {
-          dims = same-first.dims ∙ Ok-unwrap (dims_of highest_rank u all) has ∙ ap Ok (sym shape);
-          values = λ index inside.
-              let at : IsIndexOf (shape_of u all) index =
-              subst (λ d. IsIndexOf d index) shape inside in
-              same-first.values index at ∙ sym (value_at-tensor_of all u index at)
-              ∙ ap (λ x. value_at x index) (sym here);
-        }
+        same-as-read (term_of_step s) (term_of_step s) held all n (ap is_ok are.ready.0.dims) place
+        same-first
 
 -- all that was worked out is held
 held-all : (left : List Step) (all : List Contents) → AreReady left all → AreHeldFor left all all
@@ -206,7 +255,7 @@ module _ (s r : Step) (later : List Step) (held all : List Contents)
   abbrev pub joined-two : Term
   joined-two = fused_with n (term_of_step s) (term_of_step r)
 
-  same-two : IsSameTensor joined-two held (term_of_step r) (more s (r ∷ later) held all are)
+  pub same-two : IsSameTensor joined-two held (term_of_step r) (more s (r ∷ later) held all are)
   same-two =
       same-fused_with held (more s (r ∷ later) held all are) n (term_of_step s) (term_of_step r)
       combining (ReadDirectly-single n (term_of_step r) combining are.ready.1.0.single)
@@ -229,14 +278,9 @@ module _ (s r : Step) (later : List Step) (held all : List Contents)
   dims-two = same-two.dims ∙ are.ready.1.0.dims
 
   -- and gives its tensor
-  pub IsFusedTensor-two : (t : Contents) → t ≡ tensor_of joined-two held
-      → are_reading n later ≡ false
-      → IsFusedTensor 1 (s ∷ r ∷ later) all t
-  IsFusedTensor-two t made unread = (
-    ap (λ k. are_reading k later) (sym place) ∙ unread,
-    made
-        ∙ tensor_of-same joined-two (term_of_step r) held (more s (r ∷ later) held all are) same-two,
-  )
+  pub IsFusedTerm-two : are_reading n later ≡ false
+      → IsFusedTerm 1 (s ∷ r ∷ later) held all joined-two
+  IsFusedTerm-two unread = (ap (λ k. are_reading k later) (sym place) ∙ unread, same-two)
 
 -- a step that so reads both before it
 module _ (s r c : Step) (later : List Step) (held all : List Contents)
@@ -300,11 +344,14 @@ module _ (s r c : Step) (later : List Step) (held all : List Contents)
   pub dims-three : dims_of highest_rank joined-three held ≡ Ok (dims_of_step c)
   dims-three = same-three.dims ∙ dims-inner
 
-  pub IsFusedTensor-three : (t : Contents) → t ≡ tensor_of joined-three held
-      → are_reading n later ≡ false → are_reading (n + 1) later ≡ false
-      → IsFusedTensor 2 (s ∷ r ∷ c ∷ later) all t
-  IsFusedTensor-three t made unread unread_too = (
+  pub IsFusedTerm-three : are_reading n later ≡ false → are_reading (n + 1) later ≡ false
+      → IsFusedTerm 2 (s ∷ r ∷ c ∷ later) held all joined-three
+  IsFusedTerm-three unread unread_too = (
     ap (λ k. are_reading k later) (sym place) ∙ unread,
-    IsFusedTensor-two r c later one one all-one combining (n + 1) place-one t
-        (made ∙ tensor_of-same joined-three inner held one same-three) unread_too,
+    (
+      ap (λ k. are_reading k later) (sym place-one) ∙ unread_too,
+      same-through joined-three inner (term_of_step c) held one
+          (one ++ tensor_of (term_of_step r) one ∷ []) same-three
+          (same-two r c later one one all-one combining (n + 1) place-one),
+    ),
   )

@@ -11,3 +11,4 @@ pub mod Planned
 pub mod Schedules
 pub mod ShardedTensors
 pub mod Sharding
+pub mod StageSteps

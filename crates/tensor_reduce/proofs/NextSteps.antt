@@ -1,15 +1,13 @@
 -- What is worked out next is the tensor of its step, whatever is fused into it.
-use Rattle.std.proofs.Common.{◌≡◌, ℕ, suc, ◌+◌, ◌-◌, ◌<◌, ◌≤◌, ◌^◌, List, [], ◌∷◌, ◌++◌}
+use Rattle.std.proofs.Common.{◌≡◌, ℕ, ◌+◌, ◌-◌, ◌<◌, ◌≤◌, ◌^◌, List, [], ◌∷◌, ◌++◌}
 use Rattle.std.proofs.Common.{true, Ok, length, get_or, take, drop}
 use Rattle.std.proofs.Common.{refl, ap, sym, subst, ◌∙◌, arith}
 use Rattle.std.proofs.lemmas.List.{length-append, length-drop, take_all, append_assoc, append-nil}
-use Rattle.std.proofs.lemmas.List.{drop-drop}
 use Rattle.tensor_ops.specs.Contents.{Contents}
 use Rattle.tensor_ops.specs.Legal.{highest_rank}
 use Rattle.tensor_ops.specs.Result.{dims_of}
 use Rattle.tensor_ops.specs.Term.{has_inputs}
-use Rattle.tensor_ops.specs.Value.{tensor_of}
-use Rattle.tensor_reduce.specs.Held.{AreHeldFor, AreHeld, HasMore}
+use Rattle.tensor_reduce.specs.Held.{AreHeldFor, HasMore}
 use Rattle.tensor_reduce.specs.Next.{IsNextOf, fused_in, last_number}
 use Rattle.tensor_reduce.specs.Next.{next_term, next_dims, next_schedule}
 use Rattle.tensor_reduce.specs.Plan.{term_of_step}
@@ -17,9 +15,9 @@ use Rattle.tensor_reduce.specs.Schedules.{IsScheduleFor}
 use Rattle.tensor_reduce.specs.declared.schedule.next.Next.{Next}
 use Rattle.tensor_reduce.specs.declared.schedule.next.Next.TheVariants.{Alone, Fused, BothFused}
 use Rattle.tensor_reduce.specs.declared.step.Step.{Step}
-use Rattle.tensor_reduce.proofs.Held.{IsFusedTensor, IsReady-held, tensor_of-held, AreHeld-fused}
-use Rattle.tensor_reduce.proofs.Held.{names-two, dims-two, IsFusedTensor-two}
-use Rattle.tensor_reduce.proofs.Held.{names-three, dims-three, IsFusedTensor-three}
+use Rattle.tensor_reduce.proofs.Held.{IsFusedTerm, IsReady-held, same-first}
+use Rattle.tensor_reduce.proofs.Held.{names-two, dims-two, IsFusedTerm-two}
+use Rattle.tensor_reduce.proofs.Held.{names-three, dims-three, IsFusedTerm-three}
 use Rattle.tensor_reduce.proofs.Schedules.{IsScheduleFor-fusing}
 use Rattle.tensor_reduce.proofs.Schedules.{IsFusingFor-combining, IsFusingFor-fused_with}
 
@@ -116,54 +114,18 @@ module _ (left : List Step) (held all : List Contents) (are : AreHeldFor left he
   numbers-next (Fused n s r schedule) is = is.1.small
   numbers-next (BothFused n s r c schedule) is = is.1.small
 
-  pub IsFusedTensor-next : (next : Next) (t : Contents) → IsNextOf left (length held) next
-      → t ≡ tensor_of (next_term next) held → IsFusedTensor (fused_in next) left all t
-  IsFusedTensor-next (Alone s schedule) t is made =
-      subst (λ l. IsFusedTensor 0 l all t) (sym is.steps)
-      (made ∙ tensor_of-held s.now (drop 1 left) held all (there _ is.steps))
-  IsFusedTensor-next (Fused n s r schedule) t is made =
-      subst (λ l. IsFusedTensor 1 l all t) (sym is.1.steps)
-      (IsFusedTensor-two s.now r.now (drop 2 left) held all (there _ is.1.steps)
+  pub IsFusedTerm-next : (next : Next) → IsNextOf left (length held) next
+      → IsFusedTerm (fused_in next) left held all (next_term next)
+  IsFusedTerm-next (Alone s schedule) is =
+      subst (λ l. IsFusedTerm 0 l held all (term_of_step s.now)) (sym is.steps)
+      (same-first s.now (drop 1 left) held all (there _ is.steps))
+  IsFusedTerm-next (Fused n s r schedule) is =
+      subst (λ l. IsFusedTerm 1 l held all (next_term (Fused n s r schedule))) (sym is.1.steps)
+      (IsFusedTerm-two s.now r.now (drop 2 left) held all (there _ is.1.steps)
       (IsFusingFor-combining schedule (term_of_step r.now) is.1.fits) n (is.0 ∙ are.as_many)
-      t made is.1.unread)
-  IsFusedTensor-next (BothFused n s r c schedule) t is made =
-      subst (λ l. IsFusedTensor 2 l all t) (sym is.1.steps)
-      (IsFusedTensor-three s.now r.now c.now (drop 3 left) held all (there _ is.1.steps)
+      is.1.unread)
+  IsFusedTerm-next (BothFused n s r c schedule) is =
+      subst (λ l. IsFusedTerm 2 l held all (next_term (BothFused n s r c schedule))) (sym is.1.steps)
+      (IsFusedTerm-three s.now r.now c.now (drop 3 left) held all (there _ is.1.steps)
       (IsFusingFor-combining schedule (term_of_step c.now) is.1.fits) n (is.0 ∙ are.as_many)
-      is.1.apart t made is.1.unread is.1.unread_too)
-
--- among all steps, of which so many are done; those left are a slice, and the tensors lent
-module _ (steps : List Step) (done : ℕ) (inputs items lent whole : List Contents)
-    (same : lent ≡ items) (are : AreHeld (drop done steps) whole (inputs ++ items)) where
-  abbrev pub steps_left : List Step
-  steps_left = take (length steps - done) (drop done steps)
-
-  pub held-left : AreHeldFor steps_left (inputs ++ lent) are.0
-  held-left =
-      subst (λ l. AreHeldFor l (inputs ++ lent) are.0) (sym (later-steps steps done))
-      (subst (λ i. AreHeldFor (drop done steps) (inputs ++ i) are.0) (sym same) are.1.0)
-
-  pub AreHeld-next : (next : Next) (n : ℕ) (t : Contents) (mid new : List Contents)
-      → n ≡ fused_in next → IsNextOf steps_left (length (inputs ++ lent)) next
-      → t ≡ tensor_of (next_term next) (inputs ++ lent)
-      → HasMore n items mid → new ≡ mid ++ t ∷ []
-      → AreHeld (drop (done + n + 1) steps) whole (inputs ++ new)
-  AreHeld-next next n t mid new count is made more now =
-      let others : List Contents = more.0 in
-      let given : (all : List Contents) → AreHeldFor (drop done steps) (inputs ++ items) all
-      → IsFusedTensor (length others) (drop done steps) all t =
-      λ all for.
-      subst (λ k. IsFusedTensor k (drop done steps) all t) (sym count ∙ sym more.1.1)
-      (subst (λ l. IsFusedTensor (fused_in next) l all t) (later-steps steps done)
-      (IsFusedTensor-next steps_left (inputs ++ lent) all
-      (subst (λ l. AreHeldFor l (inputs ++ lent) all) (sym (later-steps steps done))
-      (subst (λ i. AreHeldFor (drop done steps) (inputs ++ i) all) (sym same) for))
-      next t is made)) in
-      let behind : inputs ++ items ++ (others ++ t ∷ []) ≡ inputs ++ new =
-      append_assoc inputs items (others ++ t ∷ [])
-      ∙ ap (λ l. inputs ++ l) (sym (append_assoc items others (t ∷ [])) ∙ ap (λ m. m ++ t ∷ []) (sym more.1.0) ∙ sym now) in
-      let past : done + suc (length others) ≡ done + n + 1 = omega (arith, more.1.1) in
-      subst (λ k. AreHeld (drop k steps) whole (inputs ++ new)) past
-      (subst (λ l. AreHeld l whole (inputs ++ new)) (drop-drop (suc (length others)) done steps)
-      (subst (λ l. AreHeld (drop (suc (length others)) (drop done steps)) whole l) behind
-      (AreHeld-fused (drop done steps) whole (inputs ++ items) others t are given)))
+      is.1.apart is.1.unread is.1.unread_too)

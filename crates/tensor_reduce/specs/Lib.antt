@@ -25,3 +25,4 @@ pub mod Held
 pub mod Next
 pub mod Readers
 pub mod Schedules
+pub mod Stage

@@ -15,3 +15,17 @@ reads n (ternary o a b c) = reads n a || (reads n b || reads n c)
 abbrev pub are_reading : ℕ → List Step → Bool
 are_reading n [] = false
 are_reading n (s ∷ steps) = reads n (term_of_step s) || are_reading n steps
+
+-- whether a term is that tensor
+abbrev pub is_tensor : ℕ → Term → Bool
+is_tensor n (input m) = nat_eq m n
+is_tensor n (unary o a) = false
+is_tensor n (binary o a b) = false
+is_tensor n (ternary o a b c) = false
+
+-- whether it is one operation, on that tensor alone
+abbrev pub is_over : ℕ → Term → Bool
+is_over n (input m) = false
+is_over n (unary o a) = is_tensor n a
+is_over n (binary o a b) = false
+is_over n (ternary o a b c) = false

@@ -19,9 +19,9 @@ ghost use Rattle.tensor_reduce.specs.Held.{AreHeld};
 
 use crate::plan::Plan;
 use crate::running::freeing::{free_unread, push_freed};
-use crate::running::scheduled::of_next;
+use crate::running::scheduled::of_stage;
 use crate::running::workers::Workers;
-use crate::schedule::next::Next;
+use crate::schedule::stage::Stage;
 use crate::step::Step;
 use parallel_for::{ForFault, PoolFault, Setup};
 use std::alloc::Global;
@@ -37,7 +37,9 @@ use tensor_ops::{Inputs, Tensor};
 /// more, is fused into it and no tensor of its own: its values are worked out a thousand at a time,
 /// as they are combined. So is one that a contraction of more values reads alone, where it
 /// broadcasts, slices, shuffles, chips or strides an input or the tensor of an earlier step, and
-/// both operands have four rows or more: its values are taken where they lie.
+/// both operands have four rows or more: its values are taken where they lie. A contraction that a
+/// reduction of its first axes reads alone is fused into it too: what a leaf of it gives is combined
+/// as it is there.
 ///
 /// # Errors
 ///
@@ -102,8 +104,7 @@ fn work_out<RT: Threads + Wait + Sync>(
     Ok(last)
 }
 
-/// Works out the next step, or one behind it with those before it fused into it. Answers how many
-/// are done.
+/// Works out the next stage of the steps left. Answers how many are done.
 fn advance<RT: Threads + Wait + Sync>(
     workers: &Workers<'_, RT>,
     steps: &[Step],
@@ -127,9 +128,9 @@ fn advance<RT: Threads + Wait + Sync>(
     ensures faults { IfErr result (λ fault. fault ≡ ForFault.NoMemory) }
 {
     let earlier: &[Tensor] = tensors;
-    let next = Next::of(&steps[done..], inputs, earlier, workers.grain());
-    let fused = next.fused();
-    let tensor = of_next(workers, next, inputs, earlier)?;
+    let stage = Stage::of(&steps[done..], inputs, earlier, workers.grain());
+    let fused = stage.fused();
+    let tensor = of_stage(workers, stage, inputs, earlier)?;
     push_freed(workers.alloc, tensors, fused);
     tensors.push_reserved(tensor);
     Ok(done + fused + 1)

@@ -4,7 +4,7 @@
 //! A step is worked out in shards of the index lists that each of its values is over, where it has
 //! few values, or else by ranges of its places. A step before it is fused into it where its values
 //! are better worked out as they are read, or taken where a strided view has them, than put into a
-//! tensor of their own.
+//! tensor of their own; so is a contraction that a reduction combines leaf by leaf.
 
 pub(crate) mod fusible;
 pub(crate) mod grain;
@@ -13,6 +13,7 @@ pub(crate) mod places_read;
 pub(crate) mod readers;
 pub(crate) mod rows;
 pub(crate) mod sharding;
+pub(crate) mod stage;
 
 ghost use Rattle.std.specs.Prelude.{IfSome, IsTrue};
 ghost use Rattle.tensor_ops.specs.Parts.{has_parts};
@@ -132,7 +133,25 @@ impl Schedule {
         if !all_work || places < LONG_RUN * values {
             return None;
         }
-        Some(Schedule::Sharded(Sharding::by_values(leaf)))
+        Some(Schedule::Sharded(Sharding::by_values(leaf, grain)))
+    }
+
+    /// A reduction of the values of a contraction whose own schedule this is, if it combines them in
+    /// the order in which the leaves have them: by as many of them at a time.
+    pub(crate) fn of_reduced(self, contraction: &Step, reduction: &Step) -> Option<Schedule>
+        ensures { IfSome result (λ schedule. IsFusingFor schedule (term_of_step reduction.now)) }
+    {
+        let Schedule::Ranged(leaf) = self else {
+            return None;
+        };
+        let Node::Binary(Binary::Contract(_), _, _) = contraction.expr().node() else {
+            return None;
+        };
+        if !is_fusing_reduction(reduction.expr(), false) {
+            return None;
+        }
+        let run = contraction.dims().size() / reduction.dims().size().max(1);
+        Some(Schedule::Sharded(Sharding::by_places(leaf, run)))
     }
 
     /// A contraction of many values and of operands of many rows, of which this operand is one. An

@@ -61,7 +61,7 @@ fn instead(alloc: Global, operand: &Expr, number: u32, expr: &Expr) -> Result<Ex
 }
 
 /// A copy of an expression.
-fn copied(alloc: Global, expr: &Expr) -> Result<Expr, AllocError>
+pub(crate) fn copied(alloc: Global, expr: &Expr) -> Result<Expr, AllocError>
     ensures { IfOk result (λ copy. term_of copy ≡ term_of expr.now) }
 {
     match expr.node() {

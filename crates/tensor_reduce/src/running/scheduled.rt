@@ -6,49 +6,69 @@ ghost use Rattle.tensor_ops.specs.Result.{dims_of};
 ghost use Rattle.tensor_ops.specs.Term.{has_inputs};
 ghost use Rattle.tensor_ops.specs.Tree.{term_of};
 ghost use Rattle.tensor_ops.specs.Value.{tensor_of};
-ghost use Rattle.tensor_reduce.specs.Next.{next_term, next_dims, next_schedule, last_number};
+ghost use Rattle.tensor_reduce.specs.Next.{next_term, last_number};
 ghost use Rattle.tensor_reduce.specs.Schedules.{IsScheduleFor};
+ghost use Rattle.tensor_reduce.specs.Stage.{stage_term, stage_dims, stage_schedule, HasNumbers};
 
-use crate::running::fused_expr::{fused_with, fused_with_both};
+use crate::running::fused_expr::{copied, fused_with, fused_with_both};
 use crate::running::ranged::of_ranges;
 use crate::running::sharded::of_shards;
 use crate::running::workers::Workers;
 use crate::schedule::Schedule;
 use crate::schedule::next::Next;
+use crate::schedule::stage::Stage;
 use parallel_for::ForFault;
+use std::alloc::{AllocError, Global};
 use std::sync::Wait;
 use std::thread::Threads;
 use tensor_ops::{Dims, Expr, Inputs, Tensor};
 
-/// The tensor of what is worked out next, over inputs and the tensors of the steps before it.
-pub(crate) fn of_next<RT: Threads + Wait + Sync>(
+/// The tensor of a stage, over inputs and the tensors of the steps before it.
+pub(crate) fn of_stage<RT: Threads + Wait + Sync>(
     workers: &Workers<'_, RT>,
-    next: Next<'_>,
+    stage: Stage<'_>,
     inputs: &Inputs,
     earlier: &[Tensor],
 ) -> Result<Tensor, ForFault>
-    requires inputs { IsTrue (has_inputs (next_term next)
+    requires inputs { IsTrue (has_inputs (stage_term stage)
         (length (inputs.now.tensors ++ earlier.now))) }
-    requires dims { dims_of highest_rank (next_term next) (inputs.now.tensors ++ earlier.now)
-        ≡ Ok (next_dims next) }
-    requires schedule { IsScheduleFor (next_schedule next) (next_term next) }
-    requires numbers { last_number next < 2 ^ 32 }
+    requires dims { dims_of highest_rank (stage_term stage) (inputs.now.tensors ++ earlier.now)
+        ≡ Ok (stage_dims stage) }
+    requires schedule { IsScheduleFor (stage_schedule stage) (stage_term stage) }
+    requires numbers { HasNumbers stage }
     ensures tensor { IfOk result (λ t.
-        t ≡ tensor_of (next_term next.entry) (inputs.now.tensors ++ earlier.now)) }
+        t ≡ tensor_of (stage_term stage.entry) (inputs.now.tensors ++ earlier.now)) }
     ensures faults { IfErr result (λ fault. fault ≡ ForFault.NoMemory) }
 {
-    match next {
-        Next::Alone(step, schedule) => {
+    match stage {
+        Stage::Plain(Next::Alone(step, schedule)) => {
             of_schedule(workers, schedule, step.expr(), step.dims(), inputs, earlier)
         }
-        Next::Fused(number, operand, reader, schedule) => {
-            let expr = fused_with(workers.alloc, reader.expr(), number, operand.expr())?;
-            of_schedule(workers, schedule, &expr, reader.dims(), inputs, earlier)
+        Stage::Plain(next) => {
+            let expr = expr_of(workers.alloc, &next)?;
+            let (schedule, dims) = (next.schedule(), next.step().dims());
+            of_schedule(workers, schedule, &expr, dims, inputs, earlier)
         }
-        Next::BothFused(number, first, second, reader, schedule) => {
-            let (first, second) = (first.expr(), second.expr());
-            let expr = fused_with_both(workers.alloc, reader.expr(), number, first, second)?;
-            of_schedule(workers, schedule, &expr, reader.dims(), inputs, earlier)
+        Stage::Reduced(next, number, reduction, schedule) => {
+            let contraction = expr_of(workers.alloc, &next)?;
+            let expr = fused_with(workers.alloc, reduction.expr(), number, &contraction)?;
+            of_schedule(workers, schedule, &expr, reduction.dims(), inputs, earlier)
+        }
+    }
+}
+
+/// The expression of what is worked out next, with what is fused into it.
+fn expr_of(alloc: Global, next: &Next<'_>) -> Result<Expr, AllocError>
+    requires { last_number next.now < 2 ^ 32 }
+    ensures { IfOk result (λ e. term_of e ≡ next_term next.now) }
+{
+    match next {
+        Next::Alone(step, _) => copied(alloc, step.expr()),
+        Next::Fused(number, operand, reader, _) => {
+            fused_with(alloc, reader.expr(), *number, operand.expr())
+        }
+        Next::BothFused(number, first, second, reader, _) => {
+            fused_with_both(alloc, reader.expr(), *number, first.expr(), second.expr())
         }
     }
 }

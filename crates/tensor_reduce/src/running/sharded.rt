@@ -21,7 +21,7 @@ use std::thread::Threads;
 use tensor_ops::{Dims, Expr, Inputs, MAX_ELEMENTS, PartEvaluator, Tensor};
 
 /// The tensor of a reduction or a contraction of these dims, whose values are worked out in shards
-/// and combined. Where all of it is no more than a block it is one leaf.
+/// and combined.
 pub(crate) fn of_shards<RT: Threads + Wait + Sync>(
     workers: &Workers<'_, RT>,
     sharding: Sharding,
@@ -43,7 +43,7 @@ pub(crate) fn of_shards<RT: Threads + Wait + Sync>(
     let (inner, values) = (parts.inner(), dims.size());
     let shards = Shards::of(inner, sharding.width);
     let count = shards.count();
-    let is_short = inner.saturating_mul(values) <= workers.block;
+    let is_short = inner.saturating_mul(values) <= sharding.few;
     let leaf = if is_short {
         MAX_ELEMENTS
     } else {

@@ -24,7 +24,8 @@ pub(crate) enum Next<'a> {
 }
 
 impl<'a> Next<'a> {
-    ghost use Rattle.tensor_reduce.specs.Next.{IsNextOf, fused_in};
+    ghost use Rattle.tensor_reduce.specs.Next.{IsNextOf, fused_in, next_dims, next_schedule};
+    ghost use Rattle.tensor_reduce.specs.Plan.{dims_of_step};
 
     /// The next of these steps, over inputs and the tensors of the steps before it: the third if it
     /// may have both before it fused into it, or the second with the first, or else the first.
@@ -115,6 +116,27 @@ impl<'a> Next<'a> {
             Next::Alone(_, _) => 0,
             Next::Fused(_, _, _, _) => 1,
             Next::BothFused(_, _, _, _, _) => 2,
+        }
+    }
+
+    /// The last of its steps, into which the others are fused.
+    pub(crate) fn step(&self) -> &'a Step
+        ensures { dims_of_step result.now ≡ next_dims self.now }
+    {
+        match self {
+            Next::Alone(step, _) | Next::Fused(_, _, step, _) | Next::BothFused(_, _, _, step, _) =>
+                step,
+        }
+    }
+
+    /// By which schedule it is worked out.
+    pub(crate) fn schedule(&self) -> Schedule
+        ensures { result ≡ next_schedule self.now }
+    {
+        match self {
+            Next::Alone(_, schedule)
+            | Next::Fused(_, _, _, schedule)
+            | Next::BothFused(_, _, _, _, schedule) => *schedule,
         }
     }
 }

@@ -3,8 +3,9 @@
 ghost use Rattle.std.specs.Prelude.{◌≡◌, ◌+◌, ◌<◌, ◌^◌, false};
 ghost use Rattle.tensor_ops.specs.Tree.{term_of};
 ghost use Rattle.tensor_reduce.specs.Plan.{term_of_step};
-ghost use Rattle.tensor_reduce.specs.Readers.{reads, are_reading};
+ghost use Rattle.tensor_reduce.specs.Readers.{reads, are_reading, is_over};
 
+use crate::schedule::rows::is_tensor;
 use crate::step::Step;
 use tensor_ops::{Expr, Node};
 
@@ -40,5 +41,15 @@ pub(crate) fn reads(expr: &Expr, number: u32) -> bool
         Node::Unary(_, a) => reads(a, number),
         Node::Binary(_, a, b) => reads(a, number) || reads(b, number),
         Node::Ternary(_, a, b, c) => reads(a, number) || (reads(b, number) || reads(c, number)),
+    }
+}
+
+/// Whether an expression is one operation, on the tensor of a number alone.
+pub(crate) fn is_over(expr: &Expr, number: u32) -> bool
+    ensures { result ≡ is_over number (term_of expr.now) }
+{
+    match expr.node() {
+        Node::Unary(_, operand) => is_tensor(operand, u64::from(number)),
+        Node::Input(_) | Node::Binary(_, _, _) | Node::Ternary(_, _, _, _) => false,
     }
 }

@@ -1,5 +1,9 @@
 //! The rows of a contraction's operand: how wide they are, and which of both operands it is.
 
+ghost use Rattle.std.specs.Prelude.{◌≡◌};
+ghost use Rattle.tensor_ops.specs.Tree.{term_of};
+ghost use Rattle.tensor_reduce.specs.Readers.{is_tensor};
+
 use tensor_ops::{Dims, Expr, Node};
 
 /// How many places a row has of an operand that is the first of a contraction, or the second.
@@ -15,7 +19,9 @@ pub(crate) fn row_width(dims: &Dims, pairs: &[(u64, u64)], is_first: bool) -> u6
 }
 
 /// Whether an expression is the tensor of a number.
-pub(crate) fn is_tensor(expr: &Expr, number: u64) -> bool {
+pub(crate) fn is_tensor(expr: &Expr, number: u64) -> bool
+    ensures { result ≡ is_tensor number (term_of expr.now) }
+{
     let Node::Input(other) = expr.node() else {
         return false;
     };

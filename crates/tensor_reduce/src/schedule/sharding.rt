@@ -17,6 +17,8 @@ pub(crate) struct Sharding {
     pub(crate) width: u64,
     /// How many shards are worked out at a time.
     pub(crate) leaf: u64,
+    /// Up to how many index lists of all values the shards are one leaf.
+    pub(crate) few: u64,
     ghost some: { 0 < leaf },
 }
 
@@ -26,16 +28,36 @@ impl Sharding {
         Sharding {
             width: grain.block,
             leaf: 1,
+            few: grain.block,
         }
     }
 
     /// A shard for each value, so many of them a leaf.
-    pub(crate) fn by_values(leaf: u64) -> Sharding
+    pub(crate) fn by_values(leaf: u64, grain: Grain) -> Sharding
         requires { 0 < leaf }
     {
         Sharding {
             width: MAX_ELEMENTS,
             leaf,
+            few: grain.block,
+        }
+    }
+
+    /// Shards of what is worked out so many places at a time, where a value is over so many of them:
+    /// a leaf has as many places of one value, or whole values of as many. However few they are,
+    /// each may take long.
+    pub(crate) fn by_places(places: u64, run: u64) -> Sharding {
+        if places <= run {
+            return Sharding {
+                width: places,
+                leaf: 1,
+                few: 0,
+            };
+        }
+        Sharding {
+            width: MAX_ELEMENTS,
+            leaf: (places / run.max(1)).max(1),
+            few: 0,
         }
     }
 }
