@@ -253,6 +253,19 @@ void contraction(const Device& device, const Tensor<2>& a) {
   print_sum(device, product);
 }
 
+// The sum of a contraction of a + b with a * b along a pair of axes. Both are tensors first: Eigen
+// would work a value out each time that it packs it, which takes longer.
+std::function<void(const Request&)> contraction_of_operations(Pair pair) {
+  return over_two<2>([pair](const auto& device, const auto& a, const auto& b) {
+    Tensor<2> sums(a.dimensions()), products(a.dimensions());
+    sums.device(device) = a + b;
+    products.device(device) = a * b;
+    Tensor<2> product(a.dimension(0), a.dimension(1));
+    product.device(device) = sums.contract(products, Eigen::array<Pair, 1>{pair});
+    print_sum(device, product);
+  });
+}
+
 // The sum of a convolution of the input "a", repeated, under the input "k".
 template <int RANK>
 void convolution(const Request& request) {
@@ -285,6 +298,7 @@ Forms forms() {
   const std::string line = R"(["broadcast","a",[#]])", square = R"(["broadcast","a",[#,#]])";
   const std::string other = R"(["broadcast","b",[#,#]])", cube = R"(["broadcast","a",[#,#,#]])";
   const std::string product = R"(["mul",)" + square + "," + other + "]";
+  const std::string operations = R"(["contract",["add",)" + square + "," + other + "]," + product;
   const std::string three =
       R"(["add",["mul",)" + cube + R"(,["broadcast","b",[#,#,#]]],)" + cube + "]";
   const std::string six = R"(["broadcast","a",[#,#,#,#,#,#]])";
@@ -363,6 +377,8 @@ Forms forms() {
        })},
       {whole(R"(["contract",)" + square + "," + square + ",[[1,0]]]"),
        over<2>([](const auto& device, const auto& a) { contraction(device, a); })},
+      {whole(operations + ",[[1,0]]]"), contraction_of_operations(Pair(1, 0))},
+      {whole(operations + ",[[0,1]]]"), contraction_of_operations(Pair(0, 1))},
       {whole(R"(["contract",)" + cube + "," + cube + ",[[1,1],[2,2]]]"),
        over<3>([](const auto& device, const auto& a) {
          Tensor<2> product(a.dimension(0), a.dimension(0));

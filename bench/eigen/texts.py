@@ -94,6 +94,7 @@ def nested():
 
 
 CHIP = '["chip",["slice",["reverse",{a},[true,true,false]],[1,1,0],[1023,511,2]],1,2]'
+CONTRACTED = '["contract",["add",{{a}},{{b}}],["mul",{{a}},{{b}}],{}]'
 # What each is, and its inputs and expression.
 REQUESTS = {
     "numbers-2": ("2 numbers and 2, added", lambda: added(2)),
@@ -180,6 +181,14 @@ REQUESTS = {
     "contraction-small": (
         "a contraction of 512, of 32 bits",
         lambda: squares(8, whole('["contract",{a},{a},[[1,0]]]'), bound=2**31),
+    ),
+    "contraction-operations": (
+        "a contraction of 512, of sums and products",
+        lambda: squares(8, whole(CONTRACTED.format("[[1,0]]"))),
+    ),
+    "contraction-turned": (
+        "the same of both operands turned",
+        lambda: squares(8, whole(CONTRACTED.format("[[0,1]]"))),
     ),
     "contraction-pairs": (
         "a contraction of two pairs of axes",
