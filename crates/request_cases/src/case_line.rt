@@ -11,6 +11,8 @@ pub(crate) enum CaseLine<'t> {
     Let(&'t str),
     /// The version of the expressions behind it.
     Version(CaseVersion),
+    /// The expressions behind it are over so many values that none is worked out place by place.
+    Large,
     /// The inputs of the expressions behind it.
     Inputs(&'t str),
     /// A whole request text.
@@ -31,6 +33,8 @@ impl<'t> CaseLine<'t> {
             CaseLine::Version(CaseVersion::One)
         } else if line == "version 2" {
             CaseLine::Version(CaseVersion::Two)
+        } else if line == "large" {
+            CaseLine::Large
         } else if let Some(inputs) = line.strip_prefix("inputs ") {
             CaseLine::Inputs(inputs)
         } else if let Some(text) = line.strip_prefix("text ") {

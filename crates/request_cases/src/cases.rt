@@ -7,8 +7,11 @@ use std::alloc::{AllocError, Global};
 use std::sync::Wait;
 use std::thread::Threads;
 
-/// By how many workers each expression is worked out.
-const WORKERS: [u32; 4] = [1, 2, 3, 64];
+/// By how many workers each expression is worked out, in blocks of each size.
+const WORKERS: [u32; 3] = [1, 2, 3];
+
+/// By how many it is once more, in blocks of one size: to start so many takes longer than most cases.
+const MANY_WORKERS: u32 = 64;
 
 /// In blocks of how many places.
 const BLOCKS: [u32; 4] = [1, 2, 7, 1_048_576];
@@ -32,6 +35,8 @@ pub(crate) struct Cases {
     /// Names in angle brackets, each with the text that it stands for.
     names: Vec<(String, String)>,
     version: CaseVersion,
+    /// Whether what is asked is left out place by place.
+    is_large: bool,
     inputs: String,
     asked: Asked,
     alloc: Global,
@@ -45,6 +50,7 @@ impl Cases {
             report: String::new(alloc),
             names: Vec::new(alloc),
             version: CaseVersion::One,
+            is_large: false,
             inputs: String::new(alloc),
             asked: Asked::Text(String::new(alloc)),
             alloc,
@@ -72,6 +78,7 @@ impl Cases {
             CaseLine::Note => {}
             CaseLine::Let(named) => self.name(named)?,
             CaseLine::Version(version) => self.version = version,
+            CaseLine::Large => self.is_large = true,
             CaseLine::Inputs(inputs) => self.inputs = self.written_out(inputs)?,
             CaseLine::Text(text) => self.asked = Asked::Text(self.written_out(text)?),
             CaseLine::Expr(expr) => self.asked = Asked::Expr(self.written_out(expr)?),
@@ -125,7 +132,8 @@ impl Cases {
         }
     }
 
-    /// Those of an expression, on each number of workers and with each size of block.
+    /// Those of an expression, on each number of workers and with each size of block, and on many
+    /// workers with the sizes in turn, one a case.
     fn on_all_workers<RT: Threads + Wait + Sync>(
         &self,
         rt: &RT,
@@ -138,22 +146,26 @@ impl Cases {
             let wrong = self.on_workers(rt, expr, workers, line)?;
             report.push_str(wrong.as_str())?;
         }
+        let turn = (self.count % BLOCKS.len() as u64) as usize;
+        let wrong = self.on(rt, expr, MANY_WORKERS, BLOCKS[turn], line)?;
+        report.push_str(wrong.as_str())?;
         Ok(report)
     }
 
-    /// Those of a text: by a run, by single places and by ranges.
+    /// Those of a text: by a run, by ranges, and where it isn't large by single places.
     fn in_each_way<RT: Threads + Wait + Sync>(
         &self,
         rt: &RT,
         text: &str,
         line: &str,
     ) -> Result<String, AllocError> {
+        let mut answers = Vec::new(self.alloc);
+        answers.push(answer(rt, self.alloc, text)?)?;
+        answers.push(by_ranges(self.alloc, text)?)?;
+        if !self.is_large {
+            answers.push(by_places(self.alloc, text)?)?;
+        }
         let mut report = String::new(self.alloc);
-        let answers = [
-            answer(rt, self.alloc, text)?,
-            by_places(self.alloc, text)?,
-            by_ranges(self.alloc, text)?,
-        ];
         for found in &answers {
             let wrong = self.difference(text, found.as_str(), line)?;
             report.push_str(wrong.as_str())?;
@@ -171,12 +183,24 @@ impl Cases {
     ) -> Result<String, AllocError> {
         let mut report = String::new(self.alloc);
         for block in BLOCKS {
-            let text = self.request(expr, workers, block)?;
-            let found = answer(rt, self.alloc, text.as_str())?;
-            let wrong = self.difference(text.as_str(), found.as_str(), line)?;
+            let wrong = self.on(rt, expr, workers, block, line)?;
             report.push_str(wrong.as_str())?;
         }
         Ok(report)
+    }
+
+    /// That of a run on so many workers with blocks of one size.
+    fn on<RT: Threads + Wait + Sync>(
+        &self,
+        rt: &RT,
+        expr: &str,
+        workers: u32,
+        block: u32,
+        line: &str,
+    ) -> Result<String, AllocError> {
+        let text = self.request(expr, workers, block)?;
+        let found = answer(rt, self.alloc, text.as_str())?;
+        self.difference(text.as_str(), found.as_str(), line)
     }
 
     /// The request for an expression over the inputs.

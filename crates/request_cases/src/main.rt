@@ -2,7 +2,8 @@
 //! say. A file has a line `inputs` JSON, then an expression a line, and behind each a line `=` and
 //! the line that answers it; `text` JSON is a whole request text, and `#` begins a note. The
 //! expressions are of version 1, or of that of the last line `version 1` or `version 2`. Behind a
-//! line `let` NAME TEXT, `<NAME>` stands for that text.
+//! line `let` NAME TEXT, `<NAME>` stands for that text; behind a line `large` no expression is worked
+//! out place by place.
 #![tactic(auto)]
 
 mod answers;
