@@ -12,8 +12,8 @@
 //! That the steps are these is proved, and that worked out one after the other each gives the
 //! tensor of its node, as the plain meaning of expressions has it, and the last that of the whole.
 //!
-//! [`run_plan`] works a plan out on the workers of a pool. The values of a step are those that its
-//! [`StepKernel`] gives for ranges of its places.
+//! [`run_plan`] works a plan out on the workers of a pool, and some steps together with the one that
+//! reads them. The values of a step are those that its [`StepKernel`] gives for ranges of its places.
 //!
 //! [`Shards`] are ranges of the index lists that a value of a reduction or a contraction is over.
 //! That they meet each of these once, in order, and that what they give apart, combined, is the

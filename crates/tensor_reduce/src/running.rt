@@ -37,9 +37,10 @@ use tensor_ops::{Inputs, Tensor};
 /// more, is fused into it and no tensor of its own: its values are worked out a thousand at a time,
 /// as they are combined. So is one that a contraction of more values reads alone, where it
 /// broadcasts, slices, shuffles, chips or strides an input or the tensor of an earlier step, and
-/// both operands have four rows or more: its values are taken where they lie. A contraction that a
-/// reduction of its first axes reads alone is fused into it too: what a leaf of it gives is combined
-/// as it is there.
+/// both operands have four rows or more: its values are taken where they lie; and so is one of few
+/// operations, or any on one worker, which the calling thread works out into one list. A contraction
+/// that a reduction of its first axes reads alone is fused into it too: what a leaf of it gives is
+/// combined as it is there.
 ///
 /// # Errors
 ///

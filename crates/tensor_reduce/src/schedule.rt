@@ -3,8 +3,8 @@
 //!
 //! A step is worked out in shards of the index lists that each of its values is over, where it has
 //! few values, or else by ranges of its places. A step before it is fused into it where its values
-//! are better worked out as they are read, or taken where a strided view has them, than put into a
-//! tensor of their own; so is a contraction that a reduction combines leaf by leaf.
+//! are better worked out as they are read, by one thread, or taken where a strided view has them, than
+//! put into a tensor of their own; so is a contraction that a reduction combines leaf by leaf.
 
 pub(crate) mod fusible;
 pub(crate) mod grain;
@@ -20,7 +20,7 @@ ghost use Rattle.tensor_ops.specs.Parts.{has_parts};
 ghost use Rattle.tensor_reduce.specs.Plan.{term_of_step};
 
 use crate::schedule::fusible::{
-    SHORT, is_fusible, is_fusing_reduction, is_inner_product, is_strided_view,
+    SHORT, is_fusible, is_fusing_reduction, is_inner_product, is_soon_done, is_strided_view,
 };
 use crate::schedule::grain::Grain;
 use crate::schedule::rows::{is_tensor, row_width};
@@ -90,7 +90,7 @@ impl Schedule {
                 return Some(Schedule::Sharded(Sharding::by_blocks(grain)));
             }
         }
-        if operand.step.dims().size() <= SHORT || !is_strided_view(operand.step.expr()) {
+        if operand.step.dims().size() <= SHORT || !is_taken(operand.step, grain) {
             return None;
         }
         Schedule::of_contraction(operand, reader, grain)
@@ -110,8 +110,7 @@ impl Schedule {
             return Some(Schedule::Sharded(Sharding::by_blocks(grain)));
         }
         let longer = first.step.dims().size().max(second.dims().size());
-        let are_views = is_strided_view(first.step.expr()) && is_strided_view(second.expr());
-        if longer <= SHORT || !are_views {
+        if longer <= SHORT || !is_taken(first.step, grain) || !is_taken(second, grain) {
             return None;
         }
         Schedule::of_contraction(first, reader, grain)
@@ -174,4 +173,10 @@ impl Schedule {
         let column = if is_first { rows } else { others };
         Some(Schedule::Ranged(grain.leaf_of_columns(values, places, column)))
     }
+}
+
+/// Whether a contraction takes a step's values better by itself than from a tensor: where they lie, or
+/// worked out by one thread.
+fn is_taken(step: &Step, grain: Grain) -> bool {
+    is_strided_view(step.expr()) || is_soon_done(step, grain.workers)
 }
