@@ -97,7 +97,7 @@ impl Schedule {
     }
 
     /// A step with both its operands fused into it: an inner product of values as they are worked
-    /// out, or a contraction of two strided views, though one of them has few values.
+    /// out, or a contraction of two that it takes better by themselves, though one has few values.
     pub(crate) fn of_both_fused(
         first: Operand<'_>,
         second: &Step,
