@@ -11,6 +11,7 @@ pub mod ListWrites
 pub mod PackedRows
 pub mod PairLanes
 pub mod PairProducts
+pub mod PairRows
 pub mod PairTotals
 pub mod PanelPlaces
 pub mod Parts

@@ -1,7 +1,7 @@
 -- The identity behind products two by two.
-use Rattle.std.proofs.Common.{◌≡◌, ℕ, zero, suc, ◌+◌, ◌*◌, ℤ, pos, negsuc, ◌+ℤ◌, ◌-ℤ◌, ◌*ℤ◌, neg_ℤ}
+use Rattle.std.proofs.Common.{◌≡◌, ℕ, zero, suc, ◌+◌, ◌*◌, ℤ, pos, negsuc, ◌+ℤ◌, ◌-ℤ◌, ◌*ℤ◌}
 use Rattle.std.proofs.Common.{refl, ap, sym, ◌∙◌, arith}
-use Rattle.std.proofs.lemmas.Int.{ints, int_wrap-add_left, int_wrap-sub_right}
+use Rattle.std.proofs.lemmas.Int.{ints, int_wrap-sub_right}
 use Rattle.std.proofs.Math.IntN.{+ℤ_idl, zero-*ℤ, suc_ℤ-+ℤ, suc_ℤ-*ℤ, pred_ℤ-+ℤ, pred_ℤ-*ℤ, *ℤ_comm}
 use Rattle.std.specs.Int.{w64}
 use Rattle.tensor_shape.specs.Wrap.{wrap}
@@ -79,19 +79,23 @@ pairs-split f g (suc n) =
     ∙ gather M A B (x *ℤ u) (y *ℤ v) (x *ℤ y) (u *ℤ v)
     ∙ ap (λ z. z +ℤ ((A +ℤ x *ℤ y) +ℤ (B +ℤ u *ℤ v))) (sym step)
 
-rest : (m a b : ℤ) → ((m +ℤ (a +ℤ b)) -ℤ a) -ℤ b ≡ m
+taken-off : (z w p : ℤ) → ((pos 0 -ℤ z) -ℤ w) +ℤ p ≡ (p -ℤ z) -ℤ w
+taken-off z w p = omega (arith, ints)
+
+turned : (p a w : ℤ) → (p -ℤ a) -ℤ w ≡ (p -ℤ w) -ℤ a
+turned p a w = omega (arith, ints)
+
+rest : (m a b : ℤ) → ((m +ℤ (a +ℤ b)) -ℤ b) -ℤ a ≡ m
 rest m a b = omega (arith, ints)
 
--- what is left of it without the latter, modulo 2^64
-pub wrap-rest : (p m a b r s x y : ℤ) → p ≡ m +ℤ (a +ℤ b) → s ≡ wrap p → x ≡ wrap a → y ≡ wrap b
-    → r ≡ wrap (wrap (s -ℤ x) -ℤ y) → r ≡ wrap m
-wrap-rest p m a b r s x y whole is_s is_x is_y is =
-    is
-    ∙ ap (λ z. wrap (wrap (z -ℤ x) -ℤ y)) is_s
-    ∙ ap (λ z. wrap (wrap (wrap p -ℤ z) -ℤ y)) is_x
-    ∙ ap (λ z. wrap (wrap (wrap p -ℤ wrap a) -ℤ z)) is_y
-    ∙ ap (λ z. wrap (z -ℤ wrap b))
-    (int_wrap-sub_right w64 (wrap p) a ∙ int_wrap-add_left w64 p (neg_ℤ a))
-    ∙ int_wrap-sub_right w64 (wrap (p -ℤ a)) b
-    ∙ int_wrap-add_left w64 (p -ℤ a) (neg_ℤ b)
-    ∙ ap wrap (ap (λ z. (z -ℤ a) -ℤ b) whole ∙ rest m a b)
+-- what is left of it where the latter was taken off before, modulo 2^64
+pub wrap-rest : (p m a b x y : ℤ) → p ≡ m +ℤ (a +ℤ b) → x ≡ wrap a → y ≡ wrap b
+    → wrap (((pos 0 -ℤ x) -ℤ y) +ℤ p) ≡ wrap m
+wrap-rest p m a b x y whole is_x is_y =
+    ap wrap (taken-off x y p)
+    ∙ ap (λ z. wrap ((p -ℤ x) -ℤ z)) is_y
+    ∙ int_wrap-sub_right w64 (p -ℤ x) b
+    ∙ ap wrap (turned p x b)
+    ∙ ap (λ z. wrap ((p -ℤ b) -ℤ z)) is_x
+    ∙ int_wrap-sub_right w64 (p -ℤ b) a
+    ∙ ap wrap (ap (λ z. (z -ℤ b) -ℤ a) whole ∙ rest m a b)

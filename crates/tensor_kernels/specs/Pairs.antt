@@ -1,7 +1,7 @@
 -- Products two by two.
 -- (f 0 + g 1) * (f 1 + g 0) is f 0 * g 0 + f 1 * g 1, and f 0 * f 1 and g 0 * g 1 besides, which are
 -- of one row each.
-use Rattle.std.specs.Prelude.{◌≡◌, ℕ, ℤ, ◌+ℤ◌, ◌*ℤ◌, ◌+◌, ◌*◌, ◌/◌, ◌<◌, List, length}
+use Rattle.std.specs.Prelude.{◌≡◌, ℕ, ℤ, pos, ◌+ℤ◌, ◌-ℤ◌, ◌*ℤ◌, ◌+◌, ◌*◌, ◌/◌, ◌<◌, List, length}
 use Rattle.tensor_shape.specs.Wrap.{wrap}
 use Rattle.tensor_values.specs.Values.{value_in}
 use Rattle.tensor_kernels.specs.Panels.{cell_of}
@@ -16,6 +16,10 @@ own_pairs f n = sum_to (λ k. f (2 * k) *ℤ f (2 * k + 1)) n
 abbrev pub pairs_dot : (ℕ → ℤ) → (ℕ → ℤ) → ℕ → ℤ
 pairs_dot f g n =
     sum_to (λ k. (f (2 * k) +ℤ g (2 * k + 1)) *ℤ (f (2 * k + 1) +ℤ g (2 * k))) n
+
+-- nothing, without what stands for row t of some rows and for a column
+abbrev pub without_own : List ℤ → List ℤ → ℕ → ℤ
+without_own rows column t = (pos 0 -ℤ value_in rows t) -ℤ value_in column 0
 
 -- a row whose values lie a height apart, from place t on
 abbrev pub lane : ℕ → List ℤ → ℕ → ℕ → ℤ

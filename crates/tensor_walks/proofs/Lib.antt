@@ -8,4 +8,5 @@ pub mod Parting
 pub mod RunValues
 pub mod Soundness
 pub mod SplicedParts
+pub mod WalkRows
 pub mod Walks

@@ -49,9 +49,9 @@ pub struct Row {
 
 /// A row of a walk: its first place, and where it starts in the operand.
 #[derive(Clone, Copy, Drop)]
-struct WalkRow {
-    first: usize,
-    start: usize,
+pub(crate) struct WalkRow {
+    pub(crate) first: usize,
+    pub(crate) start: usize,
 }
 
 impl Axis {
@@ -281,7 +281,7 @@ pub(crate) fn looked_up(
 }
 
 /// The first axis and the slower ones. Where there is none, one place is an axis.
-fn first_axis(axes: &[Axis]) -> (Axis, &[Axis])
+pub(crate) fn first_axis(axes: &[Axis]) -> (Axis, &[Axis])
     ensures size { walk_size (result.0 ∷ result.1.now) ≡ walk_size axes.now }
     ensures reached { (start : ℕ) → (p : ℕ)
         → reached start (result.0 ∷ result.1.now) p ≡ reached start axes.now p }
@@ -294,7 +294,13 @@ fn first_axis(axes: &[Axis]) -> (Axis, &[Axis])
 
 /// The row of a place: this one where it lies in it, and else another.
 #[inline(always)]
-fn row_with(row: WalkRow, start: usize, axis: Axis, slower: &[Axis], place: usize) -> WalkRow
+pub(crate) fn row_with(
+    row: WalkRow,
+    start: usize,
+    axis: Axis,
+    slower: &[Axis],
+    place: usize,
+) -> WalkRow
     requires size { 0 < axis.size }
     requires within { place / axis.size < walk_size slower.now }
     requires fits { reached start slower.now (place / axis.size) < 2 ^ 32 }
@@ -310,7 +316,7 @@ fn row_with(row: WalkRow, start: usize, axis: Axis, slower: &[Axis], place: usiz
 }
 
 /// The row of a place, by a division an axis.
-fn row_of(start: usize, axis: Axis, slower: &[Axis], place: usize) -> WalkRow
+pub(crate) fn row_of(start: usize, axis: Axis, slower: &[Axis], place: usize) -> WalkRow
     requires size { 0 < axis.size }
     requires within { place / axis.size < walk_size slower.now }
     requires fits { reached start slower.now (place / axis.size) < 2 ^ 32 }
@@ -338,6 +344,16 @@ pub(crate) fn reached(start: usize, axes: &[Axis], place: usize) -> usize
         rest /= axis.size;
     }
     start + reached
+}
+
+/// The place that an index along an axis is from a row's start.
+#[inline(always)]
+pub(crate) fn along_axis(row: usize, axis: Axis, index: usize) -> usize
+    requires index { index < axis.size }
+    requires fits { row + steps_to axis index * axis.step < 2 ^ 32 }
+    ensures { result ≡ row + steps_to axis index * axis.step }
+{
+    row + steps_to(axis, index) * axis.step
 }
 
 /// How many steps an index along an axis is.

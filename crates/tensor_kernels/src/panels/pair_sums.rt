@@ -1,13 +1,19 @@
 //! What products two by two take off: of each row of panels the sum of the products of its pairs.
 
-ghost use Rattle.std.specs.Prelude.{◌≡◌, ℕ, ◌*◌, ◌+◌, ◌<◌, ◌≤◌, ◌^◌, length, IfOk, vec_len};
+ghost use Rattle.std.specs.Prelude.{◌≡◌, ℕ, ◌*◌, ◌+◌, ◌%◌, ◌<◌, ◌≤◌, ◌^◌, length, IfOk, vec_len};
 ghost use Rattle.tensor_shape.specs.Wrap.{wrap};
 ghost use Rattle.tensor_kernels.specs.Pairs.{own_pairs, lane, ArePairSums};
+ghost use Rattle.tensor_kernels.specs.Halves.{AreWords, joined};
+ghost use Rattle.tensor_kernels.specs.Panels.{AreLanes};
+ghost use Rattle.tensor_values.specs.Values.{value_in};
 
+use crate::tiling::halves::{add_products, rows_from, store};
 use crate::tiling::tile::mul_add;
 use std::alloc::{AllocError, Global};
+use std::simd::prelude::*;
 
-/// The sums of the rows of so many panels of a height, whose rows have n values each.
+/// The sums of the rows of so many panels of a height, whose rows have n values each. Takes a number
+/// for each row.
 pub(crate) fn pair_sums(
     alloc: Global,
     cells: &[i64],
@@ -21,10 +27,40 @@ pub(crate) fn pair_sums(
     ensures len { IfOk result (λ v. vec_len v ≡ panels * height) }
     ensures each { IfOk result (λ v. ArePairSums height v.items cells.now n) }
 {
+    if height % 4 == 0 {
+        return pair_sums_by_fours(alloc, cells, panels, height, n);
+    }
     let mut sums = Vec::with_capacity(alloc, panels * height)?;
     for x in 0..panels * height {
         let start = x / height * (n * height) + x % height;
         sums.push_reserved(sum_of_pairs(cells, start, height, n / 2));
+    }
+    Ok(sums)
+}
+
+/// The same of panels whose height is a multiple of four, four rows at a time.
+fn pair_sums_by_fours(
+    alloc: Global,
+    cells: &[i64],
+    panels: usize,
+    height: usize,
+    n: usize,
+) -> Result<Vec<i64>, AllocError>
+    requires some { 0 < height }
+    requires fours { height % 4 ≡ 0 }
+    requires few { panels * height < 2 ^ 60 }
+    requires cells { panels * (n * height) ≤ length cells.now }
+    ensures len { IfOk result (λ v. vec_len v ≡ panels * height) }
+    ensures each { IfOk result (λ v. ArePairSums height v.items cells.now n) }
+{
+    let mut sums = Vec::with_capacity(alloc, panels * height)?;
+    for four in 0..panels * height / 4 {
+        let x = 4 * four;
+        let start = x / height * (n * height) + x % height;
+        let own = own_of_four(cells, start, height, n / 2);
+        let Ok(()) = sums.extend_from_slice(&own[..4]) else {
+            unreachable!()
+        };
     }
     Ok(sums)
 }
@@ -45,4 +81,23 @@ fn sum_of_pairs(cells: &[i64], start: usize, height: usize, n: usize) -> i64
         );
     }
     sum
+}
+
+/// The same of four rows side by side, of which the first begins at the place, and what is there.
+fn own_of_four(cells: &[i64], start: usize, height: usize, n: usize) -> [i64; 16]
+    requires some { 0 < height }
+    requires inside { (q : ℕ) → q < 2 * n → height * q + (start + 3) < length cells.now }
+    ensures len { length result ≡ 16 }
+    ensures each { (t : ℕ) → t < 4
+        → value_in result t ≡ wrap (own_pairs (lane height cells.now (start + t)) n) }
+{
+    let (mut low, mut words) = (i64x4::splat(0), u32x8::splat(0));
+    for k in 0..n {
+        let x = rows_from(cells, height * (2 * k) + start);
+        let y = rows_from(cells, height * (2 * k + 1) + start);
+        (low, words) = add_products(low, words, x, y);
+    }
+    let mut sums = [0i64; 16];
+    store(&mut sums, 0, low, words);
+    sums
 }

@@ -10,8 +10,9 @@ ghost use Rattle.tensor_values.specs.Values.{value_in};
 
 use crate::panels::Panels;
 use crate::panels::height::Height;
+use crate::tiling::pairs::Panel;
 use crate::tiling::placing::Tile;
-use crate::tiling::tile::{Panel, small_tile, wide_tile};
+use crate::tiling::tile::{small_tile, wide_tile};
 
 /// A chunk of the products of all rows of the result and some of its columns.
 #[derive(Drop)]

@@ -1,17 +1,26 @@
 //! Sums of products of a panel's rows and a column, two products at a time: half the products, and
 //! two sums of numbers more for each. In one iteration four numbers of each row are read as they
-//! lie, and two of the column spread.
+//! lie, and two of the column spread. What a row and the column have by themselves is taken off
+//! before the first product, where it takes no pass of its own over the sums.
 
 ghost use Rattle.std.specs.Prelude.{◌≡◌, ℕ, ◌*◌, ◌+◌, ◌/◌, ◌%◌, ◌≤◌, ◌<◌, ◌^◌, length, ◌+ℤ◌, ◌-ℤ◌};
 ghost use Rattle.std.specs.Prelude.{◌*ℤ◌};
 ghost use Rattle.tensor_values.specs.Values.{value_in};
 ghost use Rattle.tensor_shape.specs.Wrap.{wrap};
 ghost use Rattle.tensor_kernels.specs.Halves.{AreWords, joined};
-ghost use Rattle.tensor_kernels.specs.Pairs.{lane, pairs_dot};
+ghost use Rattle.tensor_kernels.specs.Pairs.{lane, own_pairs, without_own};
 ghost use Rattle.tensor_kernels.specs.Panels.{AreLanes};
+ghost use Rattle.tensor_kernels.specs.Products.{dot};
 
 use crate::tiling::halves::{add_products, rows_from, spread, store};
 use std::simd::prelude::*;
+
+/// What begins with a panel: its cells, and the sums of the products of its rows' pairs.
+#[derive(Clone, Copy, Drop)]
+pub(crate) struct Panel<'a> {
+    pub(crate) cells: &'a [i64],
+    pub(crate) sums: &'a [i64],
+}
 
 /// The sums of four numbers and four others, modulo 2^64.
 #[inline(always)]
@@ -22,6 +31,31 @@ fn sums_of(x: i64x4, y: i64x4) -> i64x4
     ensures each { (r : ℕ) → r < 4 → value_in result r ≡ wrap (value_in x r +ℤ value_in y r) }
 {
     x + y
+}
+
+/// Four numbers less four others, modulo 2^64.
+#[inline(always)]
+fn differences_of(x: i64x4, y: i64x4) -> i64x4
+    requires x { AreLanes x }
+    requires y { AreLanes y }
+    ensures lanes { AreLanes result }
+    ensures each { (r : ℕ) → r < 4 → value_in result r ≡ wrap (value_in x r -ℤ value_in y r) }
+{
+    x - y
+}
+
+/// Four sums before the first product: 0 without the products of the pairs of each of four rows, from
+/// row i on, and of a column.
+#[inline(always)]
+fn without_own(rows: &[i64], i: usize, column: &[i64]) -> i64x4
+    requires rows { i + 4 ≤ length rows.now }
+    requires column { 0 < length column.now }
+    ensures lanes { AreLanes result }
+    ensures each { (r : ℕ) → r < 4 → value_in result r
+        ≡ wrap (without_own rows.now column.now (i + r)) }
+{
+    let less = differences_of(i64x4::splat(0), rows_from(rows, i));
+    differences_of(less, spread(column, 0))
 }
 
 /// The product of a pair more for each of four sums by halves.
@@ -44,16 +78,23 @@ fn add_pair(low: i64x4, crossed: u32x8, x: i64x4, y: i64x4, b: &[i64], i: usize)
 
 /// The sums of the products of n pairs of each of sixteen rows and a column.
 #[inline(never)]
-pub(crate) fn pairs_of_sixteen(a: &[i64], b: &[i64], n: usize) -> [i64; 16]
-    requires a { n * 32 ≤ length a.now }
-    requires b { n * 2 ≤ length b.now }
-    ensures { (t : ℕ) → t < 16
-        → value_in result t ≡ wrap (pairs_dot (lane 16 a.now t) (value_in b.now) n) }
+pub(crate) fn pairs_of_sixteen(rows: Panel<'_>, column: Panel<'_>, n: usize) -> [i64; 16]
+    requires a { n * 32 ≤ length rows.cells.now }
+    requires b { n * 2 ≤ length column.cells.now }
+    requires sums_a { 16 ≤ length rows.sums.now }
+    requires sums_b { 0 < length column.sums.now }
+    requires rows { (t : ℕ) → t < 16 → value_in rows.sums.now t
+        ≡ wrap (own_pairs (lane 16 rows.cells.now t) n) }
+    requires column { value_in column.sums.now 0 ≡ wrap (own_pairs (value_in column.cells.now) n) }
+    ensures len { length result ≡ 16 }
+    ensures each { (t : ℕ) → t < 16 → value_in result t
+        ≡ wrap (dot (lane 16 rows.entry.cells.now t) (value_in column.entry.cells.now) (n * 2)) }
 {
-    let (mut l0, mut c0) = (i64x4::splat(0), u32x8::splat(0));
-    let (mut l1, mut c1) = (i64x4::splat(0), u32x8::splat(0));
-    let (mut l2, mut c2) = (i64x4::splat(0), u32x8::splat(0));
-    let (mut l3, mut c3) = (i64x4::splat(0), u32x8::splat(0));
+    let (a, b) = (rows.cells, column.cells);
+    let (mut l0, mut c0) = (without_own(rows.sums, 0, column.sums), u32x8::splat(0));
+    let (mut l1, mut c1) = (without_own(rows.sums, 4, column.sums), u32x8::splat(0));
+    let (mut l2, mut c2) = (without_own(rows.sums, 8, column.sums), u32x8::splat(0));
+    let (mut l3, mut c3) = (without_own(rows.sums, 12, column.sums), u32x8::splat(0));
     for q in 0..n {
         let (i, k) = (32 * q, 2 * q);
         let first = add_pair(l0, c0, rows_from(a, i), rows_from(a, i + 16), b, k);
@@ -75,13 +116,21 @@ pub(crate) fn pairs_of_sixteen(a: &[i64], b: &[i64], n: usize) -> [i64; 16]
 
 /// The sums of the products of n pairs of each of four rows and a column, and what is there.
 #[inline(never)]
-pub(crate) fn pairs_of_four(a: &[i64], b: &[i64], n: usize) -> [i64; 16]
-    requires a { n * 8 ≤ length a.now }
-    requires b { n * 2 ≤ length b.now }
-    ensures { (t : ℕ) → t < 4
-        → value_in result t ≡ wrap (pairs_dot (lane 4 a.now t) (value_in b.now) n) }
+pub(crate) fn pairs_of_four(rows: Panel<'_>, column: Panel<'_>, n: usize) -> [i64; 16]
+    requires a { n * 8 ≤ length rows.cells.now }
+    requires b { n * 2 ≤ length column.cells.now }
+    requires sums_a { 4 ≤ length rows.sums.now }
+    requires sums_b { 0 < length column.sums.now }
+    requires rows { (t : ℕ) → t < 4 → value_in rows.sums.now t
+        ≡ wrap (own_pairs (lane 4 rows.cells.now t) n) }
+    requires column { value_in column.sums.now 0 ≡ wrap (own_pairs (value_in column.cells.now) n) }
+    ensures len { length result ≡ 16 }
+    ensures each { (t : ℕ) → t < 4 → value_in result t
+        ≡ wrap (dot (lane 4 rows.entry.cells.now t) (value_in column.entry.cells.now) (n * 2)) }
 {
-    let (mut low, mut words) = (i64x4::splat(0), u32x8::splat(0));
+    let (a, b) = (rows.cells, column.cells);
+    let mut low = without_own(rows.sums, 0, column.sums);
+    let mut words = u32x8::splat(0);
     for q in 0..n {
         let (x, y) = (rows_from(a, 8 * q), rows_from(a, 8 * q + 4));
         (low, words) = add_pair(low, words, x, y, b, 2 * q);
@@ -89,12 +138,4 @@ pub(crate) fn pairs_of_four(a: &[i64], b: &[i64], n: usize) -> [i64; 16]
     let mut sums = [0i64; 16];
     store(&mut sums, 0, low, words);
     sums
-}
-
-/// A number less two others, modulo 2^64.
-#[inline(always)]
-pub(crate) fn less(sum: i64, x: i64, y: i64) -> i64
-    ensures { result ≡ wrap (wrap (sum -ℤ x) -ℤ y) }
-{
-    sum.wrapping_sub(x).wrapping_sub(y)
 }

@@ -5,7 +5,7 @@ ghost use Rattle.std.specs.Prelude.{◌≡◌, ◌<◌, ◌≤◌, ◌+◌, ◌*
 ghost use Rattle.std.specs.Prelude.{IsTrue};
 ghost use Rattle.tensor_walks.specs.Walk.{walk_size, reached, AreAllApart};
 
-use crate::walk::{Axis, reached};
+use crate::walk::{Axis, along_axis, first_axis, row_of, row_with};
 
 /// Whether the places of two tables, by so many each, can be added up with no carry along the axes,
 /// of which none falls: what is left of them within the first axes, added up, stays within these.
@@ -43,14 +43,36 @@ fn greatest_rest(places: &[usize], span: usize) -> usize
     ensures below { result < span }
     ensures each { (k : ℕ) → k < length places.now → slice_index places.now k % span ≤ result }
 {
-    let mut greatest = 0;
+    let (mut greatest, mut last, mut rest) = (0, 0, 0);
     for place in places {
-        greatest = greatest.max(*place % span);
+        rest = next_rest(last, rest, *place, span);
+        last = *place;
+        greatest = greatest.max(rest);
     }
     greatest
 }
 
-/// The places become those that a walk reaches for them. A division a place and an axis.
+/// What is left of a place, from what is left of the last one: where they are near, without a division.
+#[inline(always)]
+fn next_rest(last: usize, rest: usize, place: usize, span: usize) -> usize
+    requires some { 0 < span }
+    requires rest { rest ≡ last % span }
+    ensures { result ≡ place % span }
+{
+    if place >= last {
+        let next = rest + (place - last);
+        if next < span {
+            return next;
+        }
+        if next - span < span {
+            return next - span;
+        }
+    }
+    place % span
+}
+
+/// The places become those that a walk reaches for them. A division a place; where one isn't in the
+/// row of the second axis that the last one was in, another for each axis.
 pub fn lead(places: &mut Vec<usize>, start: usize, axes: &[Axis])
     requires within { (k : ℕ) → k < length places.old.items
         → slice_index places.old.items k < walk_size axes.now }
@@ -59,7 +81,17 @@ pub fn lead(places: &mut Vec<usize>, start: usize, axes: &[Axis])
     ensures each { (k : ℕ) → k < length places.old.items
         → slice_index places.new.items k ≡ reached start axes.now (slice_index places.old.items k) }
 {
+    let Some(first) = places.first() else {
+        return;
+    };
+    let (axis, others) = first_axis(axes);
+    let (second, slower) = first_axis(others);
+    let mut row = row_of(start, second, slower, *first / axis.size);
     for k in 0..places.len() {
-        places[k] = reached(start, axes, places[k]);
+        let place = places[k];
+        let rest = place / axis.size;
+        row = row_with(row, start, second, slower, rest);
+        let reached = along_axis(row.start, second, rest - row.first);
+        places[k] = along_axis(reached, axis, place % axis.size);
     }
 }

@@ -1,32 +1,14 @@
-use Rattle.std.proofs.Common.{◌≡◌, ℕ, ◌+◌, ◌*◌, ◌/◌, ◌%◌, ◌<◌, ◌≤◌, ℤ, List, [], ◌∷◌, ◌++◌, length}
-use Rattle.std.proofs.Common.{ap, sym, subst, ◌∙◌, arith, pos, below_more, add-one-le}
-use Rattle.std.proofs.Common.{mul-le-mul_right}
+use Rattle.std.proofs.Common.{◌≡◌, ℕ, ◌/◌, ℤ, List, [], ◌∷◌, ◌++◌, length}
+use Rattle.std.proofs.Common.{ap, sym, subst, ◌∙◌, arith, pos, below_more}
 use Rattle.std.proofs.lemmas.List.{get_or_append_left, get_or_push, length_push}
-use Rattle.std.proofs.lemmas.Nat.{div_below, mod_below}
 use Rattle.tensor_shape.specs.Wrap.{wrap}
 use Rattle.tensor_values.specs.Values.{value_in}
-use Rattle.tensor_kernels.specs.Pairs.{own_pairs, lane, ArePairSums}
-use Rattle.tensor_kernels.specs.Panels.{panel_place, cell_of}
+use Rattle.tensor_kernels.specs.Pairs.{own_pairs, ArePairSums}
+use Rattle.tensor_kernels.specs.Panels.{cell_of}
 use Rattle.tensor_kernels.proofs.ListWrites.{stored}
 use Rattle.tensor_kernels.proofs.PanelPlaces.{panel_place-inside}
-use Rattle.tensor_kernels.proofs.ProductSums.{sum_to-ext}
+use Rattle.tensor_kernels.proofs.PairRows.{row-place, pairs-row}
 use Rattle.tensor_kernels.proofs.panels.pair_sums.pair_sums.Goals as goal
-
--- where a row of panels begins, and that a panel more lies within them
-row-place : (h n x panels : ℕ) → 0 < h → x < panels * h
-    → (x / h * (n * h) + n * h ≤ panels * (n * h)) × (n * h ≤ panels * (n * h)) × (x % h < h)
-row-place h n x panels some below =
-    let panel = mul-le-mul_right (n * h) (add-one-le (div_below x h panels some below)) in
-    (omega (arith, panel), omega (arith, panel), mod_below x h some)
-
--- a row's pairs, from where its panel begins
-pairs-row : (h n x m : ℕ) (cells : List ℤ)
-    → own_pairs (lane h cells (x / h * (n * h) + x % h)) m ≡ own_pairs (cell_of h cells n x) m
-pairs-row h n x m cells =
-    let same = λ (q : ℕ).
-    let at : h * q + (x / h * (n * h) + x % h) ≡ panel_place h n x q = omega arith in
-    ap (λ k. value_in cells k) at in
-    sum_to-ext _ _ m (λ k below. let first = same (2 * k) in let second = same (2 * k + 1) in cc)
 
 -- the sum of a row more
 sums-more : (h n x : ℕ) (cells sums : List ℤ) (s : ℤ) → length sums ≡ x

@@ -7,7 +7,7 @@ use Rattle.std.proofs.lemmas.Nat.{div-add-mod', div_below, mod_below}
 use Rattle.std.specs.Cow.{cow_slice_items}
 use Rattle.tensor_shape.specs.Wrap.{wrap}
 use Rattle.tensor_kernels.specs.Chunks.{before}
-use Rattle.tensor_kernels.specs.PairedBands.{IsBand, IsOfColumns, HasColumns}
+use Rattle.tensor_kernels.specs.PairedBands.{IsOfColumns, HasColumns}
 use Rattle.tensor_kernels.specs.Panels.{cell_of}
 use Rattle.tensor_kernels.specs.Products.{sum_to}
 use Rattle.tensor_kernels.specs.Rows.{row_count, row_value}

@@ -1,4 +1,4 @@
-use Rattle.std.proofs.Common.{◌≡◌, ℕ, zero, suc, ◌+◌, ◌*◌, ◌-◌, ◌<◌, ℤ, length, refl, ap, sym, ◌∙◌, arith}
+use Rattle.std.proofs.Common.{◌≡◌, ℕ, zero, suc, ◌+◌, ◌*◌, ◌<◌, ℤ, length, refl, ap, sym, ◌∙◌, arith}
 use Rattle.std.proofs.Common.{min}
 use Rattle.std.specs.Int.{div_ceil}
 use Rattle.tensor_shape.specs.Wrap.{wrap}
@@ -7,7 +7,6 @@ use Rattle.tensor_values.specs.Values.{value_in}
 use Rattle.tensor_kernels.specs.Products.{sum_to}
 use Rattle.tensor_kernels.specs.Tiling.{product_at, group_pairs, group_total}
 use Rattle.tensor_kernels.proofs.ChunkSums.{wrap-chunk, before-later}
-use Rattle.tensor_kernels.proofs.ProductSums.{sum_to-ext}
 use Rattle.tensor_kernels.proofs.tiling.Tiled.fill_pairs.Goals as goal
 
 pub loop-group-preserved : goal.loop-group-preserved

@@ -3,12 +3,12 @@ use Rattle.std.proofs.lemmas.List.{length-map}
 use Rattle.tensor_values.specs.Values.{value_in}
 use Rattle.tensor_kernels.proofs.SimdLanes.{wrapped_fits}
 use Rattle.tensor_kernels.proofs.HalfLanes.{length-bits, length-both}
-use Rattle.tensor_kernels.proofs.PairLanes.{at-sums, bits-sum}
+use Rattle.tensor_kernels.proofs.PairLanes.{at-two, bits-sum}
 use Rattle.tensor_kernels.proofs.tiling.pairs.sums_of.Goals as goal
 
 pub returns-clause-each : goal.returns-clause-each
 returns-clause-each c r h =
-    at-sums _ c.args.x c.args.y r c.requires.x c.requires.y h
+    at-two _ c.args.x c.args.y r c.requires.x c.requires.y h
     ∙ bits-sum (value_in c.args.x r) (value_in c.args.y r) (c.requires.x.1 r h) (c.requires.y.1 r h)
 
 pub returns-clause-lanes : goal.returns-clause-lanes

@@ -1,5 +1,5 @@
--- The places below the counter are led, and the others are as they were.
-use Rattle.std.proofs.Common.{◌≡◌, ℕ, ◌<◌, ◌≤◌, length, slice_index}
+-- The places below the counter are led, and the others are as they were; the row of the last one.
+use Rattle.std.proofs.Common.{◌≡◌, ℕ, ◌<◌, ◌≤◌, ◌*◌, ◌/◌, length, slice_index}
 use Rattle.tensor_walks.specs.Walk.{reached}
 use Rattle.tensor_walks.proofs.walk.led.lead.Given as goal
 
@@ -9,4 +9,6 @@ invariant-loop-k l = record {
   led : (k : ℕ) → k < l.k → slice_index l.places.items k
       ≡ reached l.start l.axes (slice_index l.initial.places.items k);
   left : (k : ℕ) → l.k ≤ k → slice_index l.places.items k ≡ slice_index l.initial.places.items k;
+  first : l.row.first ≡ l.second.size * (l.row.first / l.second.size);
+  start : l.row.start ≡ reached l.start l.slower (l.row.first / l.second.size);
 }
