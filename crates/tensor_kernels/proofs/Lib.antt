@@ -11,7 +11,6 @@ pub mod ListWrites
 pub mod PackedRows
 pub mod PairLanes
 pub mod PairProducts
-pub mod PairRows
 pub mod PairTotals
 pub mod PanelPlaces
 pub mod Parts

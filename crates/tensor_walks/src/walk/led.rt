@@ -9,7 +9,8 @@ use crate::walk::{Axis, along_axis, first_axis, row_of, row_with};
 
 /// Whether the places of two tables, by so many each, can be added up with no carry along the axes,
 /// of which none falls: what is left of them within the first axes, added up, stays within these.
-/// Along the last axis it does, since the sums are places. A division a place and an axis.
+/// Along the last axis it does, since the sums are places. A division a place and an axis, but where a
+/// place is near the one before.
 pub fn are_apart(axes: &[Axis], before: usize, starts: &[usize], offsets: &[usize]) -> bool
     requires before { 0 < before }
     requires some { 0 < walk_size axes.now }

@@ -6,8 +6,7 @@ use Rattle.tensor_values.specs.Values.{value_in}
 use Rattle.tensor_kernels.specs.Pairs.{own_pairs, ArePairSums}
 use Rattle.tensor_kernels.specs.Panels.{cell_of}
 use Rattle.tensor_kernels.proofs.ListWrites.{stored}
-use Rattle.tensor_kernels.proofs.PanelPlaces.{panel_place-inside}
-use Rattle.tensor_kernels.proofs.PairRows.{row-place, pairs-row}
+use Rattle.tensor_kernels.proofs.PanelPlaces.{panel_place-inside, row-place, pairs-row}
 use Rattle.tensor_kernels.proofs.panels.pair_sums.pair_sums.Goals as goal
 
 -- the sum of a row more

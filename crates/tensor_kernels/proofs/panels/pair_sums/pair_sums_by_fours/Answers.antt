@@ -3,8 +3,8 @@ use Rattle.std.proofs.Common.{length-take}
 use Rattle.std.proofs.lemmas.List.{get_or-take}
 use Rattle.tensor_shape.specs.Wrap.{wrap}
 use Rattle.tensor_kernels.specs.Pairs.{own_pairs, lane, ArePairSums}
-use Rattle.tensor_kernels.proofs.PairRows.{row-place, pairs-row, place-of-four, four-inside}
-use Rattle.tensor_kernels.proofs.PairRows.{sums-of-four-more, fours-whole}
+use Rattle.tensor_kernels.proofs.PanelPlaces.{row-place, pairs-row, place-of-four, four-inside}
+use Rattle.tensor_kernels.proofs.PanelPlaces.{sums-of-four-more, fours-whole}
 use Rattle.tensor_kernels.proofs.panels.pair_sums.pair_sums_by_fours.Goals as goal
 
 pub overflow_mul-start-in-loop-four : goal.overflow_mul-start-in-loop-four
