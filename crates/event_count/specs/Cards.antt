@@ -1,5 +1,5 @@
 -- What a seat knows, and how its knowledge is dealt out and put together.
-use Rattle.std.specs.Prelude.{ℕ, ◌+◌, List, [], ◌∷◌, ◌++◌, map, replicate, slice_index_or, None}
+use Rattle.std.specs.Prelude.{ℕ, ◌+◌, List, [], ◌∷◌, ◌++◌, map, replicate, slice_index_or, Some, None}
 use Rattle.std.specs.Prelude.{false}
 use Rattle.std.specs.List.{range_with_len}
 use Rattle.event_word.specs.declared.phase.Phase.TheVariants.{Running}
@@ -7,12 +7,20 @@ use Rattle.event_word.specs.Word.{nobody}
 use Rattle.event_count.specs.declared.rule.Sizes.{Sizes}
 use Rattle.event_count.specs.declared.rule.RowSizes.{RowSizes}
 use Rattle.event_count.specs.declared.view.Exchange.{Exchange}
+use Rattle.event_count.specs.declared.view.Finding.{Finding}
 use Rattle.event_count.specs.declared.view.Card.{Card}
 use Rattle.event_count.specs.declared.view.View.{View}
 
 abbrev pub exchange_of : ℕ → ℕ → ℕ → Exchange
 exchange_of expected offered found =
     record { expected = expected; offered = offered; found = found }
+
+-- a row's length was found to be this, or the stop word was
+abbrev pub found_in : ℕ → ℕ → Finding
+found_in row length = record { row = Some row; word = length }
+
+abbrev pub found_at_stop : ℕ → Finding
+found_at_stop word = record { row = None; word = word }
 
 -- the sizes of a count alone
 abbrev pub rowless : Sizes → RowSizes
@@ -51,7 +59,7 @@ opening_card k number = record {
   passed = slice_index_or (replicate k.waiters (replicate k.rows false)) number [];
   announcing = false;
   credits = k.credits;
-  found = 0;
+  found = found_at_stop 0;
 }
 
 -- the same at a count alone

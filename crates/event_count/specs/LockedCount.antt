@@ -60,19 +60,15 @@ IsCommitIn w seat commit.Pushed u =
 abbrev pub HasJustWoken : ℕ → World → Type 0
 HasJustWoken seat u = (w : World) × IsStep w (Wake seat) true u
 
--- A sleep that found this World behind the lock is unparked where its commit pushed the seat, once
--- that has taken its token. Else it takes a signal, or may not commit.
-abbrev pub IsSleep : World → ℕ → Committed → Type 0
-IsSleep w seat committed.Consumed =
-    (u : World) × (IsCommitIn w seat commit.Consumed u ⊎ IsCommitIn w seat commit.Impossible u)
-IsSleep w seat committed.Unparked = (u last : World)
-    × IsCommitIn w seat commit.Pushed u × HasJustWoken seat last
-IsSleep w seat committed.Spent = ⊥
+-- A sleep that found the World w behind the lock, and left u there, is unparked where its commit
+-- pushed the seat, once that has taken its token. Else it took a signal, or might not commit.
+abbrev pub IsSleep : World → ℕ → Committed → World → Type 0
+IsSleep w seat committed.Consumed u =
+    IsCommitIn w seat commit.Consumed u ⊎ IsCommitIn w seat commit.Impossible u
+IsSleep w seat committed.Unparked u =
+    (pushed : World) × IsCommitIn w seat commit.Pushed pushed × HasJustWoken seat u
+IsSleep w seat committed.Spent u = ⊥
 
--- the same of a World that a lock held
-abbrev pub RestsOnWorld : ℕ → Committed → Type 0
-RestsOnWorld seat answer = (k : Sizes) × (w : World) × IsCountWorld k w × IsSleep w seat answer
-
--- a last word: that of such a World, at epoch 0
+-- a last word: one that such a World shows at epoch 0, whatever its sizes
 abbrev pub IsLast : ℕ → Type 0
 IsLast word = (k : Sizes) × (w : World) × IsCountWorld k w × (fields_of word ≡ shown w 0)

@@ -117,5 +117,5 @@ pub use row_count::RowCount;
 pub use rule::{EPOCHS, Law, MOST_CREDITS, MOST_WAITERS, RowSizes, Sizes};
 pub use seat::Seat;
 pub use tokens::{Credit, Ticket};
-pub use view::{Card, Exchange, View};
+pub use view::{Card, Exchange, Finding, View};
 pub use wait_point::WaitPoint;

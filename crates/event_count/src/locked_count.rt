@@ -5,7 +5,7 @@ ghost use Rattle.std.specs.Sync.Mutex.{mutex_guard_value};
 ghost use Rattle.event_word.specs.declared.phase.Phase.TheVariants.{Running, Pre};
 ghost use Rattle.event_count.specs.Limits.{most_waiters};
 ghost use Rattle.event_count.specs.Known.{first_world};
-ghost use Rattle.event_count.specs.LockedCount.{HasJustWoken, IsSleep, RestsOnWorld, IsLast};
+ghost use Rattle.event_count.specs.LockedCount.{HasJustWoken, IsSleep, IsLast};
 
 use crate::answers::{CommitIn, Committed};
 use crate::fault::CountFault;
@@ -76,27 +76,25 @@ impl<A: Allocator> LockedCount<A> {
         ensures { result.sizes ≡ world.sizes }
     {
         LockedCount {
-            sizes: world.sizes(),
+            sizes: world.sizes,
             world: Mutex::new(world),
             notified: Condvar::new(),
         }
     }
 
-    // Commits in the World that the lock holds, and lets go of it. A seat that was pushed sleeps.
+    // Commits in the World that the lock holds. A seat that was pushed sleeps.
     fn commit<'a, R: Wait>(
         &'a self,
         rt: &R,
         mut world: MutexGuard<'a, SteppedWorld<A>>,
         seat: u16,
-    ) -> Committed
-        ensures { IsSleep (mutex_guard_value world.entry).world seat result }
+    ) -> (Committed, MutexGuard<'a, SteppedWorld<A>>)
+        ensures { IsSleep (mutex_guard_value world.entry).world seat result.0
+            (mutex_guard_value result.1).world }
     {
         match world.commit(seat) {
-            CommitIn::Pushed => {
-                self.take_token(rt, world, seat);
-                Committed::Unparked
-            }
-            CommitIn::Consumed | CommitIn::Impossible => Committed::Consumed,
+            CommitIn::Pushed => (Committed::Unparked, self.take_token(rt, world, seat)),
+            CommitIn::Consumed | CommitIn::Impossible => (Committed::Consumed, world),
         }
     }
 
@@ -119,7 +117,8 @@ impl<A: Allocator> LockedCount<A> {
     }
 }
 
-// Each call is steps of the World under the lock, and nothing is known of what it held before.
+// Each call is steps of the World under the lock. What that held is known by its type alone, so no
+// clause of a call names it, nor says that its sizes are the count's.
 impl<A: Allocator + Clone> WaitPoint<A> for LockedCount<A> {
     type Seat = LockedSeat;
 
@@ -172,11 +171,10 @@ impl<A: Allocator + Clone> WaitPoint<A> for LockedCount<A> {
         ensures number { seat.new.number ≡ seat.old.number }
         ensures running { seat.new.phase ≡ Running }
         ensures never_spent { result ≢ Committed.Spent }
-        ensures answer { RestsOnWorld seat.old.number result }
     {
         let number = seat.waiter();
         seat.phase = Phase::Running;
-        self.commit(rt, self.world.lock(rt), number)
+        self.commit(rt, self.world.lock(rt), number).0
     }
 
     fn leave<R: Wait>(&self, rt: &R, seat: &mut LockedSeat) {

@@ -18,7 +18,7 @@ use std::alloc::{AllocError, Allocator, Global};
 #[derive(Drop)]
 pub(crate) struct SteppedWorld<A: Allocator = Global> {
     world: World<A>,
-    sizes: Sizes,
+    pub(crate) sizes: Sizes,
     ghost lawful: { IsCountWorld sizes world },
 }
 
@@ -34,13 +34,6 @@ impl<A: Allocator> SteppedWorld<A> {
     {
         let world = World::new(alloc, sizes.waiters, sizes.notifiers, 0)?;
         Ok(SteppedWorld { world, sizes })
-    }
-
-    /// The seats that it was made with.
-    pub(crate) fn sizes(&self) -> Sizes
-        ensures { result ≡ self.now.sizes }
-    {
-        self.sizes
     }
 
     /// Takes a step. False: the event isn't possible now, and nothing changed.

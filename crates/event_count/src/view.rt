@@ -10,6 +10,13 @@ pub struct Exchange {
     pub found: u64,
 }
 
+/// What a load of a row's length, or of the stop word, found.
+pub struct Finding {
+    /// The row. None: it was the stop word.
+    pub row: Option<u64>,
+    pub word: u64,
+}
+
 /// What one seat has done, and what it knows of itself.
 pub struct Card {
     /// How many seats of the count may wait.
@@ -47,8 +54,8 @@ pub struct Card {
     pub announcing: bool,
     /// How many more jobs it may publish.
     pub credits: u64,
-    /// The length, or the stop word, that it last found.
-    pub found: u64,
+    /// What it found when it last looked at a row's length, or at the stop word.
+    pub found: Finding,
 }
 
 /// The cards of the seats that a view stands for, the rows of its tickets, and the credits that lie

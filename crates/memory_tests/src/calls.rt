@@ -1,7 +1,9 @@
 //! Calls that take memory, made with an allocator that refuses.
 
 use crate::refusing::Sparing;
-use event_count::{CountFault, EventCount, LockedCount, RowCount, RowFault, RowSizes, WaitPoint};
+use event_count::{
+    Committed, CountFault, EventCount, LockedCount, RowCount, RowFault, RowSizes, WaitPoint,
+};
 use event_word::{Event, World};
 use parallel_for::leaves;
 use pool_barrier::{Barrier, BarrierFault, Notification};
@@ -9,6 +11,7 @@ use run_queue::{Deque, LockedRows, Rows, RowsFault, SlotRows};
 use std::alloc::{AllocError, Global};
 use std::sync::Wait;
 use steal_walk::Coprimes;
+use waking_rows::{RowPoint, WakingRows, on_one_count};
 
 type Heap = Sparing<Global>;
 
@@ -22,12 +25,16 @@ pub(crate) enum Call {
     EventCountAsPoint { waiters: u16 },
     LockedCount { waiters: u16 },
     RowCount { waiters: u16 },
+    RowPoint { waiters: u16 },
     World,
     Row,
     LockedRows,
     SlotRows,
+    WakingRows,
+    OnOneCount,
     TooManyRows,
     TooManySlotRows,
+    TooManyWakingRows,
     Coprimes,
     Leaves,
 }
@@ -102,12 +109,16 @@ pub(crate) fn make<R: Wait>(rt: &R, call: Call, heap: &Heap) -> Answer {
             Answer::of_count(point::<LockedCount<&Heap>>(heap, waiters))
         }
         Call::RowCount { waiters } => Answer::of_row_count(row_count(heap, waiters)),
+        Call::RowPoint { waiters } => Answer::of_count(point::<RowPoint<&Heap>>(heap, waiters)),
         Call::World => Answer::of_memory(world(heap)),
         Call::Row => Answer::of_memory(row(heap)),
         Call::LockedRows => Answer::of_rows(two_rows::<R, LockedRows<u64, &Heap>>(rt, heap)),
         Call::SlotRows => Answer::of_rows(two_rows::<R, SlotRows<u64, &Heap>>(rt, heap)),
+        Call::WakingRows => Answer::of_rows(two_rows::<R, WakingRows<u64, &Heap>>(rt, heap)),
+        Call::OnOneCount => Answer::of_memory(one_count(rt, heap)),
         Call::TooManyRows => Answer::of_rows(too_many_rows::<LockedRows<u64, &Heap>>(heap)),
         Call::TooManySlotRows => Answer::of_rows(too_many_rows::<SlotRows<u64, &Heap>>(heap)),
+        Call::TooManyWakingRows => Answer::of_rows(too_many_rows::<WakingRows<u64, &Heap>>(heap)),
         Call::Coprimes => Answer::of_memory(coprimes(heap)),
         Call::Leaves => Answer::of_memory(leaves_of_ten(heap)),
     }
@@ -196,6 +207,19 @@ fn two_rows<'h, R: Wait, Q: Rows<u64, &'h Heap>>(
     let count = seats.len();
     let left = rows.drain_all(seats);
     Ok(count == 3 && put.is_ok() && left.as_slice() == [7].as_slice())
+}
+
+// Rows for two workers and their point have three seats each. Who waits gives up where there is a
+// job, which is handed back at the end, all with no more memory.
+fn one_count<R: Wait>(rt: &R, heap: &Heap) -> Result<bool, AllocError> {
+    let mut made = on_one_count::<u64, &Heap>(&heap, 2)?;
+    let put = made.rows.put_back(rt, &mut made.row_seats[2], 1, 7);
+    made.point.enter(rt, &mut made.waiters[0]);
+    let answer = made.point.sleep(rt, &mut made.waiters[0]);
+    let counts = (made.row_seats.len(), made.waiters.len());
+    let left = made.rows.drain_all(made.row_seats);
+    let is_right = counts == (3, 3) && put.is_ok() && answer == Committed::Consumed;
+    Ok(is_right && left.as_slice() == [7].as_slice())
 }
 
 // Rows that are too many.

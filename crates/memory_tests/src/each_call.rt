@@ -5,7 +5,7 @@ use crate::calls::{Answer, Call, make};
 use crate::refusing::Sparing;
 
 /// Calls, and how many allocations each takes.
-const CALLS: [(Call, u64); 13] = [
+const CALLS: [(Call, u64); 16] = [
     // A table takes two blocks.
     (Call::Barrier { notices: 2 }, 2),
     (Call::Notification, 2),
@@ -14,6 +14,8 @@ const CALLS: [(Call, u64); 13] = [
     (Call::EventCountAtTheLastEpoch { waiters: 2 }, 4),
     (Call::EventCountAsPoint { waiters: 2 }, 4),
     (Call::RowCount { waiters: 2 }, 4),
+    // A count, the list of its waiters and the block that is shared.
+    (Call::RowPoint { waiters: 2 }, 6),
     // The World takes eight blocks, and the seats one.
     (Call::LockedCount { waiters: 2 }, 9),
     // Nine lists, one allocation each, and for each of the two workers a list of the rows that it
@@ -25,15 +27,20 @@ const CALLS: [(Call, u64); 13] = [
     // The backs; the room of what is left, the list that hands it over and the two blocks of its
     // table; the words, the seats, the slots, and the two blocks of the table.
     (Call::SlotRows, 10),
+    // A count and the block that is shared; rows of slots; the rooms of the jobs that are left and
+    // of the seats, four each; the seats.
+    (Call::WakingRows, 24),
+    // The waiters' list and the other seats' too.
+    (Call::OnOneCount, 26),
     (Call::Coprimes, 1),
     (Call::Leaves, 1),
 ];
 
 /// More than any of them takes.
-const AMPLE: u64 = 12;
+const AMPLE: u64 = 28;
 
 /// Calls that ask for too much.
-const TOO_MUCH: [Call; 9] = [
+const TOO_MUCH: [Call; 11] = [
     Call::Barrier {
         notices: 2_147_483_648,
     },
@@ -44,8 +51,10 @@ const TOO_MUCH: [Call; 9] = [
     Call::RowCount { waiters: 16_383 },
     // Its seats have too many credits together.
     Call::RowCount { waiters: 16_382 },
+    Call::RowPoint { waiters: 16_383 },
     Call::TooManyRows,
     Call::TooManySlotRows,
+    Call::TooManyWakingRows,
 ];
 
 #[test]

@@ -9,7 +9,8 @@ use std::sync::Wait;
 use std::sync::atomic::{AtomicU64, Ordering};
 use std::thread::Threads;
 use worker_pool::{
-    Caller, Closed, Job, Lists, NoGate, PoolFault, Setup, VecLists, with_pool, with_root,
+    Caller, Closed, Job, Lists, NoGate, PoolFault, Setup, VecLists, with_counted_root, with_pool,
+    with_root,
 };
 
 /// How a pool is opened.
@@ -19,6 +20,8 @@ pub(crate) enum Entry {
     Body,
     /// For the root.
     Root,
+    /// For the root, over one count.
+    CountedRoot,
 }
 
 /// How often a pool called its body, or what comes after its root, and how its jobs ended.
@@ -64,6 +67,7 @@ where
             rt, alloc, &setup, ends, calls, root,
         ),
         Entry::Root => planted(rt, alloc, &setup, ends, calls, root),
+        Entry::CountedRoot => counted(rt, alloc, &setup, ends, calls, root),
     }
 }
 
@@ -119,6 +123,32 @@ where
     A: Allocator + Clone + Send + Sync,
 {
     with_root::<LockedCount<A>, LockedRows<Splits, A>, VecLists, RT, Splits, A, NoGate, _>(
+        rt,
+        alloc,
+        setup,
+        ends,
+        &NoGate,
+        root,
+        || {
+            calls.fetch_add(1, Ordering::SeqCst);
+        },
+    )
+}
+
+// The same, over one count.
+fn counted<RT, A>(
+    rt: &RT,
+    alloc: A,
+    setup: &Setup<A>,
+    ends: &Ends,
+    calls: &AtomicU64,
+    root: Splits,
+) -> Result<Closed<Splits, A>, PoolFault>
+where
+    RT: Threads + Wait + Sync,
+    A: Allocator + Clone + Send + Sync,
+{
+    with_counted_root::<VecLists, RT, Splits, A, NoGate, _>(
         rt,
         alloc,
         setup,

@@ -15,12 +15,19 @@ const JOBS: u64 = 40;
 /// How many allocations beyond its opening's a pool is tried with, which suffice for all jobs.
 const MOST_MORE: u64 = 64;
 
-const ENTRIES: [Entry; 2] = [Entry::Body, Entry::Root];
+const ENTRIES: [Entry; 3] = [Entry::Body, Entry::Root, Entry::CountedRoot];
 
-/// Numbers of workers, and how many allocations an opening takes: the rows three and one for each
-/// worker, the count nine, the stop word two, the coprimes and the hands one each, and four the
-/// lists of what comes home.
-const OPENINGS: [(u32, u64); 2] = [(1, 21), (2, 22)];
+/// How pools are opened, numbers of workers, and how many allocations an opening takes: under locks
+/// the rows three and one for each worker, and the count nine; over one count both together 26; the
+/// stop word two, the coprimes and the hands one each, and four the lists of what comes home.
+const OPENINGS: [(Entry, u32, u64); 6] = [
+    (Entry::Body, 1, 21),
+    (Entry::Body, 2, 22),
+    (Entry::Root, 1, 21),
+    (Entry::Root, 2, 22),
+    (Entry::CountedRoot, 1, 34),
+    (Entry::CountedRoot, 2, 34),
+];
 
 /// A pool that runs the root.
 #[derive(Clone, Copy, Debug)]
@@ -124,15 +131,13 @@ fn expect_all_ended<R: Abort>(rt: &R, pool: Opened, ran: &Ran) {
 // Where a pool isn't opened, nothing is called and no step taken.
 #[test]
 fn each_allocation_of_an_opening(rt: HostRuntime) -> Result<(), Fail> {
-    for entry in ENTRIES {
-        for (workers, takes) in OPENINGS {
-            let pool = pool_of(entry, workers);
-            for left in 0..takes {
-                let ran = run_with(&rt, rt.alloc(), left, pool)?;
-                let found = (ran.fault, ran.calls, ran.steps);
-                let none = (Some(PoolFault::NoMemory), 0, 0);
-                assert_eq!(rt; found, none, "{entry:?}, after {left}");
-            }
+    for (entry, workers, takes) in OPENINGS {
+        let pool = pool_of(entry, workers);
+        for left in 0..takes {
+            let ran = run_with(&rt, rt.alloc(), left, pool)?;
+            let found = (ran.fault, ran.calls, ran.steps);
+            let none = (Some(PoolFault::NoMemory), 0, 0);
+            assert_eq!(rt; found, none, "{entry:?}, after {left}");
         }
     }
     Ok(())
@@ -142,16 +147,14 @@ fn each_allocation_of_an_opening(rt: HostRuntime) -> Result<(), Fail> {
 // find room.
 #[test]
 fn no_allocation_after_an_opening_and_ample(rt: HostRuntime) -> Result<(), Fail> {
-    for entry in ENTRIES {
-        for (workers, takes) in OPENINGS {
-            let pool = pool_of(entry, workers);
-            for (allocations, outs, refused) in [(takes, 0, 1), (u64::MAX, JOBS, 0)] {
-                let ran = run_with(&rt, rt.alloc(), allocations, pool)?;
-                let found = (ran.fault, ran.calls, ran.outs.len() as u64, ran.refused);
-                assert_eq!(rt; found, (None, 1, outs, refused), "{pool:?}");
-                let rest = (ran.left, ran.steps > 0, ran.abandons);
-                assert_eq!(rt; rest, (0, outs > 0, refused), "{pool:?}");
-            }
+    for (entry, workers, takes) in OPENINGS {
+        let pool = pool_of(entry, workers);
+        for (allocations, outs, refused) in [(takes, 0, 1), (u64::MAX, JOBS, 0)] {
+            let ran = run_with(&rt, rt.alloc(), allocations, pool)?;
+            let found = (ran.fault, ran.calls, ran.outs.len() as u64, ran.refused);
+            assert_eq!(rt; found, (None, 1, outs, refused), "{pool:?}");
+            let rest = (ran.left, ran.steps > 0, ran.abandons);
+            assert_eq!(rt; rest, (0, outs > 0, refused), "{pool:?}");
         }
     }
     Ok(())
@@ -162,24 +165,22 @@ fn no_allocation_after_an_opening_and_ample(rt: HostRuntime) -> Result<(), Fail>
 // find room are the first.
 #[test]
 fn each_allocation_after_an_opening(rt: HostRuntime) -> Result<(), Fail> {
-    for entry in ENTRIES {
-        for (workers, takes) in OPENINGS {
-            let pool = pool_of(entry, workers);
-            let mut before = 0;
-            for more in 1..=MOST_MORE {
-                let ran = run_with(&rt, rt.alloc(), takes + more, pool)?;
-                expect_all_ended(&rt, pool, &ran);
-                let outs = ran.outs.len() as u64;
-                let some = outs > 0 && (outs < JOBS || more > 1);
-                let all = outs == JOBS || more < MOST_MORE;
-                assert!(rt; some && all, "{pool:?}, {more} more");
-                if workers == 1 {
-                    assert!(rt; before < outs || outs == JOBS, "{entry:?}, {more} more");
-                    let in_order = (0..outs).eq(ran.first.iter().copied());
-                    assert!(rt; in_order, "{entry:?}, {more} more");
-                }
-                before = outs;
+    for (entry, workers, takes) in OPENINGS {
+        let pool = pool_of(entry, workers);
+        let mut before = 0;
+        for more in 1..=MOST_MORE {
+            let ran = run_with(&rt, rt.alloc(), takes + more, pool)?;
+            expect_all_ended(&rt, pool, &ran);
+            let outs = ran.outs.len() as u64;
+            let some = outs > 0 && (outs < JOBS || more > 1);
+            let all = outs == JOBS || more < MOST_MORE;
+            assert!(rt; some && all, "{pool:?}, {more} more");
+            if workers == 1 {
+                assert!(rt; before < outs || outs == JOBS, "{entry:?}, {more} more");
+                let in_order = (0..outs).eq(ran.first.iter().copied());
+                assert!(rt; in_order, "{entry:?}, {more} more");
             }
+            before = outs;
         }
     }
     Ok(())
@@ -188,18 +189,16 @@ fn each_allocation_after_an_opening(rt: HostRuntime) -> Result<(), Fail> {
 // Each job in turn finds no memory in its last step, where it finds room for its out.
 #[test]
 fn each_allocation_where_a_step_finds_no_memory(rt: HostRuntime) -> Result<(), Fail> {
-    for entry in ENTRIES {
-        for (workers, takes) in OPENINGS {
-            for more in 1..=MOST_MORE {
-                let pool = Opened {
-                    starved_place: Some(more % JOBS),
-                    ..pool_of(entry, workers)
-                };
-                let ran = run_with(&rt, rt.alloc(), takes + more, pool)?;
-                expect_all_ended(&rt, pool, &ran);
-                let all = ran.refused == 1 && ran.starved == 1;
-                assert!(rt; all || more < MOST_MORE, "{pool:?}, {more} more");
-            }
+    for (entry, workers, takes) in OPENINGS {
+        for more in 1..=MOST_MORE {
+            let pool = Opened {
+                starved_place: Some(more % JOBS),
+                ..pool_of(entry, workers)
+            };
+            let ran = run_with(&rt, rt.alloc(), takes + more, pool)?;
+            expect_all_ended(&rt, pool, &ran);
+            let all = ran.refused == 1 && ran.starved == 1;
+            assert!(rt; all || more < MOST_MORE, "{pool:?}, {more} more");
         }
     }
     Ok(())

@@ -15,20 +15,15 @@ use crate::halving::blocks;
 use crate::kernel::Kernel;
 use crate::piece::Piece;
 use crate::range_job::{RangeContext, RangeJob};
-use event_count::EventCount;
 use pool_barrier::{Barrier, MOST_NOTICES, Share, Waiter};
-use run_queue::SlotRows;
 use std::alloc::{AllocError, Allocator};
 use std::marker::Brand;
 use std::sync::Wait;
 use std::thread::Threads;
-use worker_pool::{NoGate, PoolFault, Setup, VecLists, with_root};
+use worker_pool::{NoGate, PoolFault, Setup, VecLists, with_counted_root};
 
 /// How many leaves a range has at most: each takes a notice of one barrier.
 const MOST_LEAVES: u64 = MOST_NOTICES;
-
-/// The rows from which the workers take the jobs of a range.
-type Slots<K, D, A> = SlotRows<RangeJob<K, D, A>, A>;
 
 /// The kernel's items at the places below `n`, in order.
 ///
@@ -219,7 +214,7 @@ where
     ensures covered { IfOk result (λ lists.
         SameBag (leaves_of root.first root.last D.block) (all_ranges lists.items)) }
 {
-    let closed = with_root::<EventCount<A>, Slots<K, D, A>, VecLists, _, _, _, _, _>(
+    let closed = with_counted_root::<VecLists, _, _, _, _, _>(
         rt,
         alloc.clone()?,
         setup,

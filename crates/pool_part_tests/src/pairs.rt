@@ -8,6 +8,7 @@ use std::process::Abort;
 use std::sync::Wait;
 use std::sync::atomic::{AtomicU64, Ordering};
 use std::thread::{self, Threads};
+use waking_rows::RowPoint;
 
 /// How often the word goes to and fro.
 const TURNS: u64 = 100_000;
@@ -169,4 +170,6 @@ where
 fn points_with_and_without_a_lock(rt: HostRuntime) {
     expect_point::<LockedCount, HostRuntime>(&rt, rt.alloc());
     expect_point::<EventCount, HostRuntime>(&rt, rt.alloc());
+    // Who puts a job in wakes one there: `wake_one` does nothing.
+    opens_and_shuts::<RowPoint, HostRuntime>(&rt, rt.alloc());
 }

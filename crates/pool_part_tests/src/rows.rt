@@ -1,4 +1,4 @@
-//! Rows that threads share, through their trait: with a lock, and of slots.
+//! Rows that threads share, through their trait: with a lock, of slots, and such as wake.
 ghost use Rattle.std.specs.Prelude.{◌≡◌, ◌<◌, IsTrue};
 
 use crate::told::expect;
@@ -6,6 +6,7 @@ use run_queue::{LockedRows, Rows, RowsFault, SlotRows};
 use std::alloc::Global;
 use std::process::Abort;
 use std::sync::Wait;
+use waking_rows::WakingRows;
 
 /// A call by a seat, and what it answers.
 #[derive(Clone, Copy)]
@@ -249,4 +250,5 @@ fn expect_rows<Q: Rows<u32, Global>, R: Wait + Abort>(rt: &R, alloc: Global, in_
 fn rows_with_a_lock_and_of_slots(rt: HostRuntime) {
     expect_rows::<LockedRows<u32>, HostRuntime>(&rt, rt.alloc(), true);
     expect_rows::<SlotRows<u32>, HostRuntime>(&rt, rt.alloc(), false);
+    expect_rows::<WakingRows<u32>, HostRuntime>(&rt, rt.alloc(), false);
 }

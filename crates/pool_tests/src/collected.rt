@@ -17,7 +17,8 @@ use std::sync::Wait;
 use std::test::Fail;
 use std::thread::Threads;
 use worker_pool::{
-    BoxedJob, Caller, Closed, Job, Lists, NoGate, PoolFault, Setup, VecLists, with_pool,
+    BoxedJob, Caller, Closed, Job, Lists, NoGate, PoolFault, Setup, VecLists, with_counted_root,
+    with_pool,
 };
 
 // Runs two jobs, and says what the account says of them.
@@ -90,6 +91,39 @@ where
     Ok(closed)
 }
 
+// Runs one job over one count. One that doesn't fork is collected once, or left, where it was not
+// refused.
+fn collect_root<L, RT, J>(
+    rt: &RT,
+    alloc: Global,
+    setup: &Setup,
+    ctx: &J::Ctx,
+    root: J,
+) -> Result<Closed<J>, PoolFault>
+where
+    RT: Threads + Wait + Sync,
+    J: Job<Global> + Drop + Send,
+    J::Ctx: Sync,
+    J::Out: Drop + Send,
+    J::Abandoned: Send,
+    L: Lists<J::Out, Global>,
+    ensures once { IfOk result (λ closed.
+        CollectedOnce (Unit {0}) (law_of J.Job ctx.now)
+        (root ∷ []) (flat_map (λ list. list.items) closed.outs.items)
+        closed.left.items closed.refused) }
+{
+    let closed = with_counted_root::<L, RT, J, Global, NoGate, _>(
+        rt,
+        alloc,
+        setup,
+        ctx,
+        &NoGate,
+        root,
+        || {},
+    )?;
+    Ok(closed)
+}
+
 #[test]
 fn both_tasks_are_collected(rt: HostRuntime) -> Result<(), Fail> {
     let alloc = rt.alloc();
@@ -110,6 +144,23 @@ fn both_tasks_are_collected(rt: HostRuntime) -> Result<(), Fail> {
         first,
         second,
     )?;
+    let unseen = Watch::new(alloc, Way::AtOnce, None)?.seen();
+    expect_each_once(&rt, alloc, run, &closed, unseen)
+}
+
+#[test]
+fn a_task_over_one_count_is_collected(rt: HostRuntime) -> Result<(), Fail> {
+    let alloc = rt.alloc();
+    let run = Run {
+        name: "a task over one count",
+        workers: 2,
+        first: 1,
+        tasks: 1,
+        ..RUN
+    };
+    let setup = setup_of(alloc, run.workers, &[])?;
+    let root = job_of(alloc, 1)?;
+    let closed = collect_root::<VecLists, HostRuntime, BoxedJob>(&rt, alloc, &setup, &(), root)?;
     let unseen = Watch::new(alloc, Way::AtOnce, None)?.seen();
     expect_each_once(&rt, alloc, run, &closed, unseen)
 }

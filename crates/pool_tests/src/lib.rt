@@ -10,6 +10,8 @@ mod counted;
 #[cfg(test)]
 mod lists;
 #[cfg(test)]
+mod one_count;
+#[cfg(test)]
 mod own_rows;
 #[cfg(test)]
 mod runs;

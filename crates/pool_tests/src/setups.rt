@@ -73,10 +73,11 @@ fn setups_that_are_taken_and_refused(rt: HostRuntime) -> Result<(), Fail> {
             setup.check().err(),
             grow(&rt, alloc, trees::Kind::UnderLocks, &setup, 0, None).err(),
             grow(&rt, alloc, trees::Kind::Planted, &setup, 0, None).err(),
+            grow(&rt, alloc, trees::Kind::Counted, &setup, 0, None).err(),
             fault_of(&rt, alloc, &setup, None)?,
             fault_of(&rt, alloc, &setup, Some(1))?,
         ];
-        assert_eq!(rt; found, [fault; 5], "{workers} workers, {ranges:?}");
+        assert_eq!(rt; found, [fault; 6], "{workers} workers, {ranges:?}");
     }
     Ok(())
 }

@@ -10,7 +10,9 @@ use std::process::Abort;
 use std::sync::Wait;
 use std::test::Fail;
 use std::thread::Threads;
-use worker_pool::{Closed, Job, NoGate, PoolFault, Progress, Setup, VecLists, with_root};
+use worker_pool::{
+    Closed, Job, NoGate, PoolFault, Progress, Setup, VecLists, with_counted_root, with_root,
+};
 
 /// The leaves of a tree, each by its place. A tree of height 0 is a leaf. The leaf at the context's
 /// place finds no memory.
@@ -63,6 +65,8 @@ impl Job<Global> for Tree {
 pub(crate) enum Kind {
     /// For the tree, under locks.
     Planted,
+    /// For the tree, over one count.
+    Counted,
     UnderLocks,
     OverSlots,
     /// Over slots, where each worker can go to sleep once at most.
@@ -83,6 +87,17 @@ pub(crate) fn grow<RT: Threads + Wait + Sync>(
     let root = Tree { place: 0, height };
     if matches!(kind, Kind::Planted) {
         return with_root::<LockedCount, LockedRows<Tree>, VecLists, RT, Tree, Global, NoGate, _>(
+            rt,
+            alloc,
+            setup,
+            &refused,
+            &NoGate,
+            root,
+            || {},
+        );
+    }
+    if matches!(kind, Kind::Counted) {
+        return with_counted_root::<VecLists, RT, Tree, Global, NoGate, _>(
             rt,
             alloc,
             setup,
@@ -156,13 +171,24 @@ where
 
 /// Pools, their workers, the heights of their trees, how many leaves these have, and how often a
 /// pool is opened for them.
-const TREES: [(&str, Kind, u32, u32, u64, u32); 10] = [
+const TREES: [(&str, Kind, u32, u32, u64, u32); 15] = [
     ("scheduled", Kind::UnderLocks, 1, 16, 65_536, 1),
     ("scheduled", Kind::UnderLocks, 2, 16, 65_536, 1),
     ("scheduled", Kind::UnderLocks, 64, 16, 65_536, 1),
     ("planted", Kind::Planted, 1, 16, 65_536, 1),
     ("planted", Kind::Planted, 2, 16, 65_536, 1),
     ("planted", Kind::Planted, 64, 16, 65_536, 1),
+    ("over one count", Kind::Counted, 1, 16, 65_536, 1),
+    ("over one count", Kind::Counted, 2, 16, 65_536, 1),
+    ("over one count", Kind::Counted, 64, 16, 65_536, 1),
+    (
+        "a million over one count",
+        Kind::Counted,
+        8,
+        20,
+        1_048_576,
+        1,
+    ),
     ("a million over slots", Kind::OverSlots, 8, 20, 1_048_576, 1),
     (
         "a million under locks",
@@ -174,6 +200,7 @@ const TREES: [(&str, Kind, u32, u32, u64, u32); 10] = [
     ),
     ("without sleep", Kind::Worn, 4, 12, 4_096, 1),
     ("again and again", Kind::OverSlots, 1, 0, 1, 10_000),
+    ("again and again", Kind::Counted, 1, 0, 1, 10_000),
 ];
 
 #[test]
@@ -207,9 +234,11 @@ fn pools_that_are_opened_again_and_again(rt: HostRuntime) -> Result<(), Fail> {
 }
 
 /// The same of trees of which each of the 64 leaves in turn finds no memory.
-const HUNGRY: [(&str, Kind, u32, u32, u64); 4] = [
+const HUNGRY: [(&str, Kind, u32, u32, u64); 6] = [
     ("over slots", Kind::OverSlots, 1, 6, 63),
     ("over slots", Kind::OverSlots, 2, 6, 63),
+    ("over one count", Kind::Counted, 1, 6, 63),
+    ("over one count", Kind::Counted, 2, 6, 63),
     ("under locks", Kind::UnderLocks, 1, 6, 63),
     ("under locks", Kind::UnderLocks, 2, 6, 63),
 ];

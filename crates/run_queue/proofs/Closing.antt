@@ -37,8 +37,9 @@ module _ {J : Type 0} where
   at_home busy e = absurd (omega arith)
   at_home (ready x) e = (Some x, refl)
 
+module _ {J : Type 0} {F : ℕ → J → Type 0} {b : Bool} where
   -- who has every part knows a sum to which no part adds nothing
-  sum_of : {c : ℕ} (s : State (Option J) (View J)) → KeepsAccount c s → (id : ℕ) (v : View J)
+  sum_of : {c : ℕ} (s : State (Option J) (View J)) → KeepsAccount F b c s → (id : ℕ) (v : View J)
       (f : View J → ℕ) → f nothing ≡ 0 → get_elem? s.views id ≡ some v → v.parts ≡ c
       → total f s.views ≡ f v
   sum_of {c} s r id v f zeroed at every =
@@ -46,7 +47,7 @@ module _ {J : Type 0} where
       (λ j u e partless. ap f (r.spent j u e partless) ∙ zeroed) at (r.whole ∙ sym every)
 
   pub settles : {c : ℕ} (id : ℕ) (v : View J) (ws : List ℕ) (xs : List (Option J)) → v.parts ≡ c
-      → v.busy ≡ None → Final (Seen (KeepsAccount c) id v) ws xs → (h : J → ℕ)
+      → v.busy ≡ None → Final (Seen (KeepsAccount F b c) id v) ws xs → (h : J → ℕ)
       → total h v.puts ≡ total h v.takes + total (weight h) xs
   settles {c} id v ws xs every rests last h =
       let s = last.0 in
@@ -63,11 +64,12 @@ module _ {J : Type 0} where
       let here = el.1.1 ∙ ap some y.1 in
       (y.0, here, back k y.0 here) in
       let a = all_back h s.homes xs last.3 each in
-      let b = sum_of s r id v (λ u. total h u.puts) refl at every in
+      let z = sum_of s r id v (λ u. total h u.puts) refl at every in
       let c = sum_of s r id v (λ u. total h u.takes) refl at every in
       let d = r.balance h in
       omega arith
 
+module _ {J : Type 0} where
   pub weight_drop : (h : J → ℕ) (xs : List (Option J)) (i : ℕ) (y : Option J)
       → get_elem? xs i ≡ some y
       → total (weight h) (drop i xs) ≡ weight h y + total (weight h) (drop (i + 1) xs)

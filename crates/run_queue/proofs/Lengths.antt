@@ -1,12 +1,13 @@
 -- What the length of a row tells at every moment, and to who looks at it.
 use Rattle.std.proofs.Common.{if◌then◌else◌, ne_eqb, ◌≡◌, ℕ, suc, ◌+◌, ◌*◌, ◌-◌}
-use Rattle.std.proofs.Common.{◌/◌, ◌<◌, ◌≤◌, List, [], ◌∷◌, Option, Some, None, length, get_or}
+use Rattle.std.proofs.Common.{◌/◌, ◌<◌, ◌≤◌, List, [], ◌∷◌, Option, Some, None, length, get_or, Bool, true}
 use Rattle.std.proofs.Common.{sym, refl, ap, ◌∙◌, subst, arith}
 use mathlib.Core.Option.{some, none, some-injective}
 use mathlib.Core.Option as maybe
 use native.Mathlib.Decide.{ℕ_discrete}
 use lib.ListN.{get_elem?}
 use Rattle.atomic_table.specs.Table.{Allows, step, keeps}
+use Rattle.run_queue.specs.declared.slot_rows.rule.RowsKey.{RowsKey}
 use Rattle.run_queue.specs.declared.slot_rows.view.Notes.{Notes}
 use Rattle.run_queue.specs.Elements.{Phase, empty, busy, ready, word_of, home_of}
 use Rattle.run_queue.specs.Lengths.{length_word, in_row, total_at, ready_in_row}
@@ -98,29 +99,33 @@ module _ {J : Type 0} where
           let t = later (omega arith) in
           omega arith
 
-  pub cover_ready : LengthsCoverReady {J = J} (λ seats s. KeepsAccount seats s)
-  cover_ready seats s a r low =
-      let b =
+module _ {J K : Type 0} (fits : K → ℕ → J → Type 0) {b : Bool} where
+  pub cover_ready : b ≡ true → LengthsCoverReady {J = J}
+      (λ (key : RowsKey K) s. KeepsAccount (fits key.of) b key.seats s)
+  cover_ready on key s a r low =
+      let z =
       ready_at_home r 0 (length s.homes) s.words s.homes (omega arith) low
       (λ i near. let el = a.each i near in (el.0, el.1.0, el.1.1)) in
-      let d = a.lengths r (omega arith) in
+      let d = a.lengths on r (omega arith) in
       omega arith
 
-  pub are_bounded : LengthsAreBounded {J = J} (λ seats s. KeepsAccount seats s)
-  are_bounded seats s a r low =
-      let b = row_small r 0 s.homes (omega arith) in
-      let d = a.lengths r (omega arith) in
+  pub are_bounded : b ≡ true → LengthsAreBounded {J = J}
+      (λ (key : RowsKey K) s. KeepsAccount (fits key.of) b key.seats s)
+  are_bounded on key s a r low =
+      let z = row_small r 0 s.homes (omega arith) in
+      let d = a.lengths on r (omega arith) in
       let e = owed_few s a r in
       omega arith
 
+module _ {J : Type 0} {F : ℕ → J → Type 0} {b : Bool} where
   -- a look changes the notes alone
-  pub look_keeps : {c : ℕ} (n id : ℕ) (me : Sat J) (k row : ℕ) → row < n / 1024
+  pub look_keeps : {c : ℕ} → b ≡ true → (n id : ℕ) (me : Sat J) (k row : ℕ) → row < n / 1024
       → k ≡ length_word n row → 0 < me.0.parts
-      → Allows (KeepsAccount c) n id me k (λ y. y) (looks c (step n k 0 0 none) me)
-  look_keeps {c} n id me k row low is live s r wide at _ =
+      → Allows (KeepsAccount F b c) n id me k (λ y. y) (looks c (step n k 0 0 none) me)
+  look_keeps {c} on n id me k row low is live s r wide at _ =
       let t : Notes = looked_at row (get_or s.words k 0) me.0.notes in
       let low' : row < length s.homes / 1024 = subst (λ m. row < m / 1024) (sym wide) low in
       let here : length_word (length s.homes) row ≡ k = ap (λ m. length_word m row) wide ∙ sym is in
       let few : get_or s.words k 0 ≤ 1024 + c =
-      subst (λ m. get_or s.words m 0 ≤ 1024 + c) here (are_bounded c s r row low') in
+      subst (λ m. get_or s.words m 0 ≤ 1024 + c) here (are_bounded {K = Unit {0}} (λ _. F) on (record { seats = c; of = tt }) s r row low') in
       (noted me.0 t, keeps, tt, stays s r k id me.0 t live at, (row, is, refl, refl, few))

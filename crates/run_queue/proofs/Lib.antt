@@ -6,6 +6,7 @@ pub mod Lengths
 pub mod Lists
 pub mod Moments
 pub mod Numbers
+pub mod Options
 pub mod Starts
 pub mod Totals
 pub mod LengthKeeps

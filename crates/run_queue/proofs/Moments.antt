@@ -1,12 +1,13 @@
 -- What the account of rows says at every moment.
 use Rattle.std.proofs.Common.{◌≡◌, ◌==◌, ℕ, zero, suc, ◌<◌, ◌≤◌, if◌then◌else◌, List, []}
 use Rattle.std.proofs.Common.{◌∷◌, Option, Some, None, length, get_or, sym, refl, ap, ◌∙◌, arith}
-use Rattle.std.proofs.Common.{◌⊎◌, inl, inr, ⊎_elim}
+use Rattle.std.proofs.Common.{◌⊎◌, inl, inr, ⊎_elim, Bool}
 use Rattle.std.specs.List.{flat_map}
 use mathlib.Core.Option.{some, none, some-injective}
 use mathlib.Core.Option as maybe
 use native.Mathlib.Decide.{ℕ_discrete}
 use lib.ListN.{get_elem?}
+use Rattle.run_queue.specs.declared.slot_rows.rule.RowsKey.{RowsKey}
 use Rattle.run_queue.specs.declared.slot_rows.view.View.{View}
 use Rattle.run_queue.specs.Bag.{total}
 use Rattle.run_queue.specs.Elements.{Phase, empty, busy, ready, word_of, home_of, namers_of}
@@ -14,7 +15,7 @@ use Rattle.run_queue.specs.Elements.{weight_at_home, ready_word}
 use Rattle.run_queue.specs.Views.{names}
 use Rattle.run_queue.specs.RowTable.{KeepsAccount}
 use Rattle.run_queue.specs.Laws.{job_at_home, ready_jobs, Names, PutsAreTakesAndReady}
-use Rattle.run_queue.specs.Laws.{BusyElementsAreNamed, NamedElementsAreBusy}
+use Rattle.run_queue.specs.Laws.{BusyElementsAreNamed, NamedElementsAreBusy, ReadyJobsFit}
 use Rattle.run_queue.proofs.Totals.{total_append, at_most_total, names_same, names_other}
 use Rattle.run_queue.proofs.Keeps.{is_busy}
 
@@ -106,10 +107,12 @@ module _ {J : Type 0} where
   namers_of_busy busy e = refl
   namers_of_busy (ready x) e = absurd (omega arith)
 
-  pub puts_balance : PutsAreTakesAndReady {J = J} (λ seats s. KeepsAccount seats s)
-  puts_balance seats s r h =
+module _ {J K : Type 0} (fits : K → ℕ → J → Type 0) {b : Bool} where
+  pub puts_balance : PutsAreTakesAndReady {J = J}
+      (λ (key : RowsKey K) s. KeepsAccount (fits key.of) b key.seats s)
+  puts_balance key s r h =
       let a = total_flat_map h (λ v. v.puts) s.views in
-      let b = total_flat_map h (λ v. v.takes) s.views in
+      let z = total_flat_map h (λ v. v.takes) s.views in
       let d = total_append h (flat_map (λ v. v.takes) s.views) (ready_jobs s.words s.homes) in
       let l = r.long in
       let e =
@@ -118,15 +121,21 @@ module _ {J : Type 0} where
       let f = r.balance h in
       omega arith
 
-  pub busy_named : BusyElementsAreNamed {J = J} (λ seats s. KeepsAccount seats s)
-  busy_named seats s r i near word =
+  pub busy_named : BusyElementsAreNamed {J = J}
+      (λ (key : RowsKey K) s. KeepsAccount (fits key.of) b key.seats s)
+  busy_named key s r i near word =
       let el = r.each i near in
       one_names i s.views (el.1.2 ∙ namers_of_busy el.0 (sym el.1.0 ∙ word))
 
-  pub named_busy : NamedElementsAreBusy {J = J} (λ seats s. KeepsAccount seats s)
-  named_busy seats s r i seat near n =
+  pub named_busy : NamedElementsAreBusy {J = J}
+      (λ (key : RowsKey K) s. KeepsAccount (fits key.of) b key.seats s)
+  named_busy key s r i seat near n =
       let el = r.each i near in
       let few = at_most_total (λ u. names i u.busy) s.views seat n.0 n.1 in
       let one : names i n.0.busy ≡ 1 = ap (names i) n.2 ∙ names_same i in
       let named = el.1.2 in
       el.1.0 ∙ ap word_of (is_busy el.0 (omega arith))
+
+  pub jobs_fit : ReadyJobsFit {J = J} (λ (key : RowsKey K). fits key.of)
+      (λ (key : RowsKey K) s. KeepsAccount (fits key.of) b key.seats s)
+  jobs_fit key s r i x e = r.fit i x e

@@ -1,6 +1,6 @@
 -- Seats that are dealt, taken in and opened keep the account.
 use Rattle.std.proofs.Common.{◌≡◌, ℕ, ◌+◌, ◌-◌, ◌<◌, [], ◌∷◌}
-use Rattle.std.proofs.Common.{◌++◌}
+use Rattle.std.proofs.Common.{◌++◌, Bool}
 use Rattle.std.proofs.Common.{None, ⊎_elim, set, sym, refl, ap, ◌∙◌}
 use Rattle.std.proofs.Common.{arith}
 use Rattle.atomic_table.specs.Table.{Splits, Joins}
@@ -15,10 +15,10 @@ use Rattle.run_queue.proofs.Totals.{total_set, total_last, total_append}
 use Rattle.run_queue.proofs.Keeps.{St}
 use Rattle.run_queue.proofs.Keeps.{reseated, spent_set}
 
-module _ {J : Type 0} where
+module _ {J : Type 0} {F : ℕ → J → Type 0} {b : Bool} where
   -- a fresh view gives one of its parts away
   pub deal_keeps : {c : ℕ} (id : ℕ) (v : View J) → 0 < v.parts → v ≡ fresh v.parts
-      → Splits (KeepsAccount c) id v (after_deal v) (fresh 1)
+      → Splits (KeepsAccount F b c) id v (after_deal v) (fresh 1)
   deal_keeps {c} id v more new s r at =
       let l = after_deal v in
       let vs = set s.views id l in
@@ -26,7 +26,7 @@ module _ {J : Type 0} where
       → total f (vs ++ fresh 1 ∷ []) + f v ≡ total f s.views + (f l + f (fresh 1)) =
       λ f.
       let a = total_set f s.views id v l at in
-      let b = total_last f vs (fresh 1) in
+      let z = total_last f vs (fresh 1) in
       omega arith in
       reseated s r (vs ++ fresh 1 ∷ [])
       (let a = both (λ u. u.parts) in omega arith)
@@ -47,20 +47,20 @@ module _ {J : Type 0} where
   -- a view takes in another's account
   pub take_in_keeps : {c : ℕ} (id other : ℕ) (v w : View J) → 0 < w.parts → v.busy ≡ None
       → w.busy ≡ None → v.owes ≡ None → w.owes ≡ None
-      → Joins (KeepsAccount c) id v other w (together v w) nothing
+      → Joins (KeepsAccount F b c) id v other w (together v w) nothing
   take_in_keeps {c} id other v w live rests rests' owes_none owes_none' s r at apart at' =
-      let b = together v w in
-      let vs = set s.views id b in
+      let t' = together v w in
+      let vs = set s.views id t' in
       let both : (f : View J → ℕ)
-      → total f (set vs other nothing) + (f v + f w) ≡ total f s.views + (f b + f nothing) =
+      → total f (set vs other nothing) + (f v + f w) ≡ total f s.views + (f t' + f nothing) =
       λ f.
-      let x = total_set f s.views id v b at in
+      let x = total_set f s.views id v t' at in
       let y = total_set f vs other w nothing at' in
       omega arith in
       reseated s r (set vs other nothing)
       (let a = both (λ u. u.parts) in omega arith)
       (λ j u e partless. ⊎_elim (λ t. sym t.1)
-      (λ t. spent_set s.views id b (omega arith) r.spent j u t.1 partless)
+      (λ t. spent_set s.views id t' (omega arith) r.spent j u t.1 partless)
       (at_set vs other j nothing u e))
       (λ i.
       let a = both (λ u. names i u.busy) in
@@ -82,8 +82,8 @@ module _ {J : Type 0} where
       omega arith)
 
   -- a seat comes that has no account
-  pub enter_keeps : {c : ℕ} (s : St J) → KeepsAccount c s
-      → KeepsAccount c record { words = s.words; homes = s.homes; views = s.views ++ nothing ∷ [] }
+  pub enter_keeps : {c : ℕ} (s : St J) → KeepsAccount F b c s
+      → KeepsAccount F b c record { words = s.words; homes = s.homes; views = s.views ++ nothing ∷ [] }
   enter_keeps s r =
       let vs = s.views ++ nothing ∷ [] in
       let same : (f : View J → ℕ) → f nothing ≡ 0 → total f vs ≡ total f s.views =

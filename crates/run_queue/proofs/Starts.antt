@@ -1,6 +1,6 @@
 -- The account of a table with nothing in it.
-use Rattle.std.proofs.Common.{◌≡◌, ℕ, zero, suc, ◌+◌, ◌/◌, ◌^◌, ◌<◌, List, [], ◌∷◌, Option, None}
-use Rattle.std.proofs.Common.{length, map}
+use Rattle.std.proofs.Common.{◌≡◌, ℕ, zero, suc, ◌+◌, ◌/◌, ◌^◌, ◌<◌, List, [], ◌∷◌, Option, None, Some}
+use Rattle.std.proofs.Common.{length, map, Bool}
 use Rattle.std.proofs.Common.{get_or, replicate, sym, refl, ap, ◌∙◌, subst, arith}
 use Rattle.std.proofs.lemmas.List.{length-replicate}
 use mathlib.Core.Option.{some, some-injective, some-ne-none}
@@ -13,6 +13,7 @@ use Rattle.run_queue.specs.Elements.{empty, weight_at_home}
 use Rattle.run_queue.specs.Lengths.{length_word, total_at, job_in_row}
 use Rattle.run_queue.specs.Views.{fresh, nothing}
 use Rattle.run_queue.specs.RowTable.{KeepsAccount}
+use Rattle.run_queue.proofs.Options.{no_job_there}
 
 abbrev zeros : ℕ → List ℕ
 zeros m = replicate m 0
@@ -35,6 +36,12 @@ module _ (J : Type 0) where
   home_at (suc n) zero near = refl
   home_at (suc n) (suc i) near = home_at n i (omega arith)
 
+  no_job : (n i : ℕ) (x : J) → get_elem? (homes n) i ≡ some (some (Some x)) → ⊥
+  no_job zero i x e = some-ne-none (some (Some x)) (sym e)
+  no_job (suc n) zero x e =
+      no_job_there x (some-injective None (Some x) (some-injective (some None) (some (Some x)) e))
+  no_job (suc n) (suc i) x e = no_job n i x e
+
   none_home : (h : J → ℕ) (n : ℕ) → total (weight_at_home h) (homes n) ≡ 0
   none_home h zero = refl
   none_home h (suc n) =
@@ -55,15 +62,16 @@ module _ (J : Type 0) where
       sym is ∙ ap fresh none
   one_view c (suc j) v e partless = absurd (some-ne-none v (sym e))
 
-  pub starts : (c m n : ℕ) → length_word n (n / 1024) < m → n + c < 2 ^ 33
-      → KeepsAccount {J = J} c (opening (zeros m) (replicate n None) (fresh c))
-  starts c m n long few =
+  pub starts : (F : ℕ → J → Type 0) (b : Bool) (c m n : ℕ) → length_word n (n / 1024) < m → n + c < 2 ^ 33
+      → KeepsAccount {J = J} F b c (opening (zeros m) (replicate n None) (fresh c))
+  starts F b c m n long few =
       let a : length (homes n) ≡ n = homes_long n in
-      let b : length (zeros m) ≡ m = length-replicate m 0 in record {
+      let z : length (zeros m) ≡ m = length-replicate m 0 in record {
         long = subst (λ k. length_word k (k / 1024) < length (zeros m)) (sym a) (omega arith);
         few = omega arith;
+        fit = λ i x e. absurd (no_job n i x e);
         each = λ i near. (empty, (zeros_at m i, home_at n i (omega arith), refl));
-        lengths = λ r low.
+        lengths = λ on r low.
             let d = none_in_row r 0 n in
             zeros_at m (length_word (length (homes n)) r) ∙ (omega arith);
         balance = λ h. let c = none_home h n in omega arith;

@@ -6,15 +6,17 @@ use mathlib.Core.Option.{some, none}
 use mathlib.Core.Option as maybe
 use lib.ListN.{get_elem?}
 use Rattle.atomic_table.specs.Table.{State}
+use Rattle.run_queue.specs.declared.slot_rows.rule.RowsKey.{RowsKey}
 use Rattle.run_queue.specs.declared.slot_rows.view.View.{View}
 use Rattle.run_queue.specs.Bag.{SameBag}
 use Rattle.run_queue.specs.Elements.{busy_word, ready_word}
 use Rattle.run_queue.specs.Lengths.{length_word, ready_in}
 use Rattle.run_queue.specs.Limits.{most_jobs}
+use Rattle.run_queue.specs.Positions.{row_with}
 
--- a rule for rows, by the number of their seats
-abbrev Rule : Type 0 → Type 1
-Rule J = ℕ → State (Option J) (View J) → Type 0
+-- a rule for rows, by their key
+abbrev pub Rule : Type 0 → Type 0 → Type 1
+Rule J K = RowsKey K → State (Option J) (View J) → Type 0
 
 module _ {J : Type 0} where
   -- the job at home in a slot, where there is one
@@ -34,40 +36,48 @@ module _ {J : Type 0} where
   Names views seat element =
       (view : View J) × (get_elem? views seat ≡ some view) × (view.busy ≡ Some element)
 
+  -- the length of a row, as its word says
+  abbrev pub length_in : State (Option J) (View J) → ℕ → ℕ
+  length_in s row = slice_index_or s.words (length_word (length s.homes) row) 0
+
+module _ {J K : Type 0} where
   -- what was put is, as a bag, what was taken and what is ready
-  abbrev pub PutsAreTakesAndReady : Rule J → Type 0
+  abbrev pub PutsAreTakesAndReady : Rule J K → Type 0
   PutsAreTakesAndReady holds =
-      (seats : ℕ) (s : State (Option J) (View J)) → holds seats s
+      (key : RowsKey K) (s : State (Option J) (View J)) → holds key s
       → SameBag (flat_map (λ view. view.puts) s.views)
       (flat_map (λ view. view.takes) s.views ++ ready_jobs s.words s.homes)
 
   -- an element whose word says that it is busy is named in the view of one seat, and of no other
-  abbrev pub BusyElementsAreNamed : Rule J → Type 0
+  abbrev pub BusyElementsAreNamed : Rule J K → Type 0
   BusyElementsAreNamed holds =
-      (seats : ℕ) (s : State (Option J) (View J)) → holds seats s
+      (key : RowsKey K) (s : State (Option J) (View J)) → holds key s
       → (element : ℕ) → element < length s.homes → slice_index_or s.words element 0 ≡ busy_word
       → (seat : ℕ) × Names s.views seat element
       × ((other : ℕ) → Names s.views other element → other ≡ seat)
 
   -- an element that a view names is busy
-  abbrev pub NamedElementsAreBusy : Rule J → Type 0
+  abbrev pub NamedElementsAreBusy : Rule J K → Type 0
   NamedElementsAreBusy holds =
-      (seats : ℕ) (s : State (Option J) (View J)) → holds seats s
+      (key : RowsKey K) (s : State (Option J) (View J)) → holds key s
       → (element seat : ℕ) → element < length s.homes → Names s.views seat element
       → slice_index_or s.words element 0 ≡ busy_word
 
-  -- the length of a row, as its word says
-  abbrev pub length_in : State (Option J) (View J) → ℕ → ℕ
-  length_in s row = slice_index_or s.words (length_word (length s.homes) row) 0
-
   -- a row's length is at least the number of its elements whose words say that they are ready
-  abbrev pub LengthsCoverReady : Rule J → Type 0
+  abbrev pub LengthsCoverReady : Rule J K → Type 0
   LengthsCoverReady holds =
-      (seats : ℕ) (s : State (Option J) (View J)) → holds seats s
+      (key : RowsKey K) (s : State (Option J) (View J)) → holds key s
       → (row : ℕ) → row < length s.homes / most_jobs → ready_in row s.words ≤ length_in s row
 
   -- a row's length is at most its most jobs and the number of seats
-  abbrev pub LengthsAreBounded : Rule J → Type 0
+  abbrev pub LengthsAreBounded : Rule J K → Type 0
   LengthsAreBounded holds =
-      (seats : ℕ) (s : State (Option J) (View J)) → holds seats s
-      → (row : ℕ) → row < length s.homes / most_jobs → length_in s row ≤ most_jobs + seats
+      (key : RowsKey K) (s : State (Option J) (View J)) → holds key s
+      → (row : ℕ) → row < length s.homes / most_jobs → length_in s row ≤ most_jobs + key.seats
+
+  -- each job that is at home in a slot fits the row of its element
+  abbrev pub ReadyJobsFit : (RowsKey K → ℕ → J → Type 0) → Rule J K → Type 0
+  ReadyJobsFit fits holds =
+      (key : RowsKey K) (s : State (Option J) (View J)) → holds key s
+      → (element : ℕ) (job : J) → get_elem? s.homes element ≡ some (some (Some job))
+      → fits key (row_with element) job

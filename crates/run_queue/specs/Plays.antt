@@ -1,8 +1,9 @@
 -- What each step tells the seat that makes it, and on which element it is.
-use Rattle.std.specs.Prelude.{◌≡◌, ◌≢◌, ◌≤◌, ℕ, ◌+◌, [], ◌∷◌, ◌++◌, Option, Some, None}
+use Rattle.std.specs.Prelude.{◌≡◌, ◌≢◌, ◌≤◌, ℕ, ◌+◌, Bool, [], ◌∷◌, ◌++◌, Option, Some, None}
 use Rattle.atomic_table.specs.Table.{Me, Step, rest}
 use Rattle.run_queue.specs.declared.slot_rows.view.View.{View}
 use Rattle.run_queue.specs.Views.{claimed, looked_at, moved, view_of, noted, owing, nothing}
+use Rattle.run_queue.specs.Views.{owed_where}
 use Rattle.run_queue.specs.Lengths.{length_word}
 use Rattle.run_queue.specs.Limits.{most_jobs}
 use Rattle.run_queue.specs.Positions.{row_with}
@@ -49,15 +50,16 @@ module _ {J : Type 0} where
       ≡ view_of before.0.parts (before.0.puts ++ job ∷ []) before.0.takes None None before.0.notes)
       × (after.1 ≡ rest before.1)
 
-  -- a claim that found the element ready has it, and its slot with the job, which is taken
-  abbrev pub claims_out : (ℕ → ℕ) → Told J
-  claims_out shift step before found after =
+  -- a claim that found the element ready has it, and its slot with the job, which is taken, and of
+  -- which is known what is known of the row's jobs
+  abbrev pub claims_out : (ℕ → J → Type 0) → Bool → (ℕ → ℕ) → Told J
+  claims_out known counted shift step before found after =
       (found ≡ step.first
       → (job : J) × (after.0
       ≡ view_of before.0.parts before.0.puts (before.0.takes ++ job ∷ []) (Some step.word)
-      (Some step.word)
+      (owed_where counted step.word)
       (moved shift (claimed step.word step.first step.first before.0.notes)))
-      × (after.1 ≡ (step.word, Some job) ∷ before.1))
+      × (after.1 ≡ (step.word, Some job) ∷ before.1) × known (row_with step.word) job)
       × (found ≢ step.first → misses step before found after)
 
   -- the element that the seat has is given back with no job

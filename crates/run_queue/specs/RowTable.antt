@@ -1,5 +1,6 @@
 -- The rule of a table of rows: the account of what went in and what came out.
-use Rattle.std.specs.Prelude.{◌≡◌, ℕ, ◌+◌, ◌/◌, ◌^◌, ◌<◌, ◌≤◌, length, slice_index_or, Option}
+use Rattle.std.specs.Prelude.{◌≡◌, ℕ, ◌+◌, ◌/◌, ◌^◌, ◌<◌, ◌≤◌, length, slice_index_or, Option, Some}
+use Rattle.std.specs.Prelude.{Bool, true}
 use mathlib.Core.Option.{some}
 use lib.ListN.{get_elem?}
 use Rattle.atomic_table.specs.Table.{State}
@@ -8,6 +9,7 @@ use Rattle.run_queue.specs.Bag.{total}
 use Rattle.run_queue.specs.Elements.{Phase, word_of, home_of, namers_of, weight_at_home}
 use Rattle.run_queue.specs.Lengths.{length_word, job_in_row, owed_to, total_at}
 use Rattle.run_queue.specs.Limits.{most_jobs}
+use Rattle.run_queue.specs.Positions.{row_with}
 use Rattle.run_queue.specs.Views.{names, nothing}
 
 module _ {J : Type 0} where
@@ -20,14 +22,18 @@ module _ {J : Type 0} where
 
 -- Each element is empty, ready, or busy and named by one seat's view. What was put is what was
 -- taken and what is ready, each job as often: however jobs are weighed, the two weigh the same.
--- The length of a row is the number of its jobs at home and of those that views owe it, and too
--- small to wrap.
+-- Where rows have lengths, that of a row is the number of its jobs at home and of those that views
+-- owe it, and too small to wrap.
 -- The views together are of the seats that were made, and a view of none knows nothing.
-pub record KeepsAccount {J : Type 0} (seats : ℕ) (s : State (Option J) (View J)) : Type 0 where
+-- Each job that is ready fits its row.
+pub record KeepsAccount {J : Type 0} (fits : ℕ → J → Type 0) (counted : Bool) (seats : ℕ)
+    (s : State (Option J) (View J)) : Type 0 where
   pub long : length_word (length s.homes) (length s.homes / most_jobs) < length s.words
   pub few : length s.homes + seats < 2 ^ 33
   pub each : (element : ℕ) → element < length s.homes → (phase : Phase J) × Shows s element phase
-  pub lengths : (row : ℕ) → row ≤ length s.homes / most_jobs
+  pub fit : (element : ℕ) (job : J) → get_elem? s.homes element ≡ some (some (Some job))
+      → fits (row_with element) job
+  pub lengths : counted ≡ true → (row : ℕ) → row ≤ length s.homes / most_jobs
       → slice_index_or s.words (length_word (length s.homes) row) 0
       ≡ total_at (job_in_row row) 0 s.homes + total (λ view. owed_to row view.owes) s.views
   pub balance : (h : J → ℕ) → total (λ view. total h view.puts) s.views

@@ -64,18 +64,22 @@ module _ {J : Type 0} where
       (looks_of new ≡ looks_of old + 1) × ((look_of new).row ≡ row)
       × ((look_of new).found ≡ found)
 
-module _ {J A : Type 0} where
+module _ {J A F K : Type 0} where
   -- which rows they are
-  abbrev pub rows_id : SlotRows J A → TableId
+  abbrev pub rows_id : SlotRows J A F K → TableId
   rows_id rows = rows.table.shared.table_id
 
   -- how many elements all rows have
-  abbrev pub elements_of : SlotRows J A → ℕ
+  abbrev pub elements_of : SlotRows J A F K → ℕ
   elements_of rows = (rows_id rows).slots
 
-  abbrev pub row_count_of : SlotRows J A → ℕ
+  abbrev pub row_count_of : SlotRows J A F K → ℕ
   row_count_of rows = rows.rows
 
   -- how many seats were made with them
-  abbrev pub seat_count_of : SlotRows J A → ℕ
-  seat_count_of rows = rows.table.shared.key
+  abbrev pub seat_count_of : SlotRows J A F K → ℕ
+  seat_count_of rows = rows.table.shared.key.seats
+
+  -- what they were opened with, for what is known of their jobs to name
+  abbrev pub of_key : SlotRows J A F K → K
+  of_key rows = rows.table.shared.key.of

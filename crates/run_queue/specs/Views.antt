@@ -1,5 +1,6 @@
 -- What the seats at a table of rows know, and how that changes.
 use Rattle.std.specs.Prelude.{◌≡◌, ◌≢◌, ℕ, ◌+◌, ◌-◌, ◌==◌, if◌then◌else◌, List, [], ◌++◌}
+use Rattle.std.specs.Prelude.{Bool, true, false}
 use Rattle.std.specs.Prelude.{Option, Some, None}
 use Rattle.run_queue.specs.declared.slot_rows.view.Notes.{Notes}
 use Rattle.run_queue.specs.declared.slot_rows.view.View.{View}
@@ -8,6 +9,11 @@ use Rattle.run_queue.specs.declared.slot_rows.view.View.{View}
 abbrev pub names : ℕ → Option ℕ → ℕ
 names element None = 0
 names element (Some other) = if other == element then 1 else 0
+
+-- where rows have lengths, a job that is claimed out is owed to its row until that is lowered
+abbrev pub owed_where : Bool → ℕ → Option ℕ
+owed_where true element = Some element
+owed_where false element = None
 
 -- no claim and no look yet, and the front at the first position
 abbrev pub no_notes : Notes

@@ -59,10 +59,12 @@ pub use deque::{Deque, ROW_JOBS};
 pub use locked_rows::{LockedRows, LockedSeat};
 pub use rows::{MOST_ROWS, Rows, RowsFault};
 pub use slot_rows::SlotRows;
+pub use slot_rows::contents::{AnyJob, Contents};
 pub use slot_rows::laws::{
     busy_elements_are_named, lengths_are_bounded, lengths_cover_ready, named_elements_are_busy,
-    puts_are_takes_and_ready,
+    puts_are_takes_and_ready, ready_jobs_fit,
 };
-pub use slot_rows::rule::Law;
+pub use slot_rows::reserve::Reserve;
+pub use slot_rows::rule::{Law, RowsKey};
 pub use slot_rows::seat::SlotSeat;
 pub use slot_rows::view::{Claim, Look, Notes, View};

@@ -3,8 +3,9 @@ ghost use Rattle.std.specs.Prelude.{◌≡◌, ◌*◌, ◌<◌, vec_len};
 ghost use Rattle.run_queue.specs.Lengths.{length_word};
 ghost use Rattle.run_queue.specs.Limits.{most_jobs};
 
+use crate::slot_rows::contents::{AnyJob, Contents};
 use crate::slot_rows::reserve::Reserve;
-use crate::slot_rows::rule::Law;
+use crate::slot_rows::rule::{Law, RowsKey};
 use crate::slot_rows::view::View;
 use atomic_table::Table;
 use std::alloc::{Allocator, Global};
@@ -12,11 +13,12 @@ use std::sync::Mutex;
 
 mod as_rows;
 mod closing;
+pub(crate) mod contents;
 mod ends;
 pub(crate) mod laws;
 mod opening;
 mod plays;
-mod reserve;
+pub(crate) mod reserve;
 pub(crate) mod rule;
 pub(crate) mod seat;
 mod steps;
@@ -36,9 +38,9 @@ pub struct Back {
 /// its own. A push claims its element, raises the length, and makes the element ready; a pop claims
 /// it, makes it empty, and lowers the length.
 #[derive(Drop)]
-pub struct SlotRows<J, A: Allocator = Global> {
+pub struct SlotRows<J, A: Allocator = Global, F: Contents<J> = AnyJob> {
     pub(crate) rows: u16,
-    pub(crate) table: Table<Option<J>, View<J>, u32, Law<J>, A>,
+    pub(crate) table: Table<Option<J>, View<J>, RowsKey<F::Key>, Law<J, F>, A>,
     pub(crate) backs: Vec<Mutex<Back>, A>,
     // Room for the jobs that are left at the end.
     pub(crate) left: Reserve<J, A>,

@@ -16,6 +16,7 @@ use Rattle.worker_pool.specs.Laws.{JobLaw}
 use Rattle.worker_pool.specs.declared.pool.Pool.{Pool}
 use Rattle.worker_pool.specs.declared.worker.WorkerState.{WorkerState}
 use Rattle.worker_pool.specs.Accounts.{Account, counted}
+use Rattle.worker_pool.specs.Closings.{IsHandedBack}
 use Rattle.worker_pool.specs.Gathered.{Adds, HasGathered, IsEmpty}
 use Rattle.worker_pool.specs.Nodes.{Node, Left, IsLawful, job_of, kids_of, outs_of}
 use Rattle.worker_pool.specs.Nodes.{left_of, refusals_of}
@@ -204,6 +205,35 @@ module _ {J O : Type 0} (keeps : Type 0) (law : JobLaw J O) where
             let d2 = total-append weight roots kids in
             omega arith;
       }
+
+-- Nothing ran since: what was put in through all seats was taken out through the workers' or is left.
+pub handed-back : {S J O : Type 0} (keeps : Type 0) (law : JobLaw J O) (puts takes : S → List J)
+    (drained : List J) (seats : List S) (seat : S) (all : List S) (k l m : List O) (left : List J)
+    (a b c n : ℕ) → Account keeps law (flat_map takes seats) (flat_map puts seats) k [] a
+    → (keeps → takes seat ≡ []) → all ≡ seats ++ seat ∷ []
+    → (keeps → AccountsFor puts takes all drained) → left ≡ drained → m ≡ k ++ l
+    → c ≡ b → n ≡ counted (a + c) → IsHandedBack keeps law (puts seat) l b m left n
+handed-back keeps law puts takes drained seats seat all k l m left a b c n workers none are kept
+    same outs no_more_refused is =
+    record {
+      taken = flat_map takes seats;
+      put = flat_map puts seats;
+      workers_outs = k;
+      workers_refused = a;
+      workers = workers;
+      in_rows = λ on weight.
+          let settled = kept on weight in
+          let put_all = ap (total weight) (flat_map-snoc puts seats seat all are) in
+          let taken_all = ap (total weight) (flat_map-snoc takes seats seat all are) in
+          let no_more = ap (total weight) (none on) in
+          let same_left = ap (total weight) same in
+          let taken_two = total-append weight (flat_map takes seats) (takes seat) in
+          let before = total-append weight (flat_map takes all) drained in
+          let after = total-append weight (flat_map takes seats) left in
+          omega arith;
+      outs_are = outs;
+      refused_are = is ∙ ap (λ refused. counted (a + refused)) no_more_refused;
+    }
 
 -- one more has come home
 pub gathers-more : {J A W R C O N T S : Type 0} (row : rows.Ghosts R J A S)

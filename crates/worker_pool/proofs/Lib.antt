@@ -6,5 +6,6 @@ pub mod Growing
 pub mod Numbered
 pub mod Passing
 pub mod Runnings
+pub mod Starting
 pub mod StopWords
 pub mod Tallies

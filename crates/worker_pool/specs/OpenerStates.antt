@@ -14,6 +14,13 @@ use Rattle.worker_pool.specs.Laws.{law_of}
 use Rattle.worker_pool.specs.Stops.{IsStopSeatOf, jobs_of, stored_of, open_word, closing_word}
 use Rattle.worker_pool.specs.Told.{IsSilent}
 
+-- its row's seat, its outs and its refusals are the caller's
+pub record TakesOver {J A W R L C O N T S K : Type 0} (caller : Caller J A W R L C O N T S K)
+    (opener : OpenerState J A W R L C O N T S K) : Type 0 where
+  pub row : opener.seats.row ≡ caller.seats.row
+  pub outs : opener.outs ≡ caller.outs
+  pub refused : opener.refused ≡ caller.refused
+
 module _ {J A W R L C O N T S K : Type 0} (row : rows.Ghosts R J A S)
     (point : wait_point.Ghosts W A T) where
   -- the seats are the pool's, and nothing was done yet
@@ -53,3 +60,4 @@ module _ {J A W R L C O N T S K : Type 0} (row : rows.Ghosts R J A S)
     pub stop : stop_of before ≡ open_word
     pub cancelled : IsTrue opener.cancelled ↔ IsCancelled after
     pub worked : HasWorked law list pool ctx (roots_of after) opener
+    pub taken_over : TakesOver after opener

@@ -1,25 +1,67 @@
 -- What starting workers begins with, and what it ends with.
-use Rattle.std.specs.Prelude.{◌≡◌, ℕ, ◌+◌, ◌≤◌, All, Vec, vec_len, vec_capacity}
+use Rattle.std.specs.Prelude.{◌≡◌, ℕ, ◌+◌, ◌≤◌, ◌⊎◌, Bool, true, false, List, [], ◌++◌, length}
+use Rattle.std.specs.Prelude.{All, Vec, vec_len, vec_capacity, count_by, min}
+use Rattle.std.specs.List.{AllZip}
 use Rattle.run_queue.specs.Limits.{most_rows}
+use Rattle.worker_pool.specs.declared.start.home.Home.{Home}
+use Rattle.worker_pool.specs.declared.start.home.Start.{Start}
+use Rattle.worker_pool.specs.declared.start.home.Start.TheVariants.{Joined, Refused, NotAsked}
+
+-- a thread was started, and was joined
+abbrev pub was_joined : Start → Bool
+was_joined Joined = true
+was_joined Refused = false
+was_joined NotAsked = false
+
+-- a thread was asked for
+abbrev pub was_asked : Start → Bool
+was_asked Joined = true
+was_asked Refused = true
+was_asked NotAsked = false
+
+module _ {X : Type 0} where
+  -- how many threads were started, and were joined
+  abbrev pub joined_of : List (Home X) → ℕ
+  joined_of homes = count_by (λ home. was_joined home.start) homes
+
+  -- a thread was asked for of the workers with numbers below this, and of no other
+  pub record AsksFirst (starts : ℕ) (homes : List (Home X)) : Type 0 where
+    pub asked : List (Home X)
+    pub others : List (Home X)
+    pub all : homes ≡ asked ++ others
+    pub many : length asked ≡ min starts (length homes)
+    pub were_asked : All (λ home. was_asked home.start ≡ true) asked
+    pub were_not : All (λ home. was_asked home.start ≡ false) others
 
 module _ {S X A B : Type 0} (is_at_work : S → X → Type 0) where
-  -- The workers are at work and the ended ones were, there is room for all, and what is done
+  -- The workers are at work, nobody has come home and there is room for all, and what is done
   -- meanwhile may begin with as many workers as can yet be started.
-  pub record IsToRun (may_begin : B → S → ℕ → Type 0) (workplace : S) (states ended : Vec X A)
-      (started : ℕ) (opening : B) : Type 0 where
+  pub record IsToRun (may_begin : B → S → ℕ → Type 0) (workplace : S) (states : Vec X A)
+      (ended : Vec (Home X) A) (started : ℕ) (opening : B) : Type 0 where
     pub at_work : All (is_at_work workplace) states.items
-    pub ended_at_work : All (is_at_work workplace) ended.items
+    pub none_ended : ended.items ≡ []
     pub few : started + vec_len states ≤ most_rows
-    pub room : vec_len ended + vec_len states ≤ vec_capacity ended
+    pub room : vec_len states ≤ vec_capacity ended
     pub begins : (count : ℕ) → count ≤ started + vec_len states → may_begin opening workplace count
 
-  -- All workers have ended, and what was done meanwhile has: beside those that had been started,
-  -- and as many more as were joined.
-  pub record HasRun {D : Type 0} (has_left : B → S → ℕ → D → Type 0) (workplace : S)
-      (states ended : Vec X A) (started : ℕ) (opening : B) (result : Vec X A × ℕ × D)
-      : Type 0 where
-    pub all : vec_len result.0 ≡ vec_len ended + vec_len states
+module _ {S X : Type 0} (is_at_work : S → X → Type 0) (has_ended : S → X → X → Type 0) where
+  -- a worker that was at work still is, and it has ended or did nothing
+  pub record Returns (workplace : S) (before after : X) : Type 0 where
+    pub at_work : is_at_work workplace after
+    pub ended : has_ended workplace before after ⊎ (after ≡ before)
+
+  -- a worker's state came home: as it was, where no thread was asked for
+  pub record ComesHome (workplace : S) (before : X) (home : Home X) : Type 0 where
+    pub returned : Returns workplace before home.state
+    pub kept : home.start ≡ NotAsked → home.state ≡ before
+
+  -- All workers came home, by number, and a thread was asked for of each. What was done meanwhile
+  -- has ended: beside those that had been started, as many more were as were joined.
+  pub record HasRun {A B D : Type 0} (has_left : B → S → ℕ → D → Type 0) (workplace : S)
+      (states : Vec X A) (ended : Vec (Home X) A) (started : ℕ) (opening : B)
+      (result : Vec (Home X) A × D) : Type 0 where
+    pub home : AllZip (ComesHome workplace) states.items result.0.items
+    pub asked : All (λ home. was_asked home.start ≡ true) result.0.items
+    pub all : vec_len result.0 ≡ vec_len states
     pub capacity : vec_capacity result.0 ≡ vec_capacity ended
-    pub at_work : All (is_at_work workplace) result.0.items
-    pub few : result.1 ≤ vec_len states
-    pub left : has_left opening workplace (started + result.1) result.2
+    pub left : has_left opening workplace (started + joined_of result.0.items) result.1

@@ -8,3 +8,9 @@ abbrev pub jobs_in : {J : Type 0} → Turn J → List J
 jobs_in (Found job) = job ∷ []
 jobs_in Again = []
 jobs_in Last = []
+
+-- this holds where the turn was the last
+abbrev pub IfLast : {J : Type 0} → Turn J → Type 0 → Type 0
+IfLast (Found job) fact = Unit {0}
+IfLast Again fact = Unit {0}
+IfLast Last fact = fact

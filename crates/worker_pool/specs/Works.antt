@@ -9,7 +9,8 @@ use Rattle.worker_pool.specs.declared.worker.WorkerState.{WorkerState}
 use Rattle.worker_pool.specs.Accounts.{Account}
 use Rattle.worker_pool.specs.Seats.{IsOwner}
 use Rattle.worker_pool.specs.Laws.{law_of}
-use Rattle.worker_pool.specs.Stops.{IsStopSeatOf, stored_of, open_word}
+use Rattle.worker_pool.specs.Seen.{MayEnd}
+use Rattle.worker_pool.specs.Stops.{IsStopSeatOf, stored_of, found_of, open_word}
 
 -- the partition ends inside a pool of so many workers, where there is one
 abbrev pub IsInside : {A : Type 0} → (workers : ℕ) → Option (HomeRows A) → Type 0
@@ -31,3 +32,10 @@ module _ {J A W R C O N T S : Type 0} (row : rows.Ghosts R J A S) (point : wait_
     pub account : Account row.keeps_accounts (law_of law ctx)
         (row.takes_of state.seats.row) (row.puts_of state.seats.row) state.outs.items []
         state.refused
+
+-- The worker has ended, with its number. It had found that the pool was cancelled, or that it was
+-- closing and since then that each row was empty.
+pub record HasEnded {J A W R C O N T S : Type 0} (row : rows.Ghosts R J A S) (pool : Pool J A W R)
+    (before after : WorkerState J A W R C O N T S) : Type 0 where
+  pub number : after.number ≡ before.number
+  pub may_end : MayEnd (row.row_count pool.queue.rows) after.seats.seen (found_of after.stop)

@@ -1,7 +1,7 @@
 //! Closing a pool whose workers have all ended.
-ghost use Rattle.std.specs.Prelude.{◌≡◌, ◌+◌, List, [], All, false, length, vec_len};
+ghost use Rattle.std.specs.Prelude.{◌≡◌, ◌+◌, List, [], All, true, false, length, vec_len};
 ghost use Rattle.worker_pool.specs.Accounts.{Account};
-ghost use Rattle.worker_pool.specs.Closings.{all_outs};
+ghost use Rattle.worker_pool.specs.Closings.{IsHandedBack, all_outs};
 ghost use Rattle.worker_pool.specs.Gathered.{HasGathered, HasRoom, IsEmpty, count_of};
 ghost use Rattle.worker_pool.specs.Ran.{RanToo, AreSettled};
 ghost use Rattle.worker_pool.specs.Seats.{IsOpener};
@@ -16,6 +16,7 @@ use crate::lists::Lists;
 use crate::opener_state::OpenerState;
 use crate::pool::Pool;
 use crate::run::begin;
+use crate::start::Home;
 use crate::worker::WorkerState;
 use event_count::WaitPoint;
 use run_queue::Rows;
@@ -30,7 +31,7 @@ pub(crate) fn close<RT, J, A, W, R, L>(
     pool: Pool<J, A, W, R>,
     ctx: &J::Ctx,
     opener: OpenerState<J, A, W, R, L>,
-    states: Vec<WorkerState<J, A, W, R>, A>,
+    homes: Vec<Home<WorkerState<J, A, W, R>>, A>,
     gathered: Gathered<J, A, W, R>,
 ) -> Closed<J, A>
 where
@@ -43,12 +44,16 @@ where
     L: Lists<J::Out, A>,
     requires seats { IsOpener R.Rows W.WaitPoint pool.queue opener.seats.row opener.seats.waker }
     requires took_none { R.keeps_accounts → R.takes_of opener.seats.row ≡ [] }
-    requires at_work { All (IsAtWork R.Rows W.WaitPoint J.Job pool ctx.now) states.items }
-    requires every_worker { vec_len states ≡ pool.queue.workers }
+    requires at_work { All (λ home. IsAtWork R.Rows W.WaitPoint J.Job pool ctx.now home.state)
+        homes.items }
+    requires every_worker { vec_len homes ≡ pool.queue.workers }
     requires none_gathered { IsEmpty gathered }
     requires room { HasRoom (pool.queue.workers + 1) gathered }
     ensures lists { vec_len result.outs ≡ pool.queue.workers + 1 }
     ensures none_left { opener.cancelled ≡ false → result.left.items ≡ [] }
+    ensures handed_back { opener.cancelled ≡ true → IsHandedBack R.keeps_accounts
+        (law_of J.Job ctx.now) (R.puts_of opener.seats.row) (L.items_of opener.outs)
+        opener.refused (all_outs result.outs) result.left.items result.refused }
 
     // The jobs that came to the opener came in, and none is passed on any more.
     ensures account { (roots : List J) → Account R.keeps_accounts
@@ -62,7 +67,7 @@ where
         mut wakers,
         mut lists,
         refused: workers_refused,
-    } = gather(states, gathered);
+    } = gather(homes, gathered);
     let OpenerState {
         seats,
         mut outs,
@@ -87,7 +92,7 @@ where
 
 // All workers come home, by number.
 fn gather<J, A, W, R>(
-    states: Vec<WorkerState<J, A, W, R>, A>,
+    homes: Vec<Home<WorkerState<J, A, W, R>>, A>,
     mut gathered: Gathered<J, A, W, R>,
 ) -> Gathered<J, A, W, R>
 where
@@ -97,15 +102,15 @@ where
     W: WaitPoint<A>,
     R: Rows<J, A>,
     requires none { IsEmpty gathered }
-    requires room { HasRoom (length states.items + 1) gathered }
-    ensures many { count_of result ≡ length states.items }
+    requires room { HasRoom (length homes.items + 1) gathered }
+    ensures many { count_of result ≡ length homes.items }
     ensures room { HasRoom 1 result }
     ensures home { (pool : _) → (ctx : _)
-        → All (IsAtWork R.Rows W.WaitPoint J.Job pool ctx) states.items
+        → All (λ home. IsAtWork R.Rows W.WaitPoint J.Job pool ctx home.state) homes.items
         → HasGathered R.Rows W.WaitPoint J.Job pool.queue ctx result }
 {
-    for state in states {
-        gathered.add(state);
+    for home in homes {
+        gathered.add(home.state);
     }
     gathered
 }
@@ -129,6 +134,9 @@ where
     R: Rows<J, A>,
     L: Lists<J::Out, A>,
     ensures none_left { cancelled ≡ false → left.new.items ≡ [] }
+    ensures kept { cancelled ≡ true → left.new.items ≡ left.old.items }
+    ensures same_outs { cancelled ≡ true → L.items_of outs.new ≡ L.items_of outs.old }
+    ensures same { cancelled ≡ true → result ≡ before }
     ensures settled { AreSettled R.keeps_accounts (law_of J.Job ctx.now) left.old.items
         (L.items_of outs.old) (L.items_of outs.new) left.new.items before result }
 {

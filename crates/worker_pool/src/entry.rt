@@ -15,6 +15,7 @@ use crate::gate::Gate;
 use crate::job::Job;
 use crate::lists::Lists;
 use crate::open::open;
+use crate::opens::{Apart, Opens, OverOneCount};
 use crate::setup::{PoolFault, Setup};
 use crate::start::run_first;
 use crate::workplace::{LendsCaller, PoolWorkplace};
@@ -23,6 +24,7 @@ use run_queue::Rows;
 use std::alloc::Allocator;
 use std::sync::Wait;
 use std::thread::Threads;
+use waking_rows::{RowPoint, WakingRows};
 
 /// Opens a pool, and lends its caller to the body while workers run the jobs that it schedules, and
 /// their kids. Ends once all of them have run, or hands back those that nobody ran where the body
@@ -62,7 +64,7 @@ where
     ensures lists { IfOk result (λ closed. vec_len closed.outs ≡ setup.now.workers + 1) }
     ensures account { IfOk result (λ closed. (before : _) × (after : _)
         × FnOnceReturnsAtMut F.FnOnce body before tt after
-        × HasClosed R.keeps_accounts (law_of J.Job ctx.now) setup.now.workers setup.now.workers
+        × HasClosed R.Rows L.Lists (law_of J.Job ctx.now) setup.now.workers setup.now.workers
         before after (all_outs closed.outs) closed.left.items closed.refused) }
 {
     with_pool_limited::<W, R, L, _, _, _, _, _>(rt, alloc, setup, ctx, gate, setup.workers, body)
@@ -108,10 +110,56 @@ where
     ensures lists { IfOk result (λ closed. vec_len closed.outs ≡ setup.now.workers + 1) }
     ensures account { IfOk result (λ closed. (before : _) × (after : _)
         × FnOnceReturnsAtMut F.FnOnce body before tt after
-        × HasClosed R.keeps_accounts (law_of J.Job ctx.now) setup.now.workers starts
+        × HasClosed R.Rows L.Lists (law_of J.Job ctx.now) setup.now.workers starts
         before after (all_outs closed.outs) closed.left.items closed.refused) }
 {
-    let opened = open::<J, A, W, R, L>(alloc, setup)?;
+    with_pool_by::<W, R, L, _, _, _, _, _, Apart>(rt, alloc, setup, ctx, gate, starts, body)
+}
+
+// The same, with rows and a point that are so opened.
+fn with_pool_by<W, R, L, RT, J, A, G, F, O>(
+    rt: &RT,
+    alloc: A,
+    setup: &Setup<A>,
+    ctx: &J::Ctx,
+    gate: &G,
+    starts: u32,
+    body: F,
+) -> Result<Closed<J, A>, PoolFault>
+where
+    RT: Threads + Wait + Sync,
+    J: Job<A> + Drop + Send,
+    J::Ctx: Sync,
+    J::Out: Drop + Send,
+    J::Abandoned: Send,
+    A: Allocator + Clone + Send + Sync,
+    W: WaitPoint<A> + Sync,
+    W::Seat: Send,
+    R: Rows<J, A> + Sync,
+    R::Seat: Send,
+    L: Lists<J::Out, A>,
+    G: Gate + Sync,
+    F: FnOnce(&mut Caller<'_, J, A, W, R, L>) + Drop,
+    O: Opens<J, A, W, R>,
+    requires body { (caller : _) → IsCaller R.Rows W.WaitPoint J.Job L.Lists caller.now
+        → started_of caller.now ≤ starts
+        → F.pre body caller }
+    requires stays { (before : _) → (after : _)
+        → FnOnceReturnsAtMut F.FnOnce body before tt after
+        → IsCaller R.Rows W.WaitPoint J.Job L.Lists before
+        → started_of before ≤ starts
+        → StaysCaller R.Rows W.WaitPoint J.Job L.Lists before after }
+    ensures bad_workers { IsErrOf result PoolFault.BadWorkers ↔ IsNoPoolSize setup.now.workers }
+    ensures bad_partition { IsErrOf result PoolFault.BadPartition
+        ↔ (IsPoolSize setup.now.workers
+        × AreNoPartitions setup.now.workers setup.now.partitions.items) }
+    ensures lists { IfOk result (λ closed. vec_len closed.outs ≡ setup.now.workers + 1) }
+    ensures account { IfOk result (λ closed. (before : _) × (after : _)
+        × FnOnceReturnsAtMut F.FnOnce body before tt after
+        × HasClosed R.Rows L.Lists (law_of J.Job ctx.now) setup.now.workers starts
+        before after (all_outs closed.outs) closed.left.items closed.refused) }
+{
+    let opened = open::<J, A, W, R, L, O>(alloc, setup)?;
     let pool = opened.pool;
     let place = PoolWorkplace {
         pool: &pool,
@@ -123,8 +171,8 @@ where
         opener: opened.opener,
         body,
     };
-    let (states, _, opener) = run_first(rt, &place, starts, opened.states, opened.ended, opening);
-    Ok(close(rt, pool, ctx, opener, states, opened.gathered))
+    let (homes, opener) = run_first(rt, &place, starts, opened.states, opened.ended, opening);
+    Ok(close(rt, pool, ctx, opener, homes, opened.gathered))
 }
 
 /// Opens a pool, schedules a root job in it, and calls what comes then, while workers run the job
@@ -163,12 +211,89 @@ where
         closed.left.items closed.refused) }
     ensures none_left { IfOk result (λ closed. closed.left.items ≡ []) }
 {
-    with_pool::<W, R, L, _, _, _, _, _>(
+    with_root_by::<W, R, L, _, _, _, _, _, Apart>(rt, alloc, setup, ctx, gate, root, then)
+}
+
+/// Does what `with_root` does, over one count that has the rows' lengths and the stop, so that no
+/// job is slept on.
+pub fn with_counted_root<L, RT, J, A, G, F>(
+    rt: &RT,
+    alloc: A,
+    setup: &Setup<A>,
+    ctx: &J::Ctx,
+    gate: &G,
+    root: J,
+    then: F,
+) -> Result<Closed<J, A>, PoolFault>
+where
+    RT: Threads + Wait + Sync,
+    J: Job<A> + Drop + Send,
+    J::Ctx: Sync,
+    J::Out: Drop + Send,
+    J::Abandoned: Send,
+    A: Allocator + Clone + Send + Sync,
+    L: Lists<J::Out, A>,
+    G: Gate + Sync,
+    F: FnOnce() + Drop,
+    requires then { F.pre then }
+    ensures bad_workers { IsErrOf result PoolFault.BadWorkers ↔ IsNoPoolSize setup.now.workers }
+    ensures bad_partition { IsErrOf result PoolFault.BadPartition
+        ↔ (IsPoolSize setup.now.workers
+        × AreNoPartitions setup.now.workers setup.now.partitions.items) }
+    ensures lists { IfOk result (λ closed. vec_len closed.outs ≡ setup.now.workers + 1) }
+    ensures account { IfOk result (λ closed.
+        Account (Unit {0}) (law_of J.Job ctx.now) (root ∷ []) [] (all_outs closed.outs)
+        closed.left.items closed.refused) }
+    ensures none_left { IfOk result (λ closed. closed.left.items ≡ []) }
+{
+    with_root_by::<RowPoint<A>, WakingRows<J, A>, L, _, _, _, _, _, OverOneCount>(
+        rt, alloc, setup, ctx, gate, root, then,
+    )
+}
+
+// The same, with rows and a point that are so opened.
+fn with_root_by<W, R, L, RT, J, A, G, F, O>(
+    rt: &RT,
+    alloc: A,
+    setup: &Setup<A>,
+    ctx: &J::Ctx,
+    gate: &G,
+    root: J,
+    then: F,
+) -> Result<Closed<J, A>, PoolFault>
+where
+    RT: Threads + Wait + Sync,
+    J: Job<A> + Drop + Send,
+    J::Ctx: Sync,
+    J::Out: Drop + Send,
+    J::Abandoned: Send,
+    A: Allocator + Clone + Send + Sync,
+    W: WaitPoint<A> + Sync,
+    W::Seat: Send,
+    R: Rows<J, A> + Sync,
+    R::Seat: Send,
+    L: Lists<J::Out, A>,
+    G: Gate + Sync,
+    F: FnOnce() + Drop,
+    O: Opens<J, A, W, R>,
+    requires then { F.pre then }
+    ensures bad_workers { IsErrOf result PoolFault.BadWorkers ↔ IsNoPoolSize setup.now.workers }
+    ensures bad_partition { IsErrOf result PoolFault.BadPartition
+        ↔ (IsPoolSize setup.now.workers
+        × AreNoPartitions setup.now.workers setup.now.partitions.items) }
+    ensures lists { IfOk result (λ closed. vec_len closed.outs ≡ setup.now.workers + 1) }
+    ensures account { IfOk result (λ closed.
+        Account R.keeps_accounts (law_of J.Job ctx.now) (root ∷ []) [] (all_outs closed.outs)
+        closed.left.items closed.refused) }
+    ensures none_left { IfOk result (λ closed. closed.left.items ≡ []) }
+{
+    with_pool_by::<W, R, L, _, _, _, _, _, O>(
         rt,
         alloc,
         setup,
         ctx,
         gate,
+        setup.workers,
         |caller: &mut Caller<'_, J, A, W, R, L>|
             requires caller { IsCaller R.Rows W.WaitPoint J.Job L.Lists caller.old }
             requires then { F.pre then }

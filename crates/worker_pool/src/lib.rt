@@ -7,8 +7,9 @@
 //!     with_pool::<W, R, L, ..>(rt, alloc, &setup, &ctx, &gate, |caller| caller.schedule(rt, job))
 //!
 //! A job takes one step at a time. A step forks a kid, which is a job of its own, or is the last
-//! and leaves an out. `with_root` is a `with_pool` whose body schedules one job. `W` is what
-//! workers wait at, `R` their rows, `L` the caller's list of outs.
+//! and leaves an out. `with_root` is a `with_pool` whose body schedules one job, and so is
+//! `with_counted_root`, over rows that wake. `W` is what workers wait at, `R` their rows, `L` the
+//! caller's list of outs.
 //!
 //! # A worker's turn
 //!
@@ -47,9 +48,10 @@
 //! # Why no job is forgotten by sleepers
 //!
 //! Whoever puts a job in raises its row's length before it wakes a waiter, and a worker commits
-//! only where it found the stop word 0 and all lengths 0 since its prewait. That no row with jobs
-//! is then without somebody to wake is a law of `event_word`; that the steps here are the model's
-//! is read.
+//! only where it found the stop word 0 and all lengths 0 since its prewait. `with_counted_root`
+//! opens rows and point over one count: there no job that lies in a row is without somebody to wake,
+//! by a law of `waking_rows` over both tables, and this order adds nothing. Over other rows and
+//! points it is a law of `event_word`, and that the steps here are the model's is read.
 #![tactic(auto)]
 
 mod boxed;
@@ -66,6 +68,7 @@ mod job_queue;
 mod lists;
 mod open;
 mod opener_state;
+mod opens;
 mod passes;
 mod pool;
 mod run;
@@ -79,7 +82,7 @@ mod workplace;
 pub use boxed::{BoxedJob, BoxedTask, TaskOut};
 pub use caller::Caller;
 pub use closed::Closed;
-pub use entry::{with_pool, with_pool_limited, with_root};
+pub use entry::{with_counted_root, with_pool, with_pool_limited, with_root};
 pub use gate::{Gate, NoGate};
 pub use job::{Job, Progress};
 pub use lists::{Lists, VecLists};

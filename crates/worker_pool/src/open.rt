@@ -1,8 +1,7 @@
 //! Opening a pool. All memory is taken here that its starting, ending and closing need.
-ghost use Rattle.std.specs.Prelude.{◌≡◌, ◌+◌, ◌<◌, ◌≤◌, ◌↔◌, [], ◌∷◌, ◌++◌, map, All, IfOk};
+ghost use Rattle.std.specs.Prelude.{◌≡◌, ◌+◌, ◌<◌, ◌↔◌, [], ◌∷◌, ◌++◌, map, All, IfOk};
 ghost use Rattle.std.specs.Prelude.{IsErrOf, length};
 ghost use Rattle.std.specs.List.{range_with_len};
-ghost use Rattle.run_queue.specs.Limits.{most_rows};
 ghost use Rattle.worker_pool.specs.OpenerStates.{IsFresh};
 ghost use Rattle.worker_pool.specs.Openings.{AreRowSeats, AreWakers, IsByNumber, IsOpened};
 ghost use Rattle.worker_pool.specs.Openings.{seeded_by};
@@ -18,15 +17,17 @@ use crate::job::Job;
 use crate::job_queue::{JobQueue, OpenerSeats, Told, WorkerSeats};
 use crate::lists::Lists;
 use crate::opener_state::OpenerState;
+use crate::opens::Opens;
 use crate::pool::Pool;
 use crate::setup::{PoolFault, Setup};
+use crate::start::Home;
 use crate::stop;
 use crate::stop::StopSeat;
 use crate::worker::WorkerState;
-use event_count::{CountFault, WaitPoint};
+use event_count::WaitPoint;
 use rand_core::SeedableRng;
 use rand_pcg::Lcg64Xsh32;
-use run_queue::{Rows, RowsFault};
+use run_queue::Rows;
 use std::alloc::{AllocError, Allocator};
 use steal_walk::Coprimes;
 
@@ -46,13 +47,13 @@ where
     /// The state of each worker, by number.
     pub(crate) states: Vec<WorkerState<J, A, W, R>, A>,
     /// Empty, with room for the states of all workers once they have ended.
-    pub(crate) ended: Vec<WorkerState<J, A, W, R>, A>,
+    pub(crate) ended: Vec<Home<WorkerState<J, A, W, R>>, A>,
     /// Empty, with room for what all workers and the opener bring home.
     pub(crate) gathered: Gathered<J, A, W, R>,
 }
 
 /// A pool that is so set up, in which nothing was done yet, or the setup's fault.
-pub(crate) fn open<J, A, W, R, L>(
+pub(crate) fn open<J, A, W, R, L, O>(
     alloc: A,
     setup: &Setup<A>,
 ) -> Result<Opened<J, A, W, R, L>, PoolFault>
@@ -63,6 +64,7 @@ where
     W: WaitPoint<A>,
     R: Rows<J, A>,
     L: Lists<J::Out, A>,
+    O: Opens<J, A, W, R>,
     ensures bad_workers { IsErrOf result PoolFault.BadWorkers ↔ IsNoPoolSize setup.now.workers }
     ensures bad_partition { IsErrOf result PoolFault.BadPartition
         ↔ (IsPoolSize setup.now.workers
@@ -71,11 +73,11 @@ where
         L.Lists setup.now.workers) }
 {
     setup.check()?;
-    Ok(open_checked(alloc, setup)?)
+    Ok(open_checked::<J, A, W, R, L, O>(alloc, setup)?)
 }
 
 // A pool, of a setup that passed the check.
-fn open_checked<J, A, W, R, L>(
+fn open_checked<J, A, W, R, L, O>(
     alloc: A,
     setup: &Setup<A>,
 ) -> Result<Opened<J, A, W, R, L>, AllocError>
@@ -86,6 +88,7 @@ where
     W: WaitPoint<A>,
     R: Rows<J, A>,
     L: Lists<J::Out, A>,
+    O: Opens<J, A, W, R>,
     requires size { IsPoolSize setup.now.workers }
     requires partitions { ArePartitions setup.now.workers setup.now.partitions.items }
     ensures { IfOk result (IsOpened R.Rows W.WaitPoint setup.now.partitions.items J.Job L.Lists
@@ -94,7 +97,7 @@ where
     let workers = setup.workers as usize;
     let gathered = Gathered::with_room(&alloc, workers + 1)?;
     let ended = room(&alloc, workers)?;
-    let (pool, opener, states) = open_with_states(alloc, setup)?;
+    let (pool, opener, states) = open_with_states::<J, A, W, R, L, O>(alloc, setup)?;
     Ok(Opened {
         pool,
         opener,
@@ -105,7 +108,7 @@ where
 }
 
 // A pool, what its opener works with, and the state of each worker, by number.
-fn open_with_states<J, A, W, R, L>(
+fn open_with_states<J, A, W, R, L, O>(
     alloc: A,
     setup: &Setup<A>,
 ) -> Result<
@@ -123,6 +126,7 @@ where
     W: WaitPoint<A>,
     R: Rows<J, A>,
     L: Lists<J::Out, A>,
+    O: Opens<J, A, W, R>,
     requires size { IsPoolSize setup.now.workers }
     requires partitions { ArePartitions setup.now.workers setup.now.partitions.items }
     ensures workers { IfOk result (λ made. made.0.queue.workers ≡ setup.now.workers) }
@@ -135,14 +139,14 @@ where
     ensures by_number { IfOk result (λ made. All (IsByNumber R.Rows W.WaitPoint
         setup.now.partitions.items setup.now.workers) made.2.items) }
 {
-    let (queue, rows, wakers) = open_queue::<J, A, W, R>(&alloc, setup.workers as u16)?;
+    let (queue, rows, wakers) = open_queue::<J, A, W, R, O>(&alloc, setup.workers as u16)?;
     let (pool, stop_seat) = pool_of(alloc, queue)?;
     let (opener, states) = opener_and_workers(&pool, setup, rows, wakers, stop_seat)?;
     Ok((pool, opener, states))
 }
 
 // A queue for so many workers and an opener, and the seats there by number: the opener's are last.
-fn open_queue<J, A, W, R>(
+fn open_queue<J, A, W, R, O>(
     alloc: &A,
     workers: u16,
 ) -> Result<(JobQueue<W, R>, Vec<R::Seat, A>, Vec<W::Seat, A>), AllocError>
@@ -150,6 +154,7 @@ where
     A: Allocator + Clone,
     W: WaitPoint<A>,
     R: Rows<J, A>,
+    O: Opens<J, A, W, R>,
     requires { IsPoolSize workers }
     ensures workers { IfOk result (λ made. made.0.workers ≡ workers) }
     ensures sized { IfOk result (λ made. IsJobQueue R.Rows W.WaitPoint made.0) }
@@ -158,45 +163,12 @@ where
     ensures many { IfOk result (λ made.
         (length made.1.items ≡ workers + 1) × (length made.2.items ≡ workers + 1)) }
 {
-    let (rows, row_seats) = open_rows::<J, A, R>(alloc, workers)?;
-    let (point, wakers) = open_point(alloc, workers)?;
-    Ok((JobQueue::new(rows, point, workers), row_seats, wakers))
-}
-
-// Rows for so many workers, and the seats there.
-fn open_rows<J, A, R>(alloc: &A, workers: u16) -> Result<(R, Vec<R::Seat, A>), AllocError>
-where
-    A: Allocator + Clone,
-    R: Rows<J, A>,
-    requires { workers ≤ most_rows }
-    ensures rows { IfOk result (λ made. R.row_count made.0 ≡ workers) }
-    ensures many { IfOk result (λ made. R.seat_count made.0 ≡ workers + 1) }
-    ensures seats { IfOk result (λ made. AreRowSeats R.Rows made.0 0 made.1.items) }
-    ensures all { IfOk result (λ made. length made.1.items ≡ workers + 1) }
-{
-    match R::open(alloc.clone()?, workers, 1) {
-        Ok(opened) => Ok(opened),
-        Err(RowsFault::NoMemory) => Err(AllocError),
-        Err(RowsFault::TooManyRows) => unreachable!(),
-    }
-}
-
-// A point at which so many workers wait, and the seats there.
-fn open_point<A, W>(alloc: &A, workers: u16) -> Result<(W, Vec<W::Seat, A>), AllocError>
-where
-    A: Allocator + Clone,
-    W: WaitPoint<A>,
-    requires { IsPoolSize workers }
-    ensures waiters { IfOk result (λ made. W.waiter_count made.0 ≡ workers) }
-    ensures many { IfOk result (λ made. W.seat_count made.0 ≡ workers + 1) }
-    ensures seats { IfOk result (λ made. AreWakers W.WaitPoint made.0 0 made.1.items) }
-    ensures all { IfOk result (λ made. length made.1.items ≡ workers + 1) }
-{
-    match W::open(alloc.clone()?, workers, 1) {
-        Ok(opened) => Ok(opened),
-        Err(CountFault::NoMemory) => Err(AllocError),
-        Err(CountFault::TooManyWaiters) => unreachable!(),
-    }
+    let made = O::open(alloc, workers)?;
+    Ok((
+        JobQueue::new(made.rows, made.point, workers),
+        made.row_seats,
+        made.wakers,
+    ))
 }
 
 // A pool with this queue, and the first seat at its stop word.

@@ -3,7 +3,7 @@ ghost use Rattle.std.specs.Prelude.{◌≡◌, ◌≤◌, ◌↔◌, [], IsTrue}
 ghost use Rattle.std.specs.Fn.{FnOnceReturnsAtMut};
 ghost use Rattle.worker_pool.specs.Callers.{IsCaller, StaysCaller, IsCancelled, roots_of};
 ghost use Rattle.worker_pool.specs.Callers.{started_of, stop_of};
-ghost use Rattle.worker_pool.specs.OpenerStates.{IsFresh, IsLent, HasWorked};
+ghost use Rattle.worker_pool.specs.OpenerStates.{IsFresh, IsLent, HasWorked, TakesOver};
 ghost use Rattle.worker_pool.specs.Stops.{open_word};
 
 use crate::caller::Caller;
@@ -137,6 +137,7 @@ where
     ensures worked { HasWorked R.Rows W.WaitPoint J.Job L.Lists pool.now caller.entry.ctx.now
         (roots_of caller.entry) result }
     ensures cancelled { IsTrue result.cancelled ↔ IsCancelled caller.entry }
+    ensures taken_over { TakesOver caller.entry result }
 {
     let mut caller = caller;
     caller.close(rt);

@@ -1,8 +1,13 @@
 //! Starting workers, and bringing home what they worked with.
-ghost use Rattle.std.specs.Prelude.{◌≡◌, ℕ, ◌+◌, ◌<◌, ◌≤◌, All, vec_len, vec_capacity};
+ghost use Rattle.std.specs.Prelude.{◌≡◌, ℕ, ◌+◌, ◌<◌, ◌≤◌, [], All, vec_len, vec_capacity};
+ghost use Rattle.std.specs.List.{AllZip};
 ghost use Rattle.run_queue.specs.Limits.{most_rows};
-ghost use Rattle.worker_pool.specs.Starts.{IsToRun, HasRun};
+ghost use Rattle.worker_pool.specs.Starts.{IsToRun, HasRun, Returns, ComesHome, AsksFirst};
+ghost use Rattle.worker_pool.specs.Starts.{joined_of};
 
+mod home;
+
+pub(crate) use home::Home;
 use std::alloc::Allocator;
 use std::snapshot::Snapshot;
 use std::sync::Wait;
@@ -15,10 +20,14 @@ pub(crate) trait Workplace<X> {
     // A worker in this state is at work here.
     ghost is_at_work: { Self → X → Type 0 };
 
+    // A worker that began in the first of these states has ended in the second.
+    ghost has_ended: { Self → X → X → Type 0 };
+
     /// Works until there is nothing more to do.
     fn work<RT: Wait>(&self, rt: &RT, state: X) -> X
         requires { is_at_work self.now state }
-        ensures { is_at_work self.now result };
+        ensures at_work { is_at_work self.now result }
+        ensures ended { has_ended self.now state result };
 }
 
 /// What the one that opens a workplace does while the workers work.
@@ -40,28 +49,29 @@ pub(crate) trait Opening<S> {
         ensures { has_left self workplace.now started result };
 }
 
-/// A worker that was at work here still is.
+/// A worker that began in this state at work here still is at work, and has ended or did nothing.
 #[derive(Drop)]
-struct ComeHome<S>(Snapshot<S>);
+struct ComeHome<S, X>(Snapshot<S>, Snapshot<X>);
 
-impl<X, S: Workplace<X>> Promise<X> for ComeHome<S> {
-    ghost kept_by = { λ home state. S.is_at_work home.0.value state };
+impl<X, S: Workplace<X>> Promise<X> for ComeHome<S, X> {
+    ghost kept_by = { λ from state.
+        Returns S.is_at_work S.has_ended from.0.value from.1.value state };
 }
 
 /// The number of no worker.
 const NOBODY: u64 = u64::MAX;
 
 /// Starts a worker for each of the first `starts` states, calls the opening with how many were
-/// started, and brings all states home, by number. A worker that wasn't started does nothing. The
-/// answer counts the threads that were joined: all that were started.
+/// started, and brings all states home, by number. A worker that wasn't started does nothing. Those
+/// that were started are those whose threads were joined.
 pub(crate) fn run_first<RT, X, A, S, B>(
     rt: &RT,
     workplace: &S,
     starts: u32,
     mut states: Vec<X, A>,
-    ended: Vec<X, A>,
+    ended: Vec<Home<X>, A>,
     opening: B,
-) -> (Vec<X, A>, u32, B::State)
+) -> (Vec<Home<X>, A>, B::State)
 where
     RT: Threads + Wait + Sync,
     X: Send + Drop,
@@ -70,32 +80,35 @@ where
     B: Opening<S> + Drop,
     requires at_work { All (S.is_at_work workplace.now) states.items }
     requires few { vec_len states ≤ most_rows }
-    requires none_ended { vec_len ended ≡ 0 }
+    requires none_ended { ended.items ≡ [] }
     requires room { vec_len states ≤ vec_capacity ended }
     requires begins { (started : ℕ) → started ≤ vec_len states → started ≤ starts
         → B.may_begin opening workplace.now started }
+    ensures home { AllZip (ComesHome S.is_at_work S.has_ended workplace.now) states.items
+        result.0.items }
+    ensures at_work { All (λ home. S.is_at_work workplace.now home.state) result.0.items }
+    ensures asked { AsksFirst starts result.0.items }
     ensures all { vec_len result.0 ≡ vec_len states }
     ensures capacity { vec_capacity result.0 ≡ vec_capacity ended }
-    ensures at_work { All (S.is_at_work workplace.now) result.0.items }
-    ensures few { result.1 ≤ starts }
-    ensures joined { result.1 ≤ vec_len states }
-    ensures left { B.has_left opening workplace.now result.1 result.2 }
+    ensures few { joined_of result.0.items ≤ starts }
+    ensures left { B.has_left opening workplace.now (joined_of result.0.items) result.1 }
 {
     if states.len() > starts as usize {
         let Some(last) = states.pop() else {
             unreachable!()
         };
-        let (mut ended, joined, state) = run_first(rt, workplace, starts, states, ended, opening);
-        ended.push_reserved(last);
-        return (ended, joined, state);
+        let (mut ended, state) = run_first(rt, workplace, starts, states, ended, opening);
+        ended.push_reserved(Home::not_asked(last));
+        return (ended, state);
     }
     let left_out = AtomicU64::new(NOBODY);
     thread::scope(
         thread::scope_env(),
         rt,
-        |scope| -> (Vec<X, A>, u32, B::State)
+        |scope| -> (Vec<Home<X>, A>, B::State)
             requires { IsToRun S.is_at_work B.may_begin workplace.now states ended 0 opening }
-            ensures { HasRun S.is_at_work B.has_left workplace.entry.now states ended 0 opening result }
+            ensures { HasRun S.is_at_work S.has_ended B.has_left workplace.entry.now states ended 0
+                opening result }
         { start_all(rt, scope, workplace, &left_out, states, ended, 0, opening) },
     )
 }
@@ -109,10 +122,10 @@ fn start_all<'s, E, RT, X, A, S, B>(
     workplace: &'s S,
     left_out: &'s AtomicU64,
     mut states: Vec<X, A>,
-    ended: Vec<X, A>,
+    ended: Vec<Home<X>, A>,
     started: u32,
     opening: B,
-) -> (Vec<X, A>, u32, B::State)
+) -> (Vec<Home<X>, A>, B::State)
 where
     RT: Threads + Wait + Sync,
     X: Send + Drop + 's,
@@ -120,17 +133,18 @@ where
     S: Workplace<X> + Sync,
     B: Opening<S> + Drop,
     requires { IsToRun S.is_at_work B.may_begin workplace.now states ended started opening }
-    ensures { HasRun S.is_at_work B.has_left workplace.now states ended started opening result }
+    ensures { HasRun S.is_at_work S.has_ended B.has_left workplace.now states ended started opening
+        result }
 {
     let Some(next) = states.pop() else {
-        return (ended, 0, opening.run(workplace, started));
+        return (ended, opening.run(workplace, started));
     };
     let number = states.len() as u64;
     match scope.spawn_with(
-        ComeHome(Snapshot::of(workplace)),
+        ComeHome(Snapshot::of(workplace), Snapshot::of(&next)),
         move || -> X
             requires { S.is_at_work workplace.now next }
-            ensures { S.is_at_work workplace.entry.now result }
+            ensures { Returns S.is_at_work S.has_ended workplace.entry.now next result }
         {
             if left_out.load(Ordering::SeqCst) == number {
                 next
@@ -140,7 +154,7 @@ where
         },
     ) {
         Ok(child) => {
-            let (mut ended, joined, state) = start_all(
+            let (mut ended, state) = start_all(
                 rt,
                 scope,
                 workplace,
@@ -150,16 +164,16 @@ where
                 started + 1,
                 opening,
             );
-            ended.push_reserved(child.join(rt));
-            (ended, joined + 1, state)
+            ended.push_reserved(Home::joined(rt, child));
+            (ended, state)
         }
         Err(refused) => {
-            let (mut ended, joined, state) = start_all(
+            let (mut ended, state) = start_all(
                 rt, scope, workplace, left_out, states, ended, started, opening,
             );
             left_out.store(number, Ordering::SeqCst);
-            ended.push_reserved((refused.value)());
-            (ended, joined, state)
+            ended.push_reserved(Home::refused(refused));
+            (ended, state)
         }
     }
 }

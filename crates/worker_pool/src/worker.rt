@@ -2,9 +2,10 @@
 ghost use Rattle.std.specs.Prelude.{◌≡◌, ◌<◌, ◌++◌, All, false};
 ghost use Rattle.steal_walk.specs.Walk.{VisitsEachOnce};
 ghost use Rattle.worker_pool.specs.Seats.{IsJobQueue, IsOwner};
-ghost use Rattle.worker_pool.specs.Stops.{IsStopSeatOf, stored_of};
-ghost use Rattle.worker_pool.specs.Turns.{jobs_in};
-ghost use Rattle.worker_pool.specs.Works.{IsAtWork, IsInside};
+ghost use Rattle.worker_pool.specs.Seen.{HasFoundTheEnd, MayEnd};
+ghost use Rattle.worker_pool.specs.Stops.{IsStopSeatOf, stored_of, found_of};
+ghost use Rattle.worker_pool.specs.Turns.{jobs_in, IfLast};
+ghost use Rattle.worker_pool.specs.Works.{IsAtWork, IsInside, HasEnded};
 
 use crate::gate::Gate;
 use crate::home_rows::HomeRows;
@@ -73,7 +74,8 @@ where
     R: Rows<J, A>,
     G: Gate,
     requires { IsAtWork R.Rows W.WaitPoint J.Job pool.now ctx.now state }
-    ensures { IsAtWork R.Rows W.WaitPoint J.Job pool.now ctx.now result }
+    ensures at_work { IsAtWork R.Rows W.WaitPoint J.Job pool.now ctx.now result }
+    ensures ended { HasEnded R.Rows pool.now state result }
 {
     let WorkerState {
         number,
@@ -145,6 +147,8 @@ where
     ensures puts { R.keeps_accounts → R.puts_of seats.new.row ≡ R.puts_of seats.old.row }
     ensures takes { R.keeps_accounts
         → R.takes_of seats.new.row ≡ R.takes_of seats.old.row ++ jobs_in result }
+    ensures last { IfLast result
+        (MayEnd (R.row_count pool.now.queue.rows) seats.new.seen (found_of stop.new)) }
 {
     let queue = &pool.queue;
     if stop::is_cancelled(&pool.stop.shared, stop) {
@@ -190,6 +194,8 @@ where
     ensures puts { R.keeps_accounts → R.puts_of seats.new.row ≡ R.puts_of seats.old.row }
     ensures takes { R.keeps_accounts
         → R.takes_of seats.new.row ≡ R.takes_of seats.old.row ++ jobs_in result }
+    ensures last { IfLast result
+        (HasFoundTheEnd (R.row_count pool.now.queue.rows) seats.new.seen) }
 {
     let queue = &pool.queue;
     seats.enter(rt, queue);

@@ -32,10 +32,13 @@ where
     R: Rows<J, A>,
     G: Gate,
 {
-    ghost use Rattle.worker_pool.specs.Works.{IsAtWork};
+    ghost use Rattle.worker_pool.specs.Works.{IsAtWork, HasEnded};
 
     ghost is_at_work = { λ workplace state.
         IsAtWork R.Rows W.WaitPoint J.Job workplace.pool.now workplace.ctx.now state };
+
+    ghost has_ended = { λ workplace before after.
+        HasEnded R.Rows workplace.pool.now before after };
 
     fn work<RT: Wait>(&self, rt: &RT, state: WorkerState<J, A, W, R>) -> WorkerState<J, A, W, R> {
         take_turns(rt, self.pool, self.ctx, self.gate, state)

@@ -10,6 +10,7 @@ use Rattle.event_word.specs.World.{World, length_of, rows_passed_by, is_announci
 use Rattle.event_word.specs.Step.{row_limit, effect}
 use Rattle.event_word.proofs.Keeps.{pre_known}
 use Rattle.event_count.specs.declared.rule.RowSizes.{RowSizes}
+use Rattle.event_count.specs.declared.view.Finding.{Finding}
 use Rattle.event_count.specs.declared.view.Card.{Card}
 use Rattle.event_count.specs.declared.view.View.{View}
 use Rattle.event_count.specs.Rows.Gains.{publishing, redeeming, passing_by, passing_flag_by}
@@ -81,7 +82,7 @@ module _ (k : RowSizes) (s : CountState) (history : List Event) (w : World)
         plain = λ none_there. absurd (omega arith);
       }
 
-  pub pass_fits : (row found : ℕ) → row < k.rows → c.phase ≡ Pre → length_of w row ≡ 0
+  pub pass_fits : (row : ℕ) (found : Finding) → row < k.rows → c.phase ≡ Pre → length_of w row ≡ 0
       → Fitting k w (effect w (Pass c.number row)) (Pass c.number row ∷ []) c
       (record (passing_by true c row) { found = found })
   pass_fits row found less pre empty =
@@ -107,7 +108,7 @@ module _ (k : RowSizes) (s : CountState) (history : List Event) (w : World)
         plain = λ none_there. absurd (omega arith);
       }
 
-  pub pass_flag_fits : (found : ℕ) → c.phase ≡ Pre → w.stop ≡ 0
+  pub pass_flag_fits : (found : Finding) → c.phase ≡ Pre → w.stop ≡ 0
       → Fitting k w (effect w (PassFlag c.number)) (PassFlag c.number ∷ []) c
       (record (passing_flag_by true c) { found = found })
   pass_flag_fits found pre going =
@@ -131,7 +132,7 @@ module _ (k : RowSizes) (s : CountState) (history : List Event) (w : World)
         plain = rowless_on k s history w r id v c at is (effect w (PassFlag c.number)) refl refl;
       }
 
-  pub stop_fits : (found : ℕ) → 0 < k.rows → c.phase ≡ Running → c.owing ≡ []
+  pub stop_fits : (found : Finding) → 0 < k.rows → c.phase ≡ Running → c.owing ≡ []
       → c.announcing ≡ false → w.stop ≡ 0
       → Fitting k w (effect w (Stop c.number)) (Stop c.number ∷ []) c
       (record (stopping_by true c) { found = found })

@@ -9,11 +9,13 @@ use Rattle.event_count.specs.Places.{row_place}
 use Rattle.event_count.specs.Cards.{holding, only, card_in}
 use Rattle.event_count.specs.Plays.{Sat, Told}
 use Rattle.event_count.specs.Steps.{AddsWith}
-use Rattle.event_count.specs.Rows.Plays.{publishes, redeems, passes, passes_flag, stops}
+use Rattle.event_count.specs.Rows.Plays.{publishes, redeems, passes, measures, passes_flag, stops}
+use Rattle.event_count.specs.Rows.Plays.{weighs}
 use Rattle.event_count.specs.Rows.Steps.{RowStepsOf, TicketStepsOf, RowStepsAddTheirEvents}
 use Rattle.event_count.proofs.Adding.{adds}
 use Rattle.event_count.proofs.RowSteps.Publishing.{AdvancesWith, publish_adds, take_adds}
-use Rattle.event_count.proofs.RowSteps.Passing.{pass_adds, pass_flag_adds, stop_adds}
+use Rattle.event_count.proofs.RowSteps.Passing.{pass_adds, measure_adds, pass_flag_adds, weigh_adds}
+use Rattle.event_count.proofs.RowSteps.Passing.{stop_adds}
 
 module _ (k : RowSizes) (slots : ℕ) (me : Sat) where
   -- a step of the seat, whichever number its view has
@@ -32,8 +34,11 @@ module _ (k : RowSizes) (slots : ℕ) (me : Sat) where
         (λ id. publish_adds k slots id me is row less running owes_none silent credit);
     pass = λ row less pre. adds k slots me is (row_place (k.waiters + k.rows) row) 0 0 (λ n. n)
         passes (λ id. pass_adds k slots id me is row less pre);
+    measure = λ row less. adds k slots me is (row_place (k.waiters + k.rows) row) 0 0 (λ n. n)
+        measures (λ id. measure_adds k slots id me is row less);
     pass_flag = λ pre. adds k slots me is STOP 0 0 (λ n. n) passes_flag
         (λ id. pass_flag_adds k slots id me is pre);
+    weigh = adds k slots me is STOP 0 0 (λ n. n) weighs (λ id. weigh_adds k slots id me is);
     stop = λ some_rows running owes_none silent.
         adds k slots me is STOP 0 1 (λ n. either (n == 0) 1 n) stops
         (λ id. stop_adds k slots id me is some_rows running owes_none silent);

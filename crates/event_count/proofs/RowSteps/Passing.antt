@@ -16,17 +16,18 @@ use Rattle.event_word.specs.Step.{effect}
 use Rattle.event_word.proofs.Keeps.{pre_known}
 use Rattle.event_count.specs.declared.rule.TheConstants.{STOP}
 use Rattle.event_count.specs.declared.rule.RowSizes.{RowSizes}
+use Rattle.event_count.specs.declared.view.Finding.{Finding}
 use Rattle.event_count.specs.declared.view.Card.{Card}
 use Rattle.event_count.specs.Places.{row_place}
-use Rattle.event_count.specs.Cards.{only, card_in}
+use Rattle.event_count.specs.Cards.{found_in, found_at_stop, only, card_in}
 use Rattle.event_count.specs.Kinds.{has_passed_row}
 use Rattle.event_count.specs.Plays.{Sat}
 use Rattle.event_count.specs.Kept.{Knows, Links}
 use Rattle.event_count.specs.Shown.{CountState, ShowsWorld}
 use Rattle.event_count.specs.Tickets.{card_credits}
-use Rattle.event_count.specs.Rows.Gains.{passing, passing_by, passing_flag_by}
+use Rattle.event_count.specs.Rows.Gains.{passing, passing_by, measuring, passing_flag_by}
 use Rattle.event_count.specs.Rows.Gains.{stopping_by}
-use Rattle.event_count.specs.Rows.Plays.{passes, passes_flag, stops, weighs}
+use Rattle.event_count.specs.Rows.Plays.{passes, passes_flag, stops, weighs, measures}
 use Rattle.event_count.proofs.Words.{SameRows, same_rows}
 use Rattle.event_count.proofs.Steps.{Fitting, acts, fits_none, truth}
 use Rattle.event_count.proofs.Events.{sizes, is_pre}
@@ -79,7 +80,7 @@ module _ (k : RowSizes) (slots id : ℕ) (me : Sat) (is : me.0 ≡ only (card_in
         )
 
     -- or none
-    loaded_none : (found : ℕ)
+    loaded_none : (found : Finding)
         → After k slots id me is s shows place (slice_index s.words place)
         (record c { found = found })
     loaded_none found =
@@ -111,12 +112,12 @@ module _ (k : RowSizes) (slots id : ℕ) (me : Sat) (is : me.0 ≡ only (card_in
             let word = slice_index s.words place in
             let t = truth k s history w r id me.0 c at has in
             let z = sizes k s history w r id me.0 c at has in
-            let same : record (passing_by b c row) { found = word } ≡ passing c row word =
-            ap (λ x. record (passing_by x c row) { found = word }) (sym is_b) in
+            let same : record (passing_by b c row) { found = found_in row word } ≡ passing c row word =
+            ap (λ x. record (passing_by x c row) { found = found_in row word }) (sym is_b) in
             let waits = is_pre k s history w r id me.0 c at has pre in
             let known = pre_known w c.number waits in let phases = z.phases in
             let many = ap length t.passed ∙ z.passed_rows c.number (omega arith) in (
-              record (passing_by b c row) { found = word },
+              record (passing_by b c row) { found = found_in row word },
               taken s shows at b is_b,
               (
                 row,
@@ -125,7 +126,7 @@ module _ (k : RowSizes) (slots id : ℕ) (me : Sat) (is : me.0 ≡ only (card_in
                   let waiters = t.waiters in let rows = t.rows in omega arith,
                 ),
                 ap (λ d. (only d, me.1)) same,
-                λ zero_found. ap (λ x. has_passed_row (record (passing_by x c row) { found = word })
+                λ zero_found. ap (λ x. has_passed_row (record (passing_by x c row) { found = found_in row word })
                     row) (eq-eqb word 0 zero_found)
                     ∙ get_or-set_same c.passed row true false (omega arith),
               ),
@@ -137,7 +138,7 @@ module _ (k : RowSizes) (slots id : ℕ) (me : Sat) (is : me.0 ≡ only (card_in
                 → After k slots id me is s shows (row_place (k.waiters + k.rows) row)
                 (slice_index s.words (row_place (k.waiters + k.rows) row))
                 (record (passing_by b c row) {
-                  found = slice_index s.words (row_place (k.waiters + k.rows) row);
+                  found = found_in row (slice_index s.words (row_place (k.waiters + k.rows) row));
                 })
             taken s shows at true zero_found =
                 let history = shows.0 in let w = shows.1 in let r = shows.2 in
@@ -147,15 +148,16 @@ module _ (k : RowSizes) (slots id : ℕ) (me : Sat) (is : me.0 ≡ only (card_in
                 let here = r.written.rows row less in
                 loaded s shows at place (aside_row (k.waiters + k.rows) row)
                 (Pass c.number row ∷ []) (effect w (Pass c.number row))
-                (record (passing_by true c row) { found = word })
-                (pass_fits k s history w r id me.0 c at has row word less pre (omega arith))
+                (record (passing_by true c row) { found = found_in row word })
+                (pass_fits k s history w r id me.0 c at has row (found_in row word) less pre
+                (omega arith))
                 refl refl (same_rows w (effect w (Pass c.number row)) refl refl)
                 (record { pre = refl; signals = refl; stack = refl; tokens = refl })
                 (λ ws es was. was) (λ ws was. was)
             taken s shows at false some_found =
                 loaded_none s shows at (row_place (k.waiters + k.rows) row)
                 (aside_row (k.waiters + k.rows) row)
-                (slice_index s.words (row_place (k.waiters + k.rows) row))
+                (found_in row (slice_index s.words (row_place (k.waiters + k.rows) row)))
 
     pub pass_keeps_at : (place : ℕ) → place ≡ row_place (k.waiters + k.rows) row
         → Allows (ShowsWorld k) slots id me place (λ n. n) (passes (step slots place 0 0 none) me)
@@ -177,26 +179,26 @@ module _ (k : RowSizes) (slots id : ℕ) (me : Sat) (is : me.0 ≡ only (card_in
           let history = shows.0 in let w = shows.1 in let r = shows.2 in
           let word = slice_index s.words STOP in
           let going = r.written.stop.0 (eqb-true word 0 zero_found) in
-          let d = record (passing_flag_by true c) { found = word } in (
+          let d = record (passing_flag_by true c) { found = found_at_stop word } in (
             d,
             loaded s shows at STOP aside_stop (PassFlag c.number ∷ [])
                 (effect w (PassFlag c.number)) d
-                (pass_flag_fits k s history w r id me.0 c at has word pre going) refl refl
+                (pass_flag_fits k s history w r id me.0 c at has (found_at_stop word) pre going) refl refl
                 (same_rows w (effect w (PassFlag c.number)) refl refl)
                 (record { pre = refl; signals = refl; stack = refl; tokens = refl })
                 (λ ws es was. was) (λ ws was. was),
             (
               refl,
-              ap (λ x. (only (record (passing_flag_by x c) { found = word }), me.1))
+              ap (λ x. (only (record (passing_flag_by x c) { found = found_at_stop word }), me.1))
                   (sym zero_found),
             ),
           )
       by_found false some_found = let word = slice_index s.words STOP in (
-        record c { found = word },
-        loaded_none s shows at STOP aside_stop word,
+        record c { found = found_at_stop word },
+        loaded_none s shows at STOP aside_stop (found_at_stop word),
         (
           refl,
-          ap (λ x. (only (record (passing_flag_by x c) { found = word }), me.1)) (sym some_found),
+          ap (λ x. (only (record (passing_flag_by x c) { found = found_at_stop word }), me.1)) (sym some_found),
         ),
       )
 
@@ -215,10 +217,10 @@ module _ (k : RowSizes) (slots id : ℕ) (me : Sat) (is : me.0 ≡ only (card_in
       exchanged word 0 1
       (λ x. (d : Card) × After k slots id me is s shows STOP x d
       × stops (step slots STOP 0 1 none) me word (only d, me.1))
-      (λ hit. let d = record (stopping_by true c) { found = word } in
+      (λ hit. let d = record (stopping_by true c) { found = found_at_stop word } in
       let u = effect w (Stop c.number) in let events : List Event = Stop c.number ∷ [] in
-      let f = stop_fits k s history w r id me.0 c at has word some_rows running owes_none silent
-      (r.written.stop.0 hit) in (
+      let f = stop_fits k s history w r id me.0 c at has (found_at_stop word) some_rows running
+      owes_none silent (r.written.stop.0 hit) in (
         d,
         (
           events,
@@ -230,16 +232,16 @@ module _ (k : RowSizes) (slots id : ℕ) (me : Sat) (is : me.0 ≡ only (card_in
         ),
         (
           refl,
-          ap (λ x. (only (record (stopping_by x c) { found = word }), me.1))
+          ap (λ x. (only (record (stopping_by x c) { found = found_at_stop word }), me.1))
               (sym (eq-eqb word 0 hit)),
         ),
       ))
       (λ miss. (
-        record c { found = word },
-        loaded_none s shows at STOP aside_stop word,
+        record c { found = found_at_stop word },
+        loaded_none s shows at STOP aside_stop (found_at_stop word),
         (
           refl,
-          ap (λ x. (only (record (stopping_by x c) { found = word }), me.1))
+          ap (λ x. (only (record (stopping_by x c) { found = found_at_stop word }), me.1))
               (sym (ne_eqb word 0 miss)),
         ),
       ))
@@ -250,6 +252,34 @@ module _ (k : RowSizes) (slots id : ℕ) (me : Sat) (is : me.0 ≡ only (card_in
   stop_keeps some_rows running owes_none silent =
       allowed k slots id me is STOP 0 1 (λ n. either (n == 0) 1 n) stops
       (stop_adds some_rows running owes_none silent)
+
+  module _ (row : ℕ) (less : row < k.rows) where
+    -- a load of a row's length that passes nothing
+    pub measure_adds :
+        Advances k slots id me is (row_place (k.waiters + k.rows) row) 0 0 (λ n. n) measures
+    measure_adds s shows at _ =
+        let t = truth k s shows.0 shows.1 shows.2 id me.0 c at has in
+        let place = row_place (k.waiters + k.rows) row in
+        let word = slice_index s.words place in (
+          measuring c row word,
+          loaded_none s shows at place (aside_row (k.waiters + k.rows) row) (found_in row word),
+          (
+            row,
+            (
+              let rows = t.rows in omega arith,
+              let waiters = t.waiters in let rows = t.rows in omega arith,
+            ),
+            refl,
+          ),
+        )
+
+    pub measure_keeps_at : (place : ℕ) → place ≡ row_place (k.waiters + k.rows) row
+        → Allows (ShowsWorld k) slots id me place (λ n. n) (measures (step slots place 0 0 none) me)
+    measure_keeps_at place at =
+        subst (λ p. Allows (ShowsWorld k) slots id me p (λ n. n)
+        (measures (step slots p 0 0 none) me)) (sym at)
+        (allowed k slots id me is (row_place (k.waiters + k.rows) row) 0 0 (λ n. n) measures
+        measure_adds)
 
   -- a load that tells how few credits there are
   pub weigh_adds : Advances k slots id me is STOP 0 0 (λ n. n) weighs

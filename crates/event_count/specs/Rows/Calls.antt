@@ -31,8 +31,8 @@ pub record FindsJobs (rows : ℕ) (c : Card) (row : ℕ) (d before : Card) : Typ
   pub known : row < rows
   pub same : IsAfterPasses c before
   pub passed : HasPassed row before
-  pub jobs : d.found ≢ 0
-  pub looked : d ≡ passing before row d.found
+  pub jobs : d.found.word ≢ 0
+  pub looked : d ≡ passing before row d.found.word
 
 -- looks at the stop word and at the rows, up to the first that shows a stop or jobs
 abbrev pub IsPassAll : ℕ → Card → PassAll → Card → Type 0

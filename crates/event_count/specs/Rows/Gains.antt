@@ -2,6 +2,7 @@
 use Rattle.std.specs.Prelude.{ℕ, ◌+◌, ◌-◌, ◌==◌, Bool, true, false, [], ◌∷◌, slice_set}
 use Rattle.event_word.specs.declared.event.Event.TheVariants.{Publish, Take, Pass, PassFlag, Stop}
 use Rattle.event_count.specs.declared.view.Card.{Card}
+use Rattle.event_count.specs.Cards.{found_in, found_at_stop}
 use Rattle.event_count.specs.Gains.{gaining}
 
 -- after a job more in the row, which took a credit: the seat is to notify
@@ -25,7 +26,11 @@ passing_by false c row = c
 
 -- after a load of the row's length: it is passed where it has no jobs
 abbrev pub passing : Card → ℕ → ℕ → Card
-passing c row found = record (passing_by (found == 0) c row) { found = found }
+passing c row found = record (passing_by (found == 0) c row) { found = found_in row found }
+
+-- after a load of the row's length that passes nothing
+abbrev pub measuring : Card → ℕ → ℕ → Card
+measuring c row found = record c { found = found_in row found }
 
 -- the flag is passed, or isn't
 abbrev pub passing_flag_by : Bool → Card → Card
@@ -35,7 +40,8 @@ passing_flag_by false c = c
 
 -- after a load of the stop word: the flag is passed where nobody has stopped
 abbrev pub passing_flag : Card → ℕ → Card
-passing_flag c found = record (passing_flag_by (found == 0) c) { found = found }
+passing_flag c found =
+    record (passing_flag_by (found == 0) c) { found = found_at_stop found }
 
 -- the seat has stopped the count and is to notify, or another had
 abbrev pub stopping_by : Bool → Card → Card
@@ -44,7 +50,7 @@ stopping_by false c = c
 
 -- after an exchange of the stop word: the seat has stopped the count where nobody had
 abbrev pub stopping : Card → ℕ → Card
-stopping c found = record (stopping_by (found == 0) c) { found = found }
+stopping c found = record (stopping_by (found == 0) c) { found = found_at_stop found }
 
 -- after a credit was lent to another seat, or accepted from one
 abbrev pub lending : Card → Card

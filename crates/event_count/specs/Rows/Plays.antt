@@ -9,8 +9,8 @@ use Rattle.event_count.specs.Cards.{holding, only, card_in}
 use Rattle.event_count.specs.Kinds.{has_passed_row}
 use Rattle.event_count.specs.Gains.{foremost}
 use Rattle.event_count.specs.Plays.{Told}
-use Rattle.event_count.specs.Rows.Gains.{publishing, redeeming, passing, passing_flag, stopping}
-use Rattle.event_count.specs.Rows.Gains.{lending, accepting}
+use Rattle.event_count.specs.Rows.Gains.{publishing, redeeming, passing, measuring, passing_flag}
+use Rattle.event_count.specs.Rows.Gains.{stopping, lending, accepting}
 
 -- the step is on the length of this row
 abbrev pub IsOnRow : Card → ℕ → ℕ → Type 0
@@ -33,6 +33,11 @@ abbrev pub passes : Told
 passes step before found after = (row : ℕ) × IsOnRow (card_in before.0) step.word row
     × (after ≡ (only (passing (card_in before.0) row found), before.1))
     × (found ≡ 0 → has_passed_row (passing (card_in before.0) row found) row ≡ true)
+
+-- a look at the length of this row, which passes nothing
+abbrev pub measures : Told
+measures step before found after = (row : ℕ) × IsOnRow (card_in before.0) step.word row
+    × (after ≡ (only (measuring (card_in before.0) row found), before.1))
 
 -- the flag is passed where nobody has stopped
 abbrev pub passes_flag : Told

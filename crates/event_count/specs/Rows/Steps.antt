@@ -11,7 +11,8 @@ use Rattle.event_count.specs.Places.{row_place}
 use Rattle.event_count.specs.Cards.{holding, only, card_in}
 use Rattle.event_count.specs.Plays.{Sat}
 use Rattle.event_count.specs.Steps.{AddsWith, AddsEvents, Loads}
-use Rattle.event_count.specs.Rows.Plays.{publishes, redeems, passes, passes_flag, stops}
+use Rattle.event_count.specs.Rows.Plays.{publishes, redeems, passes, measures, passes_flag, stops}
+use Rattle.event_count.specs.Rows.Plays.{weighs}
 
 -- each step on a row or on the stop word of a seat whose card is c, where it may be taken
 pub record RowStepsOf (k : RowSizes) (slots : ℕ) (me : Sat) (c : Card) : Type 0 where
@@ -21,7 +22,10 @@ pub record RowStepsOf (k : RowSizes) (slots : ℕ) (me : Sat) (c : Card) : Type 
       (λ n. (n + 1) % 2 ^ 64) publishes
   pub pass : (row : ℕ) → row < k.rows → c.phase ≡ Pre
       → Loads k slots me (row_place (k.waiters + k.rows) row) passes
+  pub measure : (row : ℕ) → row < k.rows
+      → Loads k slots me (row_place (k.waiters + k.rows) row) measures
   pub pass_flag : c.phase ≡ Pre → Loads k slots me STOP passes_flag
+  pub weigh : Loads k slots me STOP weighs
   pub stop : 0 < k.rows → c.phase ≡ Running → c.owing ≡ [] → c.announcing ≡ false
       → AddsEvents k slots me (step slots STOP 0 1 none) (λ n. either (n == 0) 1 n) stops
 

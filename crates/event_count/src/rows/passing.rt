@@ -4,7 +4,7 @@ ghost use Rattle.event_word.specs.declared.phase.Phase.TheVariants.{Running, Pre
 
 use crate::answers::PassAll;
 use crate::row_count::RowCount;
-use crate::rows::plays::{Passes, PassesFlag, Stops};
+use crate::rows::plays::{Measures, Passes, PassesFlag, Stops};
 use crate::rule::{STOP, row_word_of};
 use crate::seat::Seat;
 use std::alloc::Allocator;
@@ -12,9 +12,25 @@ use std::alloc::Allocator;
 impl<A: Allocator> RowCount<A> {
     ghost use Rattle.event_count.specs.Seats.{card_of, looked_of};
     ghost use Rattle.event_count.specs.Kinds.{has_passed_row};
-    ghost use Rattle.event_count.specs.Rows.Gains.{passing};
+    ghost use Rattle.event_count.specs.Rows.Gains.{passing, measuring};
     ghost use Rattle.event_count.specs.Rows.Seats.{row_sizes_of, IsSeatAt};
     ghost use Rattle.event_count.specs.Rows.Calls.{IsPassFlag, IsStop, IsAfterPasses, IsPassAll};
+
+    /// How many jobs the row has, by a look that passes nothing: who waits passes the row.
+    pub fn length(&self, seat: &mut Seat, row: u16) -> u64
+        requires of { IsSeatAt self.now seat.old }
+        requires row { row < (row_sizes_of self.now).rows }
+        ensures of { IsSeatAt self.now seat.new }
+        ensures used { looked_of seat.new ≡ None }
+        ensures card { card_of seat.new ≡ measuring (card_of seat.old) row result }
+    {
+        let word = row_word_of(self.lines(), row);
+        seat.looked = None;
+        self.counter
+            .table
+            .shared
+            .load::<Measures>(&mut seat.seat, word)
+    }
 
     /// How many jobs a pre-waiter finds in the row. Where there are none, it has passed the row.
     pub fn pass(&self, seat: &mut Seat, row: u16) -> u64

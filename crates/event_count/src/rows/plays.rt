@@ -47,6 +47,15 @@ impl Play<(), View> for Stops {
     ghost then = { stops };
 }
 
+/// A row's length is looked at, and nothing is passed.
+pub struct Measures;
+
+impl Play<(), View> for Measures {
+    ghost use Rattle.event_count.specs.Rows.Plays.{measures};
+
+    ghost then = { measures };
+}
+
 /// Nothing changes.
 pub struct Weighs;
 

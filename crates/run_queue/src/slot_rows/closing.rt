@@ -8,20 +8,23 @@ ghost use Rattle.run_queue.specs.Bag.{total};
 ghost use Rattle.run_queue.specs.Elements.{weight};
 ghost use Rattle.run_queue.specs.Views.{nothing};
 ghost use Rattle.run_queue.specs.SlotSeats.{rows_id, seat_count_of, table_of, puts_of, takes_of};
+ghost use Rattle.run_queue.specs.SlotSeats.{elements_of};
 
 use crate::slot_rows::SlotRows;
+use crate::slot_rows::contents::Contents;
 use crate::slot_rows::plays::Enters;
-use crate::slot_rows::rule::{Law, TakesIn};
+use crate::slot_rows::rule::{Law, RowsKey, TakesIn};
 use crate::slot_rows::seat::SlotSeat;
 use crate::slot_rows::view::View;
 use atomic_table::{Closed, Seat, Shared};
 use std::alloc::Allocator;
 
-impl<J: Drop, A: Allocator> SlotRows<J, A> {
+impl<J: Drop, A: Allocator, F: Contents<J>> SlotRows<J, A, F> {
     /// Ends the rows, given all their seats, and hands out the jobs that are left, in any order.
     pub fn close(self, mut seats: Vec<SlotSeat<J>, A>) -> Vec<J, A>
         requires ours { All (λ s. table_of s ≡ rows_id self) seats.items }
         requires all { length seats.items ≡ seat_count_of self }
+        ensures few { vec_len result ≤ elements_of self }
         ensures account { AccountsFor puts_of takes_of seats.items result.items }
     {
         self.close_with(&mut seats)
@@ -31,6 +34,7 @@ impl<J: Drop, A: Allocator> SlotRows<J, A> {
     pub(crate) fn close_with(self, seats: &mut Vec<SlotSeat<J>, A>) -> Vec<J, A>
         requires ours { All (λ s. table_of s ≡ rows_id self) seats.old.items }
         requires all { length seats.old.items ≡ seat_count_of self }
+        ensures few { vec_len result ≤ elements_of self }
         ensures account { AccountsFor puts_of takes_of seats.old.items result.items }
     {
         let SlotRows { table, left, .. } = self;
@@ -43,8 +47,8 @@ impl<J: Drop, A: Allocator> SlotRows<J, A> {
 }
 
 // A seat with no account takes in the seats, the last first.
-fn gather<J, A: Allocator>(
-    shared: &Shared<Option<J>, View<J>, u32, Law<J>>,
+fn gather<J, A: Allocator, F: Contents<J>>(
+    shared: &Shared<Option<J>, View<J>, RowsKey<F::Key>, Law<J, F>>,
     last: &mut Seat<Option<J>, View<J>>,
     seats: &mut Vec<SlotSeat<J>, A>,
 )
@@ -83,6 +87,7 @@ fn keep<J, A: Allocator>(left: &mut Vec<J, A>, slot: Option<J>)
 fn drain<J, A: Allocator>(mut closed: Closed<Option<J>, A>, left: &mut Vec<J, A>)
     requires full { IsFull closed.slots }
     requires room { vec_len left.old + slots_len closed.slots ≤ vec_capacity left.old }
+    ensures few { vec_len left.new ≤ vec_len left.old + slots_len closed.slots }
     ensures jobs { (h : J → ℕ) → total h left.new.items
         ≡ total h left.old.items + total (weight h) (slots_items closed.slots) }
 {

@@ -1,6 +1,6 @@
 //! The four ends of rows of slots, and their lengths. A call at an end makes one claim.
 ghost use Rattle.std.specs.Prelude.{◌≡◌, ◌≢◌, ◌↔◌, ◌<◌, ◌≤◌, ◌+◌, ◌++◌, option_to_list};
-ghost use Rattle.std.specs.Prelude.{IfErr, IsErr, IsNone, OnOk, OnErr, OnSome, IfNone};
+ghost use Rattle.std.specs.Prelude.{IfErr, IsErr, IsNone, OnOk, OnErr, OnSome, IfSome, IfNone};
 ghost use Rattle.run_queue.specs.Account.{AddsIfOk};
 ghost use Rattle.run_queue.specs.Elements.{empty_word, ready_word};
 ghost use Rattle.run_queue.specs.Limits.{most_jobs};
@@ -8,22 +8,24 @@ ghost use Rattle.run_queue.specs.Positions.{position_after, position_before, ele
 ghost use Rattle.run_queue.specs.Positions.{row_with};
 ghost use Rattle.run_queue.specs.SlotSeats.{rows_id, row_count_of, seat_count_of, table_of};
 ghost use Rattle.run_queue.specs.SlotSeats.{number_in, puts_of, takes_of, front_of, claims_of};
-ghost use Rattle.run_queue.specs.SlotSeats.{claim_of, ClaimedOnce, looks_of, LookedOnce};
+ghost use Rattle.run_queue.specs.SlotSeats.{claim_of, ClaimedOnce, looks_of, LookedOnce, of_key};
 
 use crate::deque::ROW_JOBS;
 use crate::slot_rows::SlotRows;
+use crate::slot_rows::contents::{AnyJob, Contents};
 use crate::slot_rows::plays::{MovesDown, MovesUp, Stays};
 use crate::slot_rows::seat::SlotSeat;
 use std::alloc::Allocator;
 use std::marker::Brand;
 use std::sync::Wait;
 
-impl<J, A: Allocator> SlotRows<J, A> {
+impl<J, A: Allocator, F: Contents<J>> SlotRows<J, A, F> {
     /// Puts a job in at the front of the seat's own row, or gives it back where the element there
     /// is not empty.
     pub fn push_front(&self, seat: &mut SlotSeat<J>, job: J) -> Result<(), J>
         requires ours { table_of seat.old ≡ rows_id self.now }
         requires owner { number_in seat.old < row_count_of self.now }
+        requires fits { F.fits (of_key self.now) (number_in seat.old) job }
         ensures ours { table_of seat.new ≡ table_of seat.old }
         ensures number { number_in seat.new ≡ number_in seat.old }
         ensures returned { IfErr result (λ back. back ≡ job) }
@@ -51,6 +53,7 @@ impl<J, A: Allocator> SlotRows<J, A> {
         requires owner { number_in seat.old < row_count_of self.now }
         ensures ours { table_of seat.new ≡ table_of seat.old }
         ensures number { number_in seat.new ≡ number_in seat.old }
+        ensures fits { IfSome result (F.fits (of_key self.now) (number_in seat.old)) }
         ensures puts { puts_of seat.new ≡ puts_of seat.old }
         ensures takes { takes_of seat.new ≡ takes_of seat.old ++ option_to_list result }
         ensures claim { ClaimedOnce seat.old seat.new ready_word }
@@ -63,7 +66,7 @@ impl<J, A: Allocator> SlotRows<J, A> {
     {
         let before = (seat.front + ROW_JOBS - 1) % ROW_JOBS;
         let element = self.element(seat.number as usize, before);
-        let popped = self.pop_at::<MovesDown>(&mut seat.held, element);
+        let popped = self.pop_at::<MovesDown, Brand>(&mut seat.held, element);
         if popped.is_some() {
             seat.front = before;
         }
@@ -81,6 +84,7 @@ impl<J, A: Allocator> SlotRows<J, A> {
     ) -> Result<(), J>
         requires ours { table_of seat.old ≡ rows_id self.now }
         requires row { row < row_count_of self.now }
+        requires fits { F.fits (of_key self.now) row job }
         ensures ours { table_of seat.new ≡ table_of seat.old }
         ensures number { number_in seat.new ≡ number_in seat.old }
         ensures returned { IfErr result (λ back. back ≡ job) }
@@ -108,6 +112,7 @@ impl<J, A: Allocator> SlotRows<J, A> {
         requires row { row < row_count_of self.now }
         ensures ours { table_of seat.new ≡ table_of seat.old }
         ensures number { number_in seat.new ≡ number_in seat.old }
+        ensures fits { IfSome result (F.fits (of_key self.now) row) }
         ensures puts { puts_of seat.new ≡ puts_of seat.old }
         ensures takes { takes_of seat.new ≡ takes_of seat.old ++ option_to_list result }
         ensures claim { ClaimedOnce seat.old seat.new ready_word }
@@ -119,13 +124,15 @@ impl<J, A: Allocator> SlotRows<J, A> {
         let mut back = self.backs[usize::from(row)].lock(rt);
         let at = back.at;
         let element = self.element(usize::from(row), at);
-        let popped = self.pop_at::<Stays>(&mut seat.held, element);
+        let popped = self.pop_at::<Stays, Brand>(&mut seat.held, element);
         if popped.is_some() {
             back.at = (at + 1) % ROW_JOBS;
         }
         popped
     }
+}
 
+impl<J, A: Allocator> SlotRows<J, A, AnyJob> {
     /// How many jobs are in a row. Jobs that are on their way in or out may be counted too, one for
     /// each seat.
     pub fn length(&self, seat: &mut SlotSeat<J>, row: u16) -> u64

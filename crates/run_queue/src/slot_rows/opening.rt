@@ -7,13 +7,14 @@ ghost use Rattle.run_queue.specs.Elements.{empty_word};
 ghost use Rattle.run_queue.specs.Lengths.{length_word};
 ghost use Rattle.run_queue.specs.Views.{fresh};
 ghost use Rattle.run_queue.specs.SlotSeats.{rows_id, row_count_of, seat_count_of, table_of};
-ghost use Rattle.run_queue.specs.SlotSeats.{number_in, puts_of, takes_of, front_of};
+ghost use Rattle.run_queue.specs.SlotSeats.{number_in, puts_of, takes_of, front_of, of_key};
 
 use crate::deque::ROW_JOBS;
 use crate::room::room_for;
 use crate::rows::{MOST_ROWS, RowsFault};
+use crate::slot_rows::contents::{AnyJob, Contents};
 use crate::slot_rows::reserve::Reserve;
-use crate::slot_rows::rule::{Deals, EMPTY, LINE_WORDS, Law};
+use crate::slot_rows::rule::{Deals, EMPTY, LINE_WORDS, Law, RowsKey};
 use crate::slot_rows::seat::{Held, SlotSeat};
 use crate::slot_rows::view::View;
 use crate::slot_rows::{Back, SlotRows};
@@ -21,7 +22,7 @@ use atomic_table::{Seat, Shared, Table};
 use std::alloc::{AllocError, Allocator};
 use std::sync::Mutex;
 
-impl<J: Drop, A: Allocator + Clone> SlotRows<J, A> {
+impl<J: Drop, A: Allocator + Clone> SlotRows<J, A, AnyJob> {
     /// Empty rows and their seats, by number. This takes the memory of `close` too.
     pub fn open(
         alloc: A,
@@ -38,12 +39,39 @@ impl<J: Drop, A: Allocator + Clone> SlotRows<J, A> {
             All (λ s. (puts_of s ≡ []) × (takes_of s ≡ [])) r.1.items) }
         ensures fronts { IfOk result (λ r. All (λ s. front_of s ≡ 0) r.1.items) }
     {
+        SlotRows::<J, A, AnyJob>::open_for(alloc, rows, outsiders, ())
+    }
+}
+
+impl<J: Drop, A: Allocator + Clone, F: Contents<J>> SlotRows<J, A, F> {
+    /// The same, for jobs of which something is known.
+    pub fn open_for(
+        alloc: A,
+        rows: u16,
+        outsiders: u16,
+        key: F::Key,
+    ) -> Result<(Self, Vec<SlotSeat<J>, A>), RowsFault>
+        ensures too_many { IsErrOf result RowsFault.TooManyRows ↔ (most_rows < rows) }
+        ensures rows { IfOk result (λ r. row_count_of r.0 ≡ rows) }
+        ensures seats { IfOk result (λ r. seat_count_of r.0 ≡ rows + outsiders) }
+        ensures key { IfOk result (λ r. of_key r.0 ≡ key) }
+        ensures numbers { IfOk result (λ r.
+            map number_in r.1.items ≡ range_with_len 0 (rows + outsiders)) }
+        ensures ours { IfOk result (λ r. All (λ s. table_of s ≡ rows_id r.0) r.1.items) }
+        ensures accounts { IfOk result (λ r.
+            All (λ s. (puts_of s ≡ []) × (takes_of s ≡ [])) r.1.items) }
+        ensures fronts { IfOk result (λ r. All (λ s. front_of s ≡ 0) r.1.items) }
+    {
         if rows > MOST_ROWS {
             return Err(RowsFault::TooManyRows);
         }
         let backs = backs(&alloc, rows)?;
         let left = Reserve::new(&alloc, usize::from(rows) * ROW_JOBS)?;
-        let (table, seats) = seated(alloc, rows, u32::from(rows) + u32::from(outsiders))?;
+        let key = RowsKey {
+            seats: u32::from(rows) + u32::from(outsiders),
+            of: key,
+        };
+        let (table, seats) = seated(alloc, rows, &key)?;
         Ok((
             SlotRows {
                 rows,
@@ -57,23 +85,25 @@ impl<J: Drop, A: Allocator + Clone> SlotRows<J, A> {
 }
 
 // A table for so many rows with nothing in them, and its seats.
-fn seated<J: Drop, A: Allocator + Clone>(
+fn seated<J: Drop, A: Allocator + Clone, F: Contents<J>>(
     alloc: A,
     rows: u16,
-    seats: u32,
+    key: &RowsKey<F::Key>,
 ) -> Result<
     (
-        Table<Option<J>, View<J>, u32, Law<J>, A>,
+        Table<Option<J>, View<J>, RowsKey<F::Key>, Law<J, F>, A>,
         Vec<SlotSeat<J>, A>,
     ),
     AllocError,
 >
     requires few { rows ≤ most_rows }
+    requires few_seats { key.now.seats ≤ 131070 }
     ensures words { IfOk result (λ r.
         length_word (rows * most_jobs) rows < r.0.shared.table_id.words) }
     ensures slots { IfOk result (λ r. r.0.shared.table_id.slots ≡ rows * most_jobs) }
-    ensures seats { IfOk result (λ r. r.0.shared.key ≡ seats) }
-    ensures numbers { IfOk result (λ r. map number_in r.1.items ≡ range_with_len 0 seats) }
+    ensures key { IfOk result (λ r. r.0.shared.key ≡ key.now) }
+    ensures numbers { IfOk result (λ r.
+        map number_in r.1.items ≡ range_with_len 0 key.now.seats) }
     ensures ours { IfOk result (λ r. All (λ s. table_of s ≡ r.0.shared.table_id) r.1.items) }
     ensures accounts { IfOk result (λ r.
         All (λ s. (puts_of s ≡ []) × (takes_of s ≡ [])) r.1.items) }
@@ -83,9 +113,9 @@ fn seated<J: Drop, A: Allocator + Clone>(
     // A line behind the last length is the table's too, and so a table of no rows has words.
     let word_count = count + LINE_WORDS * (usize::from(rows) + 1) + 1;
     let words = empty_words(&alloc, word_count)?;
-    let list = room_for(&alloc, seats as usize)?;
-    let (table, keeper) = Table::vacant(alloc, words.as_slice(), count, &seats)?;
-    let list = deal(&table.shared, keeper, seats, list);
+    let list = room_for(&alloc, key.seats as usize)?;
+    let (table, keeper) = Table::vacant(alloc, words.as_slice(), count, key)?;
+    let list = deal(&table.shared, keeper, key.seats, list);
     Ok((table, list))
 }
 
@@ -110,8 +140,8 @@ fn backs<A: Allocator + Clone>(alloc: &A, count: u16) -> Result<Vec<Mutex<Back>,
 }
 
 // One seat after another, by number.
-fn deal<J, A: Allocator>(
-    shared: &Shared<Option<J>, View<J>, u32, Law<J>>,
+fn deal<J, A: Allocator, F: Contents<J>>(
+    shared: &Shared<Option<J>, View<J>, RowsKey<F::Key>, Law<J, F>>,
     mut keeper: Seat<Option<J>, View<J>>,
     count: u32,
     mut seats: Vec<SlotSeat<J>, A>,

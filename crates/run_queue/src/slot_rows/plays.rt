@@ -1,6 +1,7 @@
 //! What the steps on an element's word tell.
 ghost use Rattle.std.specs.Prelude.{Option, ℕ};
 
+use crate::slot_rows::contents::{Contents, Known};
 use crate::slot_rows::view::View;
 use atomic_table::Play;
 use std::marker::{Brand, PhantomData};
@@ -65,14 +66,14 @@ impl<J> Play<Option<J>, View<J>> for MakesReady {
 }
 
 /// A ready element is claimed.
-pub struct ClaimsOut<M> {
-    of: PhantomData<M>,
+pub struct ClaimsOut<M, F, C> {
+    of: PhantomData<(M, F, C)>,
 }
 
-impl<J, M: Shift> Play<Option<J>, View<J>> for ClaimsOut<M> {
+impl<J, M: Shift, F: Contents<J>, C: Known<J>> Play<Option<J>, View<J>> for ClaimsOut<M, F, C> {
     ghost use Rattle.run_queue.specs.Plays.{claims_out};
 
-    ghost then = { claims_out M.shift };
+    ghost then = { claims_out C.known F.counted M.shift };
 }
 
 /// A busy element is made empty.

@@ -39,7 +39,7 @@ impl<J, A: Allocator> Model for Reserve<J, A> {
 
 impl<J: Drop, A: Allocator> Reserve<J, A> {
     /// Room for so many elements.
-    pub(crate) fn new(alloc: &A, room: usize) -> Result<Self, AllocError>
+    pub fn new(alloc: &A, room: usize) -> Result<Self, AllocError>
     where
         A: Clone,
         ensures { IfOk result (λ reserve. reserve ≡ room) }
@@ -54,7 +54,7 @@ impl<J: Drop, A: Allocator> Reserve<J, A> {
     }
 
     /// The list, in which there is nothing yet.
-    pub(crate) fn into_list(self) -> Vec<J, A>
+    pub fn into_list(self) -> Vec<J, A>
         ensures none { result.items ≡ [] }
         ensures room { self ≤ vec_capacity result }
     {

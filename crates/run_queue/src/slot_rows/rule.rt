@@ -1,6 +1,7 @@
 //! The rule of a table of rows, and how its views are cut and put together.
 ghost use Rattle.std.specs.Prelude.{Option};
 
+use crate::slot_rows::contents::{AnyJob, Contents};
 use crate::slot_rows::view::View;
 use atomic_table::{Join, Split, TableRule};
 use std::marker::PhantomData;
@@ -17,18 +18,25 @@ pub const READY: u64 = 2;
 /// The words of a cache line: each length has a line of its own.
 pub const LINE_WORDS: usize = 8;
 
-/// In every state the table keeps the account of its rows.
-pub struct Law<J> {
-    of: PhantomData<J>,
+/// How many seats were made with rows, and what is told of the jobs in them.
+#[derive(Drop)]
+pub struct RowsKey<K> {
+    pub seats: u32,
+    pub of: K,
 }
 
-impl<J> TableRule<Option<J>, View<J>, u32> for Law<J> {
+/// In every state the table keeps the account of its rows, and each job that lies in a row fits it.
+pub struct Law<J, F = AnyJob> {
+    of: PhantomData<(J, F)>,
+}
+
+impl<J, F: Contents<J>> TableRule<Option<J>, View<J>, RowsKey<F::Key>> for Law<J, F> {
     ghost use Rattle.run_queue.specs.RowTable.{KeepsAccount};
     ghost use Rattle.run_queue.specs.Views.{fresh};
 
-    ghost holds = { λ seats s. KeepsAccount seats s };
+    ghost holds = { λ key s. KeepsAccount (F.fits key.of) F.counted key.seats s };
 
-    ghost first = { λ seats. fresh seats };
+    ghost first = { λ key. fresh key.seats };
 }
 
 /// One seat's account is cut off.

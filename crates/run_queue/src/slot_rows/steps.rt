@@ -1,17 +1,18 @@
 //! What is done to one element, and to the length of its row.
-ghost use Rattle.std.specs.Prelude.{◌≡◌, ◌<◌, ◌≤◌, ◌+◌, ◌++◌, option_to_list, Some, None};
-ghost use Rattle.std.specs.Prelude.{IfErr, OnOk, OnErr, OnSome, IfNone};
+ghost use Rattle.std.specs.Prelude.{◌≡◌, ℕ, ◌<◌, ◌≤◌, ◌+◌, ◌++◌, option_to_list, Some, None, true};
+ghost use Rattle.std.specs.Prelude.{IfErr, OnOk, OnErr, OnSome, IfSome, IfNone};
 ghost use Rattle.run_queue.specs.Account.{AddsIfOk};
 ghost use Rattle.run_queue.specs.Elements.{empty_word, ready_word};
 ghost use Rattle.run_queue.specs.Lengths.{length_word};
 ghost use Rattle.run_queue.specs.Limits.{most_jobs};
-ghost use Rattle.run_queue.specs.Positions.{element_at};
-ghost use Rattle.run_queue.specs.Views.{Hit, Missed, looked_at, owing};
+ghost use Rattle.run_queue.specs.Positions.{element_at, row_with};
+ghost use Rattle.run_queue.specs.Views.{Hit, Missed, looked_at, owing, owed_where};
 ghost use Rattle.run_queue.specs.SlotSeats.{elements_of, row_count_of, seat_count_of, rows_id};
-ghost use Rattle.run_queue.specs.SlotSeats.{held_id, puts_in, takes_in, notes_in};
+ghost use Rattle.run_queue.specs.SlotSeats.{of_key, held_id, puts_in, takes_in, notes_in};
 
 use crate::deque::ROW_JOBS;
 use crate::slot_rows::SlotRows;
+use crate::slot_rows::contents::{Contents, Known};
 use crate::slot_rows::plays::{
     ClaimsIn, ClaimsOut, Looks, Lowers, MakesEmpty, MakesReady, Raises, SeatCount, Shift,
 };
@@ -21,7 +22,7 @@ use crate::slot_rows::view::View;
 use atomic_table::Seat;
 use std::alloc::Allocator;
 
-impl<J, A: Allocator> SlotRows<J, A> {
+impl<J, A: Allocator, F: Contents<J>> SlotRows<J, A, F> {
     // The word with the length of a row.
     pub(crate) fn length_word(&self, row: usize) -> usize
         requires row { row < row_count_of self.now }
@@ -40,7 +41,7 @@ impl<J, A: Allocator> SlotRows<J, A> {
         row * ROW_JOBS + position
     }
 
-    // Raises the length of the row of an element on which the seat works.
+    // Raises the length of the row of an element on which the seat works, where rows have lengths.
     fn raise(&self, seat: &mut Seat<Option<J>, View<J>>, element: usize)
         requires of { seat.old.table_id ≡ rows_id self.now }
         requires near { element < elements_of self.now }
@@ -48,30 +49,38 @@ impl<J, A: Allocator> SlotRows<J, A> {
         requires works { seat.old.me.0.busy ≡ Some element }
         requires none_owed { seat.old.me.0.owes ≡ None }
         ensures of { seat.new.table_id ≡ seat.old.table_id }
-        ensures owes { seat.new.me.0 ≡ owing seat.old.me.0 (Some element) }
+        ensures owes { seat.new.me.0 ≡ owing seat.old.me.0 (owed_where F.counted element) }
         ensures held { seat.new.me.1 ≡ seat.old.me.1 }
     {
+        if !F::have_lengths() {
+            return;
+        }
         let word = self.length_word(element / ROW_JOBS);
         self.table.shared.fetch_add::<Raises>(seat, word, 1);
     }
 
-    // Lowers the length of the row of an element that the seat took a job out of and gave back.
+    // Lowers the length of the row of an element that the seat took a job out of and gave back,
+    // where rows have lengths.
     fn lower(&self, seat: &mut Seat<Option<J>, View<J>>, element: usize)
         requires of { seat.old.table_id ≡ rows_id self.now }
         requires near { element < elements_of self.now }
         requires one_part { seat.old.me.0.parts ≡ 1 }
         requires given_back { seat.old.me.0.busy ≡ None }
-        requires owed { seat.old.me.0.owes ≡ Some element }
+        requires owed { seat.old.me.0.owes ≡ owed_where F.counted element }
         ensures of { seat.new.table_id ≡ seat.old.table_id }
         ensures none_owed { seat.new.me.0 ≡ owing seat.old.me.0 None }
         ensures held { seat.new.me.1 ≡ seat.old.me.1 }
     {
+        if !F::have_lengths() {
+            return;
+        }
         let word = self.length_word(element / ROW_JOBS);
         self.table.shared.fetch_sub::<Lowers>(seat, word, 1);
     }
 
     // Loads the length of a row.
     pub(crate) fn look_at<C: SeatCount>(&self, held: &mut Held<J>, row: usize) -> u64
+        requires counted { F.counted ≡ true }
         requires of { held_id held.old ≡ rows_id self.now }
         requires row { row < row_count_of self.now }
         requires seats { C.seats ≡ seat_count_of self.now }
@@ -95,6 +104,7 @@ impl<J, A: Allocator> SlotRows<J, A> {
     ) -> Result<(), J>
         requires of { held_id held.old ≡ rows_id self.now }
         requires near { element < elements_of self.now }
+        requires fits { F.fits (of_key self.now) (row_with element) job }
         ensures of { held_id held.new ≡ held_id held.old }
         ensures returned { IfErr result (λ back. back ≡ job) }
         ensures puts { AddsIfOk result job (puts_in held.old) (puts_in held.new) }
@@ -118,10 +128,19 @@ impl<J, A: Allocator> SlotRows<J, A> {
 
     // Takes the job of an element, where that is ready. The length is lowered after the element
     // was made empty.
-    pub(crate) fn pop_at<M: Shift>(&self, held: &mut Held<J>, element: usize) -> Option<J>
+    pub(crate) fn pop_at<M: Shift, C: Known<J>>(
+        &self,
+        held: &mut Held<J>,
+        element: usize,
+    ) -> Option<J>
         requires of { held_id held.old ≡ rows_id self.now }
         requires near { element < elements_of self.now }
+        requires known { (row : ℕ) → (job : J)
+            → F.fits (of_key self.now) row job → C.known row job }
+        requires fits { (row : ℕ) → (job : J)
+            → C.known row job → F.fits (of_key self.now) row job }
         ensures of { held_id held.new ≡ held_id held.old }
+        ensures fits { IfSome result (F.fits (of_key self.now) (row_with element)) }
         ensures puts { puts_in held.new ≡ puts_in held.old }
         ensures takes { takes_in held.new ≡ takes_in held.old ++ option_to_list result }
         ensures hit { OnSome result
@@ -131,7 +150,7 @@ impl<J, A: Allocator> SlotRows<J, A> {
     {
         let shared = &self.table.shared;
         let seat = &mut held.seat;
-        if shared.compare_exchange::<ClaimsOut<M>>(seat, element, READY, BUSY) != READY {
+        if shared.compare_exchange::<ClaimsOut<M, F, C>>(seat, element, READY, BUSY) != READY {
             return None;
         }
         let job = shared.exchange(seat, element, None);

@@ -12,13 +12,16 @@ use std::sync::Wait;
 /// How many rows there are at most.
 const ROWS: usize = MOST_ROWS as usize;
 
-/// Which rows a worker has found empty since it entered, and whether it has found the pool open.
+/// Which rows a worker has found empty since it entered and last looked at the stop word, and what
+/// it found there.
 #[derive(Drop)]
 pub(crate) struct Seen {
     /// Of each row, whether the last look at it found no job.
     rows: [bool; ROWS],
     /// Whether the last look at the stop word found that the pool is open.
     flag: bool,
+    /// Whether it found that the pool is closing or cancelled.
+    stopped: bool,
 }
 
 impl Seen {
@@ -29,6 +32,7 @@ impl Seen {
         Seen {
             rows: [false; ROWS],
             flag: false,
+            stopped: false,
         }
     }
 
@@ -55,18 +59,24 @@ impl Seen {
         length
     }
 
-    /// Looks at the stop word, passes it where the pool is open, and answers whether it isn't.
+    /// Looks at the stop word, passes it where the pool is open, and answers whether it isn't. From
+    /// here on it has yet to look at the rows.
     pub(crate) fn look_at_stop<J>(&mut self, stop: &StopWord<J>, seat: &mut StopSeat<J>) -> bool
         requires { IsStopSeatOf stop.now seat.old }
-        ensures seen { self.new ≡ after_stop_look self.old (found_of seat.new) }
+        ensures seen { self.new ≡ after_stop_look (found_of seat.new) }
         ensures flag { self.new.flag ≡ not result }
+        ensures stopped { self.new.stopped ≡ result }
         ensures of { IsStopSeatOf stop.now seat.new }
         ensures same { jobs_of seat.new ≡ jobs_of seat.old }
         ensures stored { stored_of seat.new ≡ stored_of seat.old }
         ensures set { IsTrue result ↔ (found_of seat.new ≢ open_word) }
     {
         let is_set = stop::is_set(stop, seat);
-        self.flag = !is_set;
+        *self = Seen {
+            rows: [false; ROWS],
+            flag: !is_set,
+            stopped: is_set,
+        };
         is_set
     }
 }

@@ -54,6 +54,7 @@ impl Seen {
         ensures takes { R.keeps_accounts → R.takes_of seat.new ≡ R.takes_of seat.old }
         ensures passed { IsNone result → All (λ row. has_passed self.new row ≡ true) walk }
         ensures flag { self.new.flag ≡ self.old.flag }
+        ensures stopped { self.new.stopped ≡ self.old.stopped }
     {
         let mut first = None;
         for row in walk {

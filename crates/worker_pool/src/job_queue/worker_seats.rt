@@ -143,8 +143,9 @@ impl<J, A: Allocator, W: WaitPoint<A>, R: Rows<J, A>> WorkerSeats<J, A, W, R> {
     /// Whether the pool is closing or cancelled.
     pub(crate) fn look_at_stop(&mut self, stop: &StopWord<J>, seat: &mut StopSeat<J>) -> bool
         requires { IsStopSeatOf stop.now seat.old }
-        ensures seen { self.new.seen ≡ after_stop_look self.old.seen (found_of seat.new) }
+        ensures seen { self.new.seen ≡ after_stop_look (found_of seat.new) }
         ensures flag { self.new.seen.flag ≡ not result }
+        ensures stopped { self.new.seen.stopped ≡ result }
         ensures row { self.new.row ≡ self.old.row }
         ensures waker { self.new.waker ≡ self.old.waker }
         ensures announcing { self.new.announcing ≡ self.old.announcing }
@@ -171,6 +172,7 @@ impl<J, A: Allocator, W: WaitPoint<A>, R: Rows<J, A>> WorkerSeats<J, A, W, R> {
         ensures passed { IsNone result
             → HasPassedRows (R.row_count queue.now.rows) self.new.seen }
         ensures flag { self.new.seen.flag ≡ self.old.seen.flag }
+        ensures stopped { self.new.seen.stopped ≡ self.old.seen.stopped }
         ensures puts { R.keeps_accounts → R.puts_of self.new.row ≡ R.puts_of self.old.row }
         ensures takes { R.keeps_accounts → R.takes_of self.new.row ≡ R.takes_of self.old.row }
     {
@@ -194,6 +196,7 @@ impl<J, A: Allocator, W: WaitPoint<A>, R: Rows<J, A>> WorkerSeats<J, A, W, R> {
         requires entered { HasEntered R.Rows W.WaitPoint queue.now self.old.row self.old.waker }
         ensures seats { IsOwner R.Rows W.WaitPoint queue.now self.new.row self.new.waker }
         ensures announcing { self.new.announcing ≡ self.old.announcing }
+        ensures seen { self.new.seen ≡ self.old.seen }
         ensures row { self.new.row ≡ self.old.row }
     {
         queue.point.leave(rt, &mut self.waker);

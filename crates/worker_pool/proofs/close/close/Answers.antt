@@ -4,7 +4,7 @@ use Rattle.std.specs.List.{flat_map}
 use Rattle.event_word.specs.declared.phase.Phase.TheVariants.{Running}
 use Rattle.worker_pool.specs.Seats.{IsIdle}
 use Rattle.worker_pool.specs.Laws.{law_of}
-use Rattle.worker_pool.proofs.Closings.{account-closed, flat_map-snoc}
+use Rattle.worker_pool.proofs.Closings.{account-closed, flat_map-snoc, handed-back}
 use Rattle.worker_pool.proofs.Growing.{All-snoc, length-snoc}
 use Rattle.worker_pool.proofs.close.close.Goals as goal
 
@@ -70,3 +70,17 @@ returns-clause-account g c = λ roots start.
     (flat_map-snoc (λ list. list.items) _ _ _ c.push_reserved-3.ensures.items
     ∙ ap (λ outs. flat_map (λ list. list.items) lists ++ outs) c.into_vec.ensures)
     refl (search rules)
+
+pub returns-clause-handed_back : goal.returns-clause-handed_back
+returns-clause-handed_back g c = λ cancelled.
+    let home = c.gather-rows.ensures.home c.args.pool c.args.ctx.now c.requires.at_work in
+    let lists = c.gather-rows.result.lists.items in
+    let same_outs = c.settle-refused.ensures.same_outs cancelled in
+    handed-back g.R.Rows.keeps_accounts (law_of g.J.Job c.args.ctx.now) g.R.Rows.puts_of
+    g.R.Rows.takes_of c.end-left.result.items c.gather-rows.result.rows.items
+    c.args.opener.seats.row c.push_reserved.new.self.items _ _ _ _ _ _ _ _ home.account
+    c.requires.took_none c.push_reserved.ensures.items c.end-left.ensures.account
+    (c.settle-refused.ensures.kept cancelled)
+    (flat_map-snoc (λ list. list.items) _ _ _ c.push_reserved-3.ensures.items
+    ∙ ap (λ outs. flat_map (λ list. list.items) lists ++ outs) (c.into_vec.ensures ∙ same_outs))
+    (c.settle-refused.ensures.same cancelled) (search rules)

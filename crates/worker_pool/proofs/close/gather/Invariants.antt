@@ -5,14 +5,15 @@ use Rattle.worker_pool.specs.Works.{IsAtWork}
 use Rattle.worker_pool.proofs.close.gather.Given as goal
 
 -- those that are left are at work, and there is room for them and one more
-abbrev pub invariant-loop-state : goal.invariant-loop-state
-invariant-loop-state g l = record {
-  can : (goal.iterator-loop-state g).can_next l.state-iterator;
-  finite : (goal.iterator-loop-state g).is_finite l.state-iterator;
-  many : count_of l.gathered + length (into_iter_items l.state-iterator) ≡ length l.fn.states.items;
-  room : HasRoom (length (into_iter_items l.state-iterator) + 1) l.gathered;
+abbrev pub invariant-loop-home : goal.invariant-loop-home
+invariant-loop-home g l = record {
+  can : (goal.iterator-loop-home g).can_next l.home-iterator;
+  finite : (goal.iterator-loop-home g).is_finite l.home-iterator;
+  many : count_of l.gathered + length (into_iter_items l.home-iterator) ≡ length l.fn.homes.items;
+  room : HasRoom (length (into_iter_items l.home-iterator) + 1) l.gathered;
   home : (pool : _) → (ctx : _)
-      → All (IsAtWork g.R.Rows g.W.WaitPoint g.J.Job pool ctx) l.fn.states.items
-      → All (IsAtWork g.R.Rows g.W.WaitPoint g.J.Job pool ctx) (into_iter_items l.state-iterator)
+      → All (λ at. IsAtWork g.R.Rows g.W.WaitPoint g.J.Job pool ctx at.state) l.fn.homes.items
+      → All (λ at. IsAtWork g.R.Rows g.W.WaitPoint g.J.Job pool ctx at.state)
+      (into_iter_items l.home-iterator)
       × HasGathered g.R.Rows g.W.WaitPoint g.J.Job pool.queue ctx l.gathered;
 }

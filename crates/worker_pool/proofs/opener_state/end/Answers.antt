@@ -18,3 +18,8 @@ returns-clause-worked g c =
 pub returns-clause-cancelled : goal.returns-clause-cancelled
 returns-clause-cancelled g c =
     rw c.close.ensures.cancelled (told-cancelled _ _ c.requires.caller.stop)
+
+pub returns-clause-taken_over : goal.returns-clause-taken_over
+returns-clause-taken_over g c =
+    let closes = c.close.ensures in
+    record { row = closes.row_seat; outs = closes.outs; refused = closes.refused }

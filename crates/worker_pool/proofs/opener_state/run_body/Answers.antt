@@ -19,5 +19,6 @@ returns g c =
         stop = c.caller_of-caller.ensures.open;
         cancelled = c.end.ensures.cancelled;
         worked = rw ctx at c.end.ensures.worked;
+        taken_over = c.end.ensures.taken_over;
       },
     )

@@ -1,5 +1,7 @@
-use Rattle.std.proofs.Common.{rules, ◌≡◌, ℕ, ◌+◌, arith, ◌∙◌}
-use Rattle.worker_pool.proofs.Growing.{All-front, All-last, All-snoc}
+use Rattle.std.proofs.Common.{rules, ◌≡◌, ℕ, ◌+◌, ap, arith, ◌∙◌, true}
+use Rattle.worker_pool.specs.Starts.{was_asked, was_joined, joined_of}
+use Rattle.worker_pool.proofs.Growing.{All-front, All-snoc}
+use Rattle.worker_pool.proofs.Starting.{comes-asked, joined-more, joined-same}
 use Rattle.worker_pool.proofs.start.+start_all.Goals as goal
 
 -- one more was started before those that are left
@@ -19,25 +21,11 @@ start_all-ended-requires-in-Err-after_bounds g t c κs within =
     record {
       at_work = All-front (g.S.Workplace.is_at_work c.args.workplace.now) _ _ _ c.in-Some.ensures.items
           c.requires.at_work;
-      ended_at_work = c.requires.ended_at_work;
+      none_ended = c.requires.none_ended;
       few = omega arith;
       room = omega arith;
       begins = λ count most. c.requires.begins count (omega arith);
     }
-
-pub spawn_with-requires-in-Err : goal.spawn_with-requires-in-Err
-spawn_with-requires-in-Err g t c κs within =
-    let next = All-last (g.S.Workplace.is_at_work c.args.workplace.now) _ _ _ c.in-Some.ensures.items
-    c.requires.at_work in (
-      search rules,
-      (
-        search rules,
-        (
-          search rules,
-          rw c.in-Err.ensures.err next,
-        ),
-      ),
-    )
 
 pub push_reserved-requires-in-Err : goal.push_reserved-requires-in-Err
 push_reserved-requires-in-Err g t c =
@@ -48,30 +36,39 @@ push_reserved-requires-in-Err g t c =
 
 pub returns-in-Ok : goal.returns-in-Ok
 returns-in-Ok g t c =
+    let work = g.S.Workplace in
     let ran = c.start_all-ended.ensures in
-    let few = ran.few in
     let all = ran.all in let more = c.push_reserved.ensures.len in
     let len = c.in-Some.ensures.len in
+    let asked : was_asked c.joined.result.start ≡ true = ap was_asked c.joined.ensures.start in
+    let counted = joined-more c.start_all-ended.result.0.items c.joined.result
+    c.push_reserved.new.self.items c.push_reserved.ensures.items c.joined.ensures.start in
     record {
+      home = comes-asked work.is_at_work work.has_ended c.args.workplace.now _ _ _ _ _ _
+          c.in-Some.ensures.items c.push_reserved.ensures.items ran.home (search rules) asked;
+      asked = All-snoc (λ home. was_asked home.start ≡ true) _ _ _ c.push_reserved.ensures.items
+          ran.asked asked;
       all = omega arith;
       capacity = c.push_reserved.ensures.capacity ∙ ran.capacity;
-      at_work = All-snoc (g.S.Workplace.is_at_work c.args.workplace.now) _ _ _ c.push_reserved.ensures.items
-          ran.at_work (search rules);
-      few = omega arith;
-      left = rw (told c.args.started c.start_all-ended.result.1) ran.left;
+      left = rw (counted, told c.args.started (joined_of c.start_all-ended.result.0.items)) ran.left;
     }
 
 pub returns-in-Err : goal.returns-in-Err
 returns-in-Err g t c =
+    let work = g.S.Workplace in
     let ran = c.start_all-ended-in-Err.ensures in
-    let few = ran.few in
     let all = ran.all in let more = c.push_reserved-in-Err.ensures.len in
     let len = c.in-Some.ensures.len in
+    let asked : was_asked c.refused.result.start ≡ true = ap was_asked c.refused.ensures.start in
+    let counted = joined-same c.start_all-ended-in-Err.result.0.items c.refused.result
+    c.push_reserved-in-Err.new.self.items c.push_reserved-in-Err.ensures.items
+    (ap was_joined c.refused.ensures.start) in
     record {
+      home = comes-asked work.is_at_work work.has_ended c.args.workplace.now _ _ _ _ _ _
+          c.in-Some.ensures.items c.push_reserved-in-Err.ensures.items ran.home (search rules) asked;
+      asked = All-snoc (λ home. was_asked home.start ≡ true) _ _ _
+          c.push_reserved-in-Err.ensures.items ran.asked asked;
       all = omega arith;
       capacity = c.push_reserved-in-Err.ensures.capacity ∙ ran.capacity;
-      at_work = All-snoc (g.S.Workplace.is_at_work c.args.workplace.now) _ _ _
-          c.push_reserved-in-Err.ensures.items ran.at_work (search rules);
-      few = omega arith;
-      left = ran.left;
+      left = rw counted ran.left;
     }

@@ -30,8 +30,8 @@ loop-preserved-in-Found g c = record {
       c.begin-more.ensures.ran (search rules);
 }
 
-pub returns-in-Last : goal.returns-in-Last
-returns-in-Last g c = record {
+pub returns-in-Last-clause-at_work : goal.returns-in-Last-clause-at_work
+returns-in-Last-clause-at_work g c = record {
   seats = c.in-Last.ensures.seats;
   silent = c.in-Last.ensures.silent;
   stop_seat = c.in-Last.ensures.stop;
@@ -41,6 +41,9 @@ returns-in-Last g c = record {
   account = account-same _ _ _ _ _ _ _ _ _ c.loop.invariant.account c.in-Last.ensures.takes
       c.in-Last.ensures.puts;
 }
+
+pub returns-in-Last-clause-ended : goal.returns-in-Last-clause-ended
+returns-in-Last-clause-ended g c = record { number = refl; may_end = c.in-Last.ensures.last }
 
 pub loop-preserved : goal.loop-preserved
 loop-preserved g c = record {

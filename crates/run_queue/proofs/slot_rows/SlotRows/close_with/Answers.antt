@@ -1,5 +1,5 @@
 -- The last seat has every account, so what is left is what it lacks.
-use Rattle.std.proofs.Common.{rules, ◌≡◌, ◌∙◌, refl, ap, arith}
+use Rattle.std.proofs.Common.{rules, ◌≡◌, ◌∙◌, refl, ap, arith, length}
 use Rattle.std.specs.List.{flat_map}
 use Rattle.run_queue.specs.Bag.{total}
 use Rattle.run_queue.specs.Views.{nothing}
@@ -15,6 +15,11 @@ load_new_seat-last-requires g c =
 
 pub returns : goal.returns
 returns g c = record {
+  few =
+      (let none = ap length c.into_list-left.ensures.none in
+      let counts = c.close_with.ensures.counts in
+      let few = c.drain.ensures.few in
+      omega (arith, none, counts.1, few));
   account = λ h.
       let every = c.gather.ensures.parts ∙ c.requires.all in
       let a =

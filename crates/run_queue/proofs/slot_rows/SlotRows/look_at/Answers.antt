@@ -10,7 +10,7 @@ load-requires g c =
     subst (λ k. 0 < k) (sym c.args.held.now.one_part) (omega arith) in (
       search rules,
       search rules,
-      rw c.requires.seats (look_keeps _ _ _ _ c.args.row (omega (arith, c.requires.row))
+      rw c.requires.seats (look_keeps c.requires.counted _ _ _ _ c.args.row (omega (arith, c.requires.row))
           (omega arith) live),
     )
 

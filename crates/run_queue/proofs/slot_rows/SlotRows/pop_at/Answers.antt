@@ -10,7 +10,7 @@ compare_exchange-requires g c =
     let live : 0 < held.seat.me.0.parts = subst (λ k. 0 < k) (sym held.one_part) (omega arith) in (
       search rules,
       search rules,
-      claim_out_keeps g.M.Shift.shift _ _ _ _ (omega arith) live held.none_busy held.none_owed,
+      claim_out_keeps _ c.requires.known g.M.Shift.shift _ _ _ _ (omega arith) live held.none_busy held.none_owed,
     )
 
 pub exchange-job-requires : goal.exchange-job-requires

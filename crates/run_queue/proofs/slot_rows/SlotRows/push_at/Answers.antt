@@ -1,5 +1,6 @@
 -- The element is claimed, and made ready with the job.
 use Rattle.std.proofs.Common.{rules, arith, subst, ◌<◌, ap, sym, ◌∙◌}
+use Rattle.run_queue.specs.Views.{owed_where}
 use Rattle.run_queue.proofs.Keeps.{claim_in_keeps, make_ready_keeps}
 use Rattle.run_queue.proofs.slot_rows.SlotRows.push_at.Goals as goal
 
@@ -25,6 +26,8 @@ store-requires g c =
           (subst (λ k. 0 < k)
           (sym (ap (λ m. m.0.parts) now ∙ ap (λ v. v.parts) up ∙ ap (λ v. v.parts) did.0)) live)
           (ap (λ m. m.0.busy) now ∙ ap (λ v. v.busy) up ∙ ap (λ v. v.busy) did.0)
-          (ap (λ m. m.0.owes) now ∙ ap (λ v. v.owes) up)
+          (λ on. ap (λ m. m.0.owes) now ∙ ap (λ v. v.owes) up
+          ∙ ap (λ counts. owed_where counts c.args.element) on)
+          c.requires.fits
           (ap (λ m. m.1) now),
     )

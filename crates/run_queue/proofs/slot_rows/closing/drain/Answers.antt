@@ -34,4 +34,5 @@ loop-i-preserved g c =
           subst
           (λ ys. total h left + total (weight h) (drop (i + 1) ys)
           ≡ total h c.args.left.now.items + total (weight h) ys) (sym same) (omega arith),
+      search rules,
     )

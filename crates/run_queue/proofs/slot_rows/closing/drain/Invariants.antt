@@ -18,6 +18,8 @@ invariant-loop-i g l =
     × ((h : g.row.J.Denot → ℕ)
     → total h l.left.items + total (weight h) (drop l.i (slots_items l.closed.slots))
     ≡ total h l.initial.left.items + total (weight h) (slots_items l.closed.slots))
+    × (vec_len l.left + (slots_len l.closed.slots - l.i)
+    ≤ vec_len l.initial.left + slots_len l.initial.closed.slots)
 
 abbrev pub decreases-loop-i : goal.decreases-loop-i
 decreases-loop-i g l = slots_len l.closed.slots - l.i

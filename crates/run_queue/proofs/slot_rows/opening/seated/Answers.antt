@@ -11,18 +11,18 @@ use Rattle.run_queue.proofs.slot_rows.opening.seated.Goals as goal
 
 pub vacant-requires : goal.vacant-requires
 vacant-requires g c =
-    let seats : ℕ = c.args.seats in
+    let seats : ℕ = c.args.key.now.seats in
     let count : ℕ = c.from-count.result * 1024 in
     let words : ℕ = count + 8 * (c.from.result + 1) + 1 in
     let a = c.from-count.ensures in
     let b = c.from.ensures in
     let few = c.requires.few in
-    let x = c.ranges.seats.fits in
+    let x = c.requires.few_seats in
     subst
     (λ (ws : List ℕ).
-    KeepsAccount {J = g.row.J.Denot} seats (opening ws (replicate count None) (fresh seats)))
+    KeepsAccount {J = g.row.J.Denot} (g.F.Contents.fits c.args.key.now.of) g.F.Contents.counted seats (opening ws (replicate count None) (fresh seats)))
     (sym (c.as_slice.ensures.value ∙ c.in_ok-words.ensures))
-    (starts g.row.J.Denot seats words count (omega arith) (omega arith))
+    (starts g.row.J.Denot _ _ seats words count (omega arith) (omega arith))
 
 pub deal-list-requires : goal.deal-list-requires
 deal-list-requires g c =
@@ -48,7 +48,7 @@ returns g c =
     record {
       words = omega (arith, made.0, long, c.from-count.ensures, c.from.ensures);
       slots = made.1 ∙ ap (λ n. n * 1024) c.from-count.ensures;
-      seats = made.5;
+      key = made.5;
       numbers = dealt.numbers;
       ours = dealt.ours;
       accounts = dealt.accounts;

@@ -45,6 +45,7 @@ loop-row-preserved-then-is_none g c =
       puts = λ on. after.puts on ∙ before.puts on;
       takes = λ on. after.takes on ∙ before.takes on;
       flag = ap (λ seen. seen.flag) after.seen ∙ before.flag;
+      stopped = ap (λ seen. seen.stopped) after.seen ∙ before.stopped;
       passed = λ none. absurd (true≢false none);
     }
 
@@ -61,6 +62,7 @@ loop-row-preserved g c =
       puts = λ on. after.puts on ∙ before.puts on;
       takes = λ on. after.takes on ∙ before.takes on;
       flag = ap (λ seen. seen.flag) after.seen ∙ before.flag;
+      stopped = ap (λ seen. seen.stopped) after.seen ∙ before.stopped;
       passed = λ none.
           let was = before.passed none in
           let split = ap (λ rest. was.0 ++ rest) c.in-Some.ensures.steps in
@@ -86,6 +88,7 @@ loop-row-init g c =
       puts = λ on. refl;
       takes = λ on. refl;
       flag = refl;
+      stopped = refl;
       passed = λ none. ([], sym all, All-nil _);
     }
 

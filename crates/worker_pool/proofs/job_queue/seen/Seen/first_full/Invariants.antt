@@ -13,6 +13,7 @@ invariant-loop-row g l = record {
   puts : g.R.Rows.keeps_accounts → g.R.Rows.puts_of l.seat ≡ g.R.Rows.puts_of l.fn.seat;
   takes : g.R.Rows.keeps_accounts → g.R.Rows.takes_of l.seat ≡ g.R.Rows.takes_of l.fn.seat;
   flag : l.self.flag ≡ l.fn.self.flag;
+  stopped : l.self.stopped ≡ l.fn.self.stopped;
   passed : IsNone l.first → (before : List ℕ) × (l.fn.walk ≡ before ++ l.row-iterator)
       × All (λ row. has_passed l.self row ≡ true) before;
 }

@@ -1,0 +1,3 @@
+mod Jobs
+mod Lists
+mod Opened

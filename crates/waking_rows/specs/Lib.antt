@@ -1,0 +1,4 @@
+pub mod Tickets
+pub mod Seats
+pub mod Points
+pub mod Laws

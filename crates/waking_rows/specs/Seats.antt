@@ -1,0 +1,94 @@
+-- What contracts say of rows that wake, and of their seats.
+use Rattle.std.specs.Prelude.{◌≡◌, ◌≢◌, ℕ, ◌+◌, ◌*◌, ◌/◌, ◌<◌, ◌≤◌, ◌↔◌, List, Result, MatchResult}
+use Rattle.std.specs.Arc.{arc_value}
+use Rattle.event_word.specs.Step.{row_limit}
+use Rattle.event_count.specs.Seated.{TableId}
+use Rattle.event_count.specs.Rows.Gains.{measuring}
+use Rattle.event_count.specs.Seats.{card_of, seat_id}
+use Rattle.event_count.specs.Rows.Seats.{row_count_id}
+use Rattle.run_queue.specs.SlotSeats.{rows_id, row_count_of, seat_count_of, table_of, number_in}
+use Rattle.run_queue.specs.SlotSeats.{puts_of, takes_of, front_of, claim_of, ClaimedOnce}
+use Rattle.run_queue.specs.Elements.{empty_word}
+use Rattle.run_queue.specs.Limits.{most_jobs}
+use Rattle.waking_rows.specs.declared.waking_rows.WakingRows.{WakingRows}
+use Rattle.waking_rows.specs.declared.waking_rows.WakingSeat.{WakingSeat}
+use Rattle.waking_rows.specs.Tickets.{jobs_in}
+
+-- with how many credits each seat begins of rows for so many workers: an even share of those that a
+-- count may have, for all its seats, of which each worker has two, and who opens the rows has two
+abbrev pub first_credits : ℕ → ℕ
+first_credits workers = row_limit / (2 * workers + 2)
+
+module _ {J : Type 0} where
+  -- which rows' seat it is, by their slots and by their count
+  abbrev pub home_of : WakingSeat J → TableId × TableId
+  home_of seat = (table_of seat.slot, seat_id seat.seat)
+
+  abbrev pub number_by : WakingSeat J → ℕ
+  number_by seat = number_in seat.slot
+
+  -- the jobs that were put in and taken out through the seat
+  abbrev pub puts_by : WakingSeat J → List J
+  puts_by seat = jobs_in (puts_of seat.slot)
+
+  abbrev pub takes_by : WakingSeat J → List J
+  takes_by seat = jobs_in (takes_of seat.slot)
+
+  -- how many more jobs it may put in before it takes one out
+  abbrev pub credits_by : WakingSeat J → ℕ
+  credits_by seat = (card_of seat.seat).credits
+
+  -- the position of its next put at the front, and the element that it last claimed
+  abbrev pub front_by : WakingSeat J → ℕ
+  front_by seat = front_of seat.slot
+
+  abbrev pub claimed_by : WakingSeat J → ℕ
+  claimed_by seat = (claim_of seat.slot).element
+
+  -- it made one claim, and was refused exactly where it found another word than it wanted
+  pub record Claims (wanted : ℕ) (IsRefused : Type 0) (before after : WakingSeat J) : Type 0 where
+    pub once : ClaimedOnce before.slot after.slot wanted
+    pub refused : IsRefused ↔ ((claim_of after.slot).found ≢ wanted)
+
+  -- a put is refused where the seat has no credit, and else exactly where its claim found its
+  -- element not empty
+  pub record IsPut (IsRefused : Type 0) (before after : WakingSeat J) : Type 0 where
+    pub unpaid : credits_by before ≡ 0 → IsRefused
+    pub paid : 0 < credits_by before → Claims empty_word IsRefused before after
+
+  -- it is of the same rows, and has the same number
+  pub record IsSameSeat (before after : WakingSeat J) : Type 0 where
+    pub home : home_of after ≡ home_of before
+    pub number : number_by after ≡ number_by before
+
+  -- its seat at the count looked at the length of this row, which was answered, or the most jobs of
+  -- a row where it was more
+  abbrev pub LooksAtLength : WakingSeat J → WakingSeat J → ℕ → ℕ → Type 0
+  LooksAtLength before after row answer = (length : ℕ)
+      × (card_of after.seat ≡ measuring (card_of before.seat) row length)
+      × (length ≤ most_jobs → answer ≡ length) × (most_jobs < length → answer ≡ most_jobs)
+
+  -- an accepted job takes a credit, and a refused one none
+  abbrev pub PaysIfOk : Result (Unit {0}) J → ℕ → ℕ → Type 0
+  PaysIfOk result before after =
+      MatchResult result (λ _. after + 1 ≡ before) (λ _. after ≡ before)
+
+module _ {J A : Type 0} where
+  -- which rows they are, by their slots and by their count
+  abbrev pub place_of : WakingRows J A → TableId × TableId
+  place_of rows = (rows_id rows.slots, row_count_id (arc_value rows.count))
+
+  -- which count has their lengths
+  abbrev pub count_in : WakingRows J A → TableId
+  count_in rows = row_count_id (arc_value rows.count)
+
+  abbrev pub rows_in : WakingRows J A → ℕ
+  rows_in rows = row_count_of rows.slots
+
+  -- how many seats were made with them
+  abbrev pub seats_in : WakingRows J A → ℕ
+  seats_in rows = seat_count_of rows.slots
+
+  -- the seat was made with the rows
+  abbrev pub IsSeatOf : WakingRows J A → WakingSeat J → Type 0
+  IsSeatOf rows seat = home_of seat ≡ place_of rows

@@ -1,0 +1,123 @@
+//! How the rows of a pool are opened, and the point at which its workers wait.
+ghost use Rattle.std.specs.Prelude.{◌≡◌, ◌+◌, ◌≤◌, length, IfOk};
+ghost use Rattle.run_queue.specs.Limits.{most_rows};
+ghost use Rattle.worker_pool.specs.Openings.{AreRowSeats, AreWakers};
+ghost use Rattle.worker_pool.specs.Setup.{IsPoolSize};
+
+use event_count::{CountFault, WaitPoint};
+use run_queue::{Rows, RowsFault};
+use std::alloc::{AllocError, Allocator};
+use std::marker::PhantomData;
+use waking_rows::{RowPoint, WakingRows, on_one_count};
+
+/// The rows of a pool with their seats, and the point at which its workers wait with its seats.
+#[derive(Drop)]
+pub struct Place<J, A: Allocator, W: WaitPoint<A>, R: Rows<J, A>> {
+    pub(crate) rows: R,
+    pub(crate) row_seats: Vec<R::Seat, A>,
+    pub(crate) point: W,
+    pub(crate) wakers: Vec<W::Seat, A>,
+    pub(crate) of: PhantomData<J>,
+}
+
+/// A way to open rows and a point.
+pub trait Opens<J, A: Allocator, W: WaitPoint<A>, R: Rows<J, A>> {
+    // What joins rows and a point that are so opened.
+    ghost joins: { R → W → Type 0 };
+
+    /// Rows and a point for so many workers. Beside their seats there is one more at each, for the
+    /// thread that opens the pool.
+    fn open(alloc: &A, workers: u16) -> Result<Place<J, A, W, R>, AllocError>
+        requires { IsPoolSize workers }
+        ensures rows { IfOk result (λ made. R.row_count made.rows ≡ workers) }
+        ensures row_seats { IfOk result (λ made. R.seat_count made.rows ≡ workers + 1) }
+        ensures seats { IfOk result (λ made.
+            AreRowSeats R.Rows made.rows 0 made.row_seats.items) }
+        ensures rows_all { IfOk result (λ made. length made.row_seats.items ≡ workers + 1) }
+        ensures waiters { IfOk result (λ made. W.waiter_count made.point ≡ workers) }
+        ensures many { IfOk result (λ made. W.seat_count made.point ≡ workers + 1) }
+        ensures wakers { IfOk result (λ made.
+            AreWakers W.WaitPoint made.point 0 made.wakers.items) }
+        ensures all { IfOk result (λ made. length made.wakers.items ≡ workers + 1) }
+        ensures joined { IfOk result (λ made. joins made.rows made.point) };
+}
+
+/// Each is opened by itself.
+pub struct Apart;
+
+impl<J, A: Allocator + Clone, W: WaitPoint<A>, R: Rows<J, A>> Opens<J, A, W, R> for Apart {
+    ghost joins = { λ _ _. Unit {0} };
+
+    fn open(alloc: &A, workers: u16) -> Result<Place<J, A, W, R>, AllocError> {
+        let (rows, row_seats) = open_rows::<J, A, R>(alloc, workers)?;
+        let (point, wakers) = open_point(alloc, workers)?;
+        Ok(Place {
+            rows,
+            row_seats,
+            point,
+            wakers,
+            of: PhantomData,
+        })
+    }
+}
+
+/// Both are opened over one count, so that no job is slept on. A point and rows that are opened each
+/// by itself have two counts, and a put there wakes nobody.
+pub struct OverOneCount;
+
+impl<J: Drop, A: Allocator + Clone> Opens<J, A, RowPoint<A>, WakingRows<J, A>> for OverOneCount {
+    ghost use Rattle.waking_rows.specs.Points.{count_at};
+    ghost use Rattle.waking_rows.specs.Seats.{place_of};
+
+    ghost joins = { λ rows point. (place_of rows).1 ≡ count_at point };
+
+    fn open(
+        alloc: &A,
+        workers: u16,
+    ) -> Result<Place<J, A, RowPoint<A>, WakingRows<J, A>>, AllocError> {
+        let made = on_one_count(alloc, workers)?;
+        Ok(Place {
+            rows: made.rows,
+            row_seats: made.row_seats,
+            point: made.point,
+            wakers: made.waiters,
+            of: PhantomData,
+        })
+    }
+}
+
+// Rows for so many workers, and the seats there.
+fn open_rows<J, A, R>(alloc: &A, workers: u16) -> Result<(R, Vec<R::Seat, A>), AllocError>
+where
+    A: Allocator + Clone,
+    R: Rows<J, A>,
+    requires { workers ≤ most_rows }
+    ensures rows { IfOk result (λ made. R.row_count made.0 ≡ workers) }
+    ensures many { IfOk result (λ made. R.seat_count made.0 ≡ workers + 1) }
+    ensures seats { IfOk result (λ made. AreRowSeats R.Rows made.0 0 made.1.items) }
+    ensures all { IfOk result (λ made. length made.1.items ≡ workers + 1) }
+{
+    match R::open(alloc.clone()?, workers, 1) {
+        Ok(opened) => Ok(opened),
+        Err(RowsFault::NoMemory) => Err(AllocError),
+        Err(RowsFault::TooManyRows) => unreachable!(),
+    }
+}
+
+// A point at which so many workers wait, and the seats there.
+fn open_point<A, W>(alloc: &A, workers: u16) -> Result<(W, Vec<W::Seat, A>), AllocError>
+where
+    A: Allocator + Clone,
+    W: WaitPoint<A>,
+    requires { IsPoolSize workers }
+    ensures waiters { IfOk result (λ made. W.waiter_count made.0 ≡ workers) }
+    ensures many { IfOk result (λ made. W.seat_count made.0 ≡ workers + 1) }
+    ensures seats { IfOk result (λ made. AreWakers W.WaitPoint made.0 0 made.1.items) }
+    ensures all { IfOk result (λ made. length made.1.items ≡ workers + 1) }
+{
+    match W::open(alloc.clone()?, workers, 1) {
+        Ok(opened) => Ok(opened),
+        Err(CountFault::NoMemory) => Err(AllocError),
+        Err(CountFault::TooManyWaiters) => unreachable!(),
+    }
+}
