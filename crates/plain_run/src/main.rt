@@ -11,7 +11,7 @@ use std::process::ExitCode;
 use tensor_ops::{Tensor, eval_plain};
 
 /// The tensor of a text's request. The workers and the block that it names aren't used.
-fn tensor_of(alloc: Global, text: &[u8]) -> Result<Tensor, Fault> {
+fn tensor_of(alloc: Global, text: &[u8]) -> Result<Tensor<'static>, Fault> {
     let request = read_request(alloc, text)?;
     match eval_plain(alloc, &request.expr, &request.inputs) {
         Ok(tensor) => Ok(tensor),

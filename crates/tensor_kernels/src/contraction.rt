@@ -122,8 +122,10 @@ impl<'a> Contraction<'a> {
         Ok(values)
     }
 
-    /// Writes the values from a place of the result on.
-    fn fill(&self, first: usize, out: &mut [i64]) -> Result<(), AllocError>
+    /// Writes the values from a place of the result on, as many as there is room for, in order,
+    /// whatever stands there. Packs what [`Contraction::values`] does; want of memory leaves anything
+    /// in the list.
+    pub fn fill(&self, first: usize, out: &mut [i64]) -> Result<(), AllocError>
         requires { first + length out.old ≤ contraction_count self.now }
         ensures len { length out.new ≡ length out.old }
         ensures each { OnOk result ((k : ℕ) → k < length out.old

@@ -33,7 +33,8 @@ pub fn whole_axes(alloc: Global, dims: &Dims) -> Result<Vec<Axis>, AllocError>
     Ok(axes)
 }
 
-/// Where the walk of a movement starts, from where that of its operand does.
+/// Where the walk of a movement starts, from where that of its operand does, whose axes all rise, as
+/// those of [`whole_axes`] do.
 pub fn moved_start(movement: Movement<'_>, start: usize, axes: &[Axis]) -> usize
     requires rank { HasRank (movement_at movement) (length axes.now) }
     requires fits { moved_start (movement_at movement) start axes.now < 2 ^ 32 }
@@ -50,7 +51,8 @@ pub fn moved_start(movement: Movement<'_>, start: usize, axes: &[Axis]) -> usize
     }
 }
 
-/// The axes of a movement, from those of its operand.
+/// The axes of a movement, from those of its operand, which all rise, as those of [`whole_axes`] do:
+/// it cuts, turns and repeats them from their starts.
 pub fn moved_axes(
     alloc: Global,
     movement: Movement<'_>,

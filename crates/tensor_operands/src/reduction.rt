@@ -104,6 +104,18 @@ impl<'a> Reduction<'a> {
         Ok(values)
     }
 
+    /// Writes the values from a place of its result on, as many as there is room for, in order,
+    /// whatever stands there. Takes no memory.
+    pub fn fill(&self, first: usize, out: &mut [i64])
+        requires { first + length out.old ≤ places_of_result self.now }
+        ensures len { length out.new ≡ length out.old }
+        ensures each { (k : ℕ) → k < length out.old
+            → value_in out.new k ≡ reduction_at self.now (first + k) }
+    {
+        put_all(out, self.reducer.unit());
+        self.combine(first, out);
+    }
+
     /// Combines with each value those that belong to its place of the result, from the first on.
     fn combine(&self, first: usize, target: &mut [i64])
         requires { first + length target.old ≤ places_of_result self.now }
@@ -148,4 +160,12 @@ impl<'a> Reduction<'a> {
             index = 0;
         }
     }
+}
+
+/// Writes a value at all places.
+fn put_all(out: &mut [i64], value: i64)
+    ensures len { length out.new ≡ length out.old }
+    ensures each { (k : ℕ) → k < length out.old → value_in out.new k ≡ value }
+{
+    out.fill(value);
 }

@@ -4,6 +4,7 @@ pub use Rattle.tensor_terms.proofs.Shapes
 pub mod CombinedRuns
 pub mod Convolved
 pub mod Evaluated
+mod Filled
 pub mod PartValues
 pub mod Placings
 pub mod ReducedRuns

@@ -3,7 +3,8 @@
 pub(crate) mod plain;
 pub(crate) mod root;
 
-ghost use Rattle.std.specs.Prelude.{◌≡◌, ◌<◌, ◌≤◌, ◌-◌, ◌++◌, ℕ, length, IsTrue, IsOk, IfOk};
+ghost use Rattle.std.specs.Prelude.{◌≡◌, ◌<◌, ◌≤◌, ◌+◌, ◌-◌, ◌++◌, ℕ, length, IsTrue, IsOk, IfOk};
+ghost use Rattle.std.specs.Prelude.{OnOk};
 ghost use Rattle.tensor_shape.specs.Legal.{highest_rank};
 ghost use Rattle.tensor_shape.specs.Index.{size_of};
 ghost use Rattle.tensor_terms.specs.Result.{dims_of, shape_of};
@@ -44,7 +45,7 @@ impl<'a> TensorEvaluator<'a> {
     pub fn of(
         alloc: Global,
         expr: &'a Expr,
-        inputs: &'a Inputs,
+        inputs: &'a Inputs<'a>,
     ) -> Result<TensorEvaluator<'a>, AllocError>
         requires inputs { IsTrue (has_inputs (term_of expr.now) (length inputs.now.tensors)) }
         requires dims { IsOk (dims_of inputs.now.rank (term_of expr.now) inputs.now.tensors) }
@@ -61,8 +62,8 @@ impl<'a> TensorEvaluator<'a> {
     pub fn over(
         alloc: Global,
         expr: &'a Expr,
-        inputs: &'a Inputs,
-        others: &'a [Tensor],
+        inputs: &'a Inputs<'a>,
+        others: &'a [Tensor<'a>],
     ) -> Result<TensorEvaluator<'a>, AllocError>
         requires inputs { IsTrue (has_inputs (term_of expr.now)
             (length (inputs.now.tensors ++ others.now))) }
@@ -106,5 +107,25 @@ impl<'a> TensorEvaluator<'a> {
     {
         self.root
             .values(self.alloc, alloc, first as usize, last as usize)
+    }
+
+    /// Writes the values of the expression from a place of its result on, as many as there is room
+    /// for, in order, whatever stands there: those that [`TensorEvaluator::values`] gives. Takes
+    /// memory for pieces of 1,024 places and for what a contraction packs, and none for the values.
+    ///
+    /// # Errors
+    ///
+    /// Want of memory, which leaves anything in the list.
+    pub fn fill(&self, first: u64, out: &mut [i64]) -> Result<(), AllocError>
+        requires within { first + length out.old
+            ≤ size_of (shape_of (term_evaluated self.now) (inputs_evaluated self.now)) }
+        ensures len { length out.new ≡ length out.old }
+        ensures values { OnOk result (out.new ≡ values_from
+            (term_evaluated self.now) (inputs_evaluated self.now) first (length out.old)) }
+    {
+        let left = self.dims.size() - first;
+        let last = first + left.min(out.len() as u64);
+        self.root
+            .fill(self.alloc, first as usize, last as usize, out)
     }
 }

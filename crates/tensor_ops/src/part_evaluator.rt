@@ -53,8 +53,8 @@ impl<'a> PartEvaluator<'a> {
     pub fn over(
         alloc: Global,
         expr: &'a Expr,
-        inputs: &'a Inputs,
-        others: &'a [Tensor],
+        inputs: &'a Inputs<'a>,
+        others: &'a [Tensor<'a>],
     ) -> Result<PartEvaluator<'a>, AllocError>
         requires inputs { IsTrue (has_inputs (term_of expr.now)
             (length (inputs.now.tensors ++ others.now))) }

@@ -2,10 +2,11 @@
 //! values are asked for by place. The values are worked out by loops over places.
 
 pub(crate) mod chaining;
+pub(crate) mod filling;
 pub(crate) mod operands;
 pub(crate) mod settling;
 
-ghost use Rattle.std.specs.Prelude.{◌≡◌, ◌<◌, ◌≤◌, ◌-◌, ◌+◌, ◌++◌, ℕ, pos, length, map, vec_len};
+ghost use Rattle.std.specs.Prelude.{◌≡◌, ◌<◌, ◌≤◌, ◌-◌, ◌+◌, ◌++◌, ℕ, pos, length, map};
 ghost use Rattle.std.specs.Prelude.{IfOk, IfSome, OnOk, slice_index, slice_index_or};
 ghost use Rattle.std.specs.Cow.{cow_slice_items};
 ghost use Rattle.std.specs.List.{range_with_len};
@@ -279,21 +280,21 @@ pub(crate) fn values_at<'t, 'a>(
 /// first where they are turned. Of one value, and of a list that is read along long rows, no values
 /// are put aside.
 #[cycle(values_at)]
-fn combine_at(
+pub(crate) fn combine_at(
     alloc: Global,
     operation: BinaryScalar,
     turned: bool,
-    values: &mut Vec<i64>,
+    values: &mut [i64],
     operand: &Placed<'_>,
     places: &Places<'_>,
 ) -> Result<(), AllocError>
     requires sound { IsSound operand.now }
     requires places { AreBelow places.now (count_of operand.now) }
-    requires same { vec_len values.old ≡ length (places_of places.now) }
-    ensures len { OnOk result (length values.new.items ≡ length (places_of places.now)) }
+    requires same { length values.old ≡ length (places_of places.now) }
+    ensures len { OnOk result (length values.new ≡ length (places_of places.now)) }
     ensures each { OnOk result ((k : ℕ) → k < length (places_of places.now)
-        → slice_index_or values.new.items k (pos 0)
-        ≡ either_way operation turned (slice_index_or values.old.items k (pos 0))
+        → slice_index_or values.new k (pos 0)
+        ≡ either_way operation turned (slice_index_or values.old k (pos 0))
         (meaning operand.now (slice_index (places_of places.now) k))) }
 {
     if let Placed::Same(value, _) = operand {

@@ -53,7 +53,7 @@ pub fn run_plan<RT: Threads + Wait + Sync>(
     block: u64,
     plan: &Plan,
     inputs: &Inputs,
-) -> Result<Tensor, ForFault>
+) -> Result<Tensor<'static>, ForFault>
     requires { AreReady (steps_in plan.now) inputs.now.tensors }
     ensures tensor { IfOk result (λ t.
         t ≡ last_tensor (worked_out (terms_in (steps_in plan.now)) inputs.now.tensors)) }
@@ -86,7 +86,7 @@ fn work_out<RT: Threads + Wait + Sync>(
     workers: &Workers<'_, RT>,
     steps: &[Step],
     inputs: &Inputs,
-) -> Result<Tensor, ForFault>
+) -> Result<Tensor<'static>, ForFault>
     requires ready { AreReady steps.now inputs.now.tensors }
     requires some { 0 < length steps.now }
     ensures tensor { IfOk result (λ t.
@@ -111,7 +111,7 @@ fn advance<RT: Threads + Wait + Sync>(
     steps: &[Step],
     done: usize,
     inputs: &Inputs,
-    tensors: &mut Vec<Tensor>,
+    tensors: &mut Vec<Tensor<'static>>,
 ) -> Result<usize, ForFault>
     requires more { done < length steps.now }
     requires held { AreHeld (drop done steps.now)

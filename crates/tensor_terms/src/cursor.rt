@@ -27,7 +27,7 @@ use tensor_values::{BinaryScalar, Reducer, applied, combined, is_true};
 #[derive(Drop)]
 pub struct Cursor<'a> {
     expr: &'a Expr,
-    inputs: &'a Inputs,
+    inputs: &'a Inputs<'a>,
     ghost has_inputs: { IsTrue (has_inputs (term_of expr.now) (length inputs.now.tensors)) },
     ghost has_dims: { IsOk (dims_of highest_rank (term_of expr.now) inputs.now.tensors) },
 }
@@ -36,7 +36,7 @@ impl<'a> Cursor<'a> {
     ghost use Rattle.tensor_terms.specs.Cursor.{term_under, inputs_under};
 
     /// A cursor over an expression.
-    pub fn of(expr: &'a Expr, inputs: &'a Inputs) -> Cursor<'a>
+    pub fn of(expr: &'a Expr, inputs: &'a Inputs<'a>) -> Cursor<'a>
         requires inputs { IsTrue (has_inputs (term_of expr.now) (length inputs.now.tensors)) }
         requires dims { IsOk (dims_of inputs.now.rank (term_of expr.now) inputs.now.tensors) }
         ensures term { term_under result ≡ term_of expr.now }

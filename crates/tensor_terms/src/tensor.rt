@@ -8,37 +8,56 @@ ghost use Rattle.tensor_shape.specs.Index.{size_of, IsIndexOf};
 ghost use Rattle.tensor_terms.specs.Contents.{value_at};
 
 use std::alloc::Global;
+use std::borrow::CowSlice;
 use std::marker::Model;
 use tensor_shape::Dims;
 
 /// Values of the `i64` range at all index lists of some dims, column-major: the first index is the
-/// fastest.
+/// fastest. The values are the tensor's own, or lent to it.
 #[derive(Drop)]
-pub struct Tensor {
+pub struct Tensor<'a> {
     dims: Dims,
-    values: Vec<i64>,
+    values: CowSlice<'a, i64, Global>,
 }
 
-impl Model for Tensor {
+impl<'a> Model for Tensor<'a> {
     ghost use Rattle.std.specs.Prelude.{◌≡◌, length};
+    ghost use Rattle.std.specs.Cow.{cow_slice_items};
     ghost use Rattle.tensor_shape.specs.Index.{size_of};
     ghost use Rattle.tensor_terms.specs.Contents.{Contents};
 
     ghost Value = { Contents };
 
-    ghost view = { λ t. record { dims = t.dims; values = t.values.items } };
+    ghost view = { λ t. record { dims = t.dims; values = cow_slice_items t.values } };
 
-    ghost invariant = { λ t. length t.values.items ≡ size_of t.dims };
+    ghost invariant = { λ t. length (cow_slice_items t.values) ≡ size_of t.dims };
 }
 
-impl Tensor {
-    /// The tensor of these values, in order of their places.
-    pub fn new(dims: Dims, values: Vec<i64>) -> Tensor
+impl<'a> Tensor<'a> {
+    /// The tensor of these values, which are its own then, in order of their places. The first index
+    /// is the fastest.
+    pub fn new(dims: Dims, values: Vec<i64>) -> Tensor<'a>
         requires { length values.items ≡ size_of dims }
         ensures dims { result.dims ≡ dims }
         ensures values { result.values ≡ values.items }
     {
-        Tensor { dims, values }
+        Tensor {
+            dims,
+            values: CowSlice::Owned(values),
+        }
+    }
+
+    /// The tensor of these values, which it lends, in order of their places: none is copied, and it
+    /// takes no memory. The first index is the fastest, as for [`Tensor::new`].
+    pub fn lent(dims: Dims, values: &'a [i64]) -> Tensor<'a>
+        requires { length values.now ≡ size_of dims }
+        ensures dims { result.dims ≡ dims }
+        ensures values { result.values ≡ values.now }
+    {
+        Tensor {
+            dims,
+            values: CowSlice::Borrowed(values),
+        }
     }
 
     /// The dims.
@@ -62,6 +81,6 @@ impl Tensor {
         ensures { result ≡ value_at self.now index.now }
     {
         let place = self.dims.linear(index) as usize;
-        self.values[place]
+        self.values.as_slice()[place]
     }
 }

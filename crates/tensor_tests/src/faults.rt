@@ -1,8 +1,9 @@
-//! Faults by number, and by name or text.
+//! Faults by number, by name and by text.
 
 use crate::told::expect;
 use expr_reader::Fault;
 use std::test::Fail;
+use tensor_ops::{ExprFault, ShapeFault};
 use tensor_runner::{RunFault, StreamFault};
 
 #[test]
@@ -39,6 +40,21 @@ const NUMBERS: [u64; 3] = [
     StreamFault::ReadFault as u64,
     StreamFault::WriteFault as u64,
 ];
+
+// Why dims are not legal, and why an expression has none.
+#[test]
+fn texts_of_faults_of_dims(rt: HostRuntime) -> Result<(), Fail> {
+    let (rank, elements) = (ShapeFault::RankTooHigh, ShapeFault::TooManyElements);
+    let told = format!(in rt.alloc(); "{rank}, {elements}")?;
+    let texts = "the rank is too high, there are too many elements";
+    expect(&rt, "dims", &told.as_str(), &texts);
+    let (shape, range) = (ExprFault::ShapeMismatch, ExprFault::OutOfRange);
+    let large = ExprFault::TooLarge;
+    let told = format!(in rt.alloc(); "{shape}, {range}, {large}")?;
+    let texts = "the shapes do not match, an argument is out of range, the result is too large";
+    expect(&rt, "an expression", &told.as_str(), &texts);
+    Ok(())
+}
 
 // Want of memory has one number, and those of the streams follow it.
 #[test]

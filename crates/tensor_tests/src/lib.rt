@@ -11,9 +11,15 @@ mod copies;
 #[cfg(test)]
 mod dims;
 #[cfg(test)]
+mod drawn;
+#[cfg(test)]
 mod faults;
 #[cfg(test)]
+mod fills;
+#[cfg(test)]
 mod lines;
+#[cfg(test)]
+mod many_steps;
 #[cfg(test)]
 mod parts;
 #[cfg(test)]

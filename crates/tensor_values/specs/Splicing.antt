@@ -16,6 +16,11 @@ abbrev pub seconds_before : ℕ → ℕ → ℕ → ℕ
 seconds_before first second p =
     p / (first + second) * second + (p % (first + second) - first)
 
+-- where the places that follow a place in the same operand end
+abbrev pub end_of_turn : ℕ → ℕ → ℕ → ℕ
+end_of_turn first second p =
+    p + ((if is_of_first first second p then first else first + second) - p % (first + second))
+
 -- the value at a place, of the operand whose place it is
 abbrev pub spliced : ℕ → ℕ → (ℕ → ℤ) → (ℕ → ℤ) → ℕ → ℤ
 spliced first second f g p =

@@ -1,7 +1,7 @@
 //! Two operands in turns: so many places of the first, then so many of the second, and so on to the
 //! end of both.
 
-ghost use Rattle.std.specs.Prelude.{◌≡◌, ◌<◌, ◌≤◌, ◌+◌, ◌-◌, ◌%◌, if◌then◌else◌};
+ghost use Rattle.std.specs.Prelude.{◌≡◌, ◌<◌, ◌≤◌, ◌+◌, ◌-◌, ◌%◌, min, if◌then◌else◌};
 ghost use Rattle.tensor_shape.specs.Legal.{most_elements};
 
 /// How many places of each operand there are in a turn.
@@ -15,6 +15,7 @@ pub struct Turns {
 
 impl Turns {
     ghost use Rattle.tensor_values.specs.Splicing.{is_of_first, firsts_before, seconds_before};
+    ghost use Rattle.tensor_values.specs.Splicing.{end_of_turn};
 
     /// Whether a place is one of the first operand.
     pub fn is_of_first(self, place: usize) -> bool
@@ -43,6 +44,7 @@ impl Turns {
     /// Where the places that follow a place in the same operand end, at the latest at a limit.
     pub fn end_after(self, place: usize, limit: usize) -> usize
         requires { place < limit }
+        ensures end { result ≡ min (end_of_turn self.first self.second place) limit }
         ensures above { place < result }
         ensures below { result ≤ limit }
         ensures turn { place % (self.first + self.second) + (result - place)

@@ -1,6 +1,6 @@
 -- Walks: the operand's places in the order of the result's, by a size and a step an axis.
 use Rattle.std.specs.Prelude.{◌≡◌, ℕ, ◌<◌, ◌≤◌, ◌+◌, ◌-◌, ◌*◌, ◌/◌, ◌%◌, List, [], ◌∷◌, length}
-use Rattle.std.specs.Prelude.{slice_index, if◌then◌else◌, false}
+use Rattle.std.specs.Prelude.{slice_index, Bool, nat_eq, nat_le, if◌then◌else◌, false}
 use Rattle.tensor_walks.specs.declared.walk.Axis.{Axis}
 use Rattle.tensor_walks.specs.declared.walk.Row.{Row}
 
@@ -8,6 +8,11 @@ use Rattle.tensor_walks.specs.declared.walk.Row.{Row}
 abbrev pub walk_size : List Axis → ℕ
 walk_size [] = 1
 walk_size (a ∷ rest) = a.size * walk_size rest
+
+-- whether rows are long: along the first axis of another size than 1 they have 16 places or more
+abbrev pub has_long_rows : List Axis → Bool
+has_long_rows [] = false
+has_long_rows (a ∷ rest) = if nat_eq a.size 1 then has_long_rows rest else nat_le 16 a.size
 
 -- how many steps an index is: itself, or where the axis falls what is left above it
 abbrev pub steps_to : Axis → ℕ → ℕ

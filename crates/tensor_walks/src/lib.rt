@@ -12,7 +12,7 @@ pub use gather::spliced::{parted, spliced_list, spliced_run};
 pub use gather::{picked, picked_along};
 pub use loops::chain::{Link, are_same, combine_chain};
 pub use loops::combining::{combine_along, has_long_rows};
-pub use loops::{SelectOrder, apply, combine, combine_row, select};
+pub use loops::{SelectOrder, apply, combine, combine_row, put_combined, select};
 pub use walk::joining::joined;
 pub use walk::led::{are_apart, lead};
 pub use walk::places::Places;

@@ -4,7 +4,7 @@
 pub(crate) mod chain;
 pub(crate) mod combining;
 
-ghost use Rattle.std.specs.Prelude.{◌≡◌, ◌<◌, ◌≤◌, ◌+◌, ℕ, pos, length, slice_index_or, vec_len};
+ghost use Rattle.std.specs.Prelude.{◌≡◌, ◌<◌, ◌≤◌, ◌+◌, ℕ, pos, length, slice_index_or};
 ghost use Rattle.std.specs.Prelude.{if◌then◌else◌};
 ghost use Rattle.tensor_walks.specs.Loops.{either_way, selected, CombinesRow};
 ghost use Rattle.tensor_values.specs.Scalars.{applied, is_true};
@@ -23,10 +23,10 @@ pub enum SelectOrder {
 }
 
 /// Each value becomes the operation's.
-pub fn apply(operation: UnaryScalar, values: &mut Vec<i64>)
-    ensures len { length values.new.items ≡ length values.old.items }
-    ensures each { (k : ℕ) → k < length values.old.items → slice_index_or values.new.items k (pos 0)
-        ≡ applied operation (slice_index_or values.old.items k (pos 0)) }
+pub fn apply(operation: UnaryScalar, values: &mut [i64])
+    ensures len { length values.new ≡ length values.old }
+    ensures each { (k : ℕ) → k < length values.old → slice_index_or values.new k (pos 0)
+        ≡ applied operation (slice_index_or values.old k (pos 0)) }
 {
     match operation {
         UnaryScalar::Neg => apply_each(UnaryScalar::Neg, values),
@@ -38,11 +38,11 @@ pub fn apply(operation: UnaryScalar, values: &mut Vec<i64>)
 
 /// Each value becomes the operation's of it and the other list's at its place, of which the second
 /// comes first where they are turned.
-pub fn combine(operation: BinaryScalar, turned: bool, values: &mut Vec<i64>, others: &[i64])
-    requires { vec_len values.old ≡ length others.now }
-    ensures len { length values.new.items ≡ length others.now }
-    ensures each { (k : ℕ) → k < length others.now → slice_index_or values.new.items k (pos 0)
-        ≡ either_way operation turned (slice_index_or values.old.items k (pos 0))
+pub fn combine(operation: BinaryScalar, turned: bool, values: &mut [i64], others: &[i64])
+    requires { length values.old ≡ length others.now }
+    ensures len { length values.new ≡ length others.now }
+    ensures each { (k : ℕ) → k < length others.now → slice_index_or values.new k (pos 0)
+        ≡ either_way operation turned (slice_index_or values.old k (pos 0))
         (slice_index_or others.now k (pos 0)) }
 {
     combine_row(
@@ -55,27 +55,42 @@ pub fn combine(operation: BinaryScalar, turned: bool, values: &mut Vec<i64>, oth
     );
 }
 
+/// Each value becomes the operation's of those of two lists at its place, of which the second comes
+/// first where they are turned.
+pub fn put_combined(
+    operation: BinaryScalar,
+    turned: bool,
+    values: &mut [i64],
+    first: &[i64],
+    second: &[i64],
+)
+    requires first { length values.old ≡ length first.now }
+    requires second { length second.now ≡ length first.now }
+    ensures len { length values.new ≡ length first.now }
+    ensures each { (k : ℕ) → k < length first.now → slice_index_or values.new k (pos 0)
+        ≡ either_way operation turned (slice_index_or first.now k (pos 0))
+        (slice_index_or second.now k (pos 0)) }
+{
+    match operation {
+        BinaryScalar::Add => put_each(BinaryScalar::Add, turned, values, first, second),
+        BinaryScalar::Sub => put_each(BinaryScalar::Sub, turned, values, first, second),
+        BinaryScalar::Mul => put_each(BinaryScalar::Mul, turned, values, first, second),
+        BinaryScalar::CwiseMax => put_each(BinaryScalar::CwiseMax, turned, values, first, second),
+        BinaryScalar::CwiseMin => put_each(BinaryScalar::CwiseMin, turned, values, first, second),
+        BinaryScalar::Lt => put_each(BinaryScalar::Lt, turned, values, first, second),
+        BinaryScalar::Le => put_each(BinaryScalar::Le, turned, values, first, second),
+        BinaryScalar::Eq => put_each(BinaryScalar::Eq, turned, values, first, second),
+        BinaryScalar::Ne => put_each(BinaryScalar::Ne, turned, values, first, second),
+        BinaryScalar::Gt => put_each(BinaryScalar::Gt, turned, values, first, second),
+        BinaryScalar::Ge => put_each(BinaryScalar::Ge, turned, values, first, second),
+        BinaryScalar::And => put_each(BinaryScalar::And, turned, values, first, second),
+        BinaryScalar::Or => put_each(BinaryScalar::Or, turned, values, first, second),
+    }
+}
+
 /// The values from a place on become the operation's of them and a list's along a row, of which the
 /// second comes first where they are turned.
 pub fn combine_row(
-    operation: BinaryScalar,
-    turned: bool,
-    values: &mut Vec<i64>,
-    at: usize,
-    list: &[i64],
-    row: Row,
-)
-    requires row { IsRowIn row (length list.now) }
-    requires room { at + row.count ≤ vec_len values.old }
-    ensures { CombinesRow operation turned values.old.items list.now row at row.count
-        values.new.items }
-{
-    // As a slice: of a list the compiler would look up at each value where its values lie.
-    combine_slice(operation, turned, values.as_mut_slice(), at, list, row);
-}
-
-/// The same of the values of a slice.
-fn combine_slice(
     operation: BinaryScalar,
     turned: bool,
     values: &mut [i64],
@@ -120,12 +135,12 @@ fn combine_slice(
 }
 
 /// Each value becomes select's of it and the values at its place of the two lists after it.
-pub fn select(order: SelectOrder, values: &mut Vec<i64>, second: &[i64], third: &[i64])
-    requires second { vec_len values.old ≡ length second.now }
-    requires third { vec_len values.old ≡ length third.now }
-    ensures len { length values.new.items ≡ length second.now }
-    ensures each { (k : ℕ) → k < length second.now → slice_index_or values.new.items k (pos 0)
-        ≡ selected order (slice_index_or values.old.items k (pos 0))
+pub fn select(order: SelectOrder, values: &mut [i64], second: &[i64], third: &[i64])
+    requires second { length values.old ≡ length second.now }
+    requires third { length values.old ≡ length third.now }
+    ensures len { length values.new ≡ length second.now }
+    ensures each { (k : ℕ) → k < length second.now → slice_index_or values.new k (pos 0)
+        ≡ selected order (slice_index_or values.old k (pos 0))
         (slice_index_or second.now k (pos 0)) (slice_index_or third.now k (pos 0)) }
 {
     match order {
@@ -138,10 +153,10 @@ pub fn select(order: SelectOrder, values: &mut Vec<i64>, second: &[i64], third: 
 }
 
 #[inline(always)]
-fn apply_each(operation: UnaryScalar, values: &mut Vec<i64>)
-    ensures len { length values.new.items ≡ length values.old.items }
-    ensures each { (k : ℕ) → k < length values.old.items → slice_index_or values.new.items k (pos 0)
-        ≡ applied operation (slice_index_or values.old.items k (pos 0)) }
+fn apply_each(operation: UnaryScalar, values: &mut [i64])
+    ensures len { length values.new ≡ length values.old }
+    ensures each { (k : ℕ) → k < length values.old → slice_index_or values.new k (pos 0)
+        ≡ applied operation (slice_index_or values.old k (pos 0)) }
 {
     for place in 0..values.len() {
         values[place] = applied(operation, values[place]);
@@ -192,16 +207,36 @@ fn combine_each(
 }
 
 #[inline(always)]
-fn select_each(order: SelectOrder, values: &mut Vec<i64>, second: &[i64], third: &[i64])
-    requires second { vec_len values.old ≡ length second.now }
-    requires third { vec_len values.old ≡ length third.now }
-    ensures len { length values.new.items ≡ length second.now }
-    ensures each { (k : ℕ) → k < length second.now → slice_index_or values.new.items k (pos 0)
-        ≡ selected order (slice_index_or values.old.items k (pos 0))
+fn select_each(order: SelectOrder, values: &mut [i64], second: &[i64], third: &[i64])
+    requires second { length values.old ≡ length second.now }
+    requires third { length values.old ≡ length third.now }
+    ensures len { length values.new ≡ length second.now }
+    ensures each { (k : ℕ) → k < length second.now → slice_index_or values.new k (pos 0)
+        ≡ selected order (slice_index_or values.old k (pos 0))
         (slice_index_or second.now k (pos 0)) (slice_index_or third.now k (pos 0)) }
 {
     for place in 0..second.len() {
         values[place] = selected(order, values[place], second[place], third[place]);
+    }
+}
+
+#[inline(always)]
+fn put_each(
+    operation: BinaryScalar,
+    turned: bool,
+    values: &mut [i64],
+    first: &[i64],
+    second: &[i64],
+)
+    requires first { length values.old ≡ length first.now }
+    requires second { length second.now ≡ length first.now }
+    ensures len { length values.new ≡ length first.now }
+    ensures each { (k : ℕ) → k < length first.now → slice_index_or values.new k (pos 0)
+        ≡ either_way operation turned (slice_index_or first.now k (pos 0))
+        (slice_index_or second.now k (pos 0)) }
+{
+    for place in 0..first.len() {
+        values[place] = either_way(operation, turned, first[place], second[place]);
     }
 }
 

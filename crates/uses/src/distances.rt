@@ -23,7 +23,7 @@ fn program(alloc: Global) -> Result<Expr, AllocError>
 pub fn row_distances(
     alloc: Global,
     inputs: &Inputs,
-) -> Result<Result<Tensor, ExprFault>, AllocError>
+) -> Result<Result<Tensor<'static>, ExprFault>, AllocError>
     requires two { length inputs.now.tensors ≡ 2 }
     ensures tensor { IfOk result (λ answer.
         IfOk answer (λ tensor. tensor ≡ tensor_of squared_distances inputs.now.tensors)) }

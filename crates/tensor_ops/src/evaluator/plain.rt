@@ -14,7 +14,11 @@ use tensor_terms::{Expr, Inputs, Tensor};
 
 /// The tensor whose value at each index list is the expression's: its values at the range of all
 /// places.
-pub fn eval_plain(alloc: Global, expr: &Expr, inputs: &Inputs) -> Result<Tensor, AllocError>
+pub fn eval_plain(
+    alloc: Global,
+    expr: &Expr,
+    inputs: &Inputs,
+) -> Result<Tensor<'static>, AllocError>
     requires inputs { IsTrue (has_inputs (term_of expr.now) (length inputs.now.tensors)) }
     requires dims { IsOk (dims_of inputs.now.rank (term_of expr.now) inputs.now.tensors) }
     ensures tensor { IfOk result (λ t. t ≡ tensor_of (term_of expr.now) inputs.now.tensors) }

@@ -1,9 +1,11 @@
 //! Expressions made ready to be evaluated by ranges of places.
 
-ghost use Rattle.std.specs.Prelude.{◌≡◌, ◌≤◌, ◌-◌, length, map, IsTrue, IsOk, IfOk};
+ghost use Rattle.std.specs.Prelude.{◌≡◌, ◌<◌, ◌≤◌, ◌+◌, ◌-◌, ℕ, length, map, IsTrue, IsOk, IfOk};
+ghost use Rattle.std.specs.Prelude.{OnOk};
 ghost use Rattle.std.specs.List.{range_with_len};
 ghost use Rattle.tensor_shape.specs.Legal.{highest_rank};
 ghost use Rattle.tensor_ops.specs.Placing.{Gives, HasValues};
+ghost use Rattle.tensor_values.specs.Values.{value_in};
 ghost use Rattle.tensor_terms.specs.Result.{dims_of, shape_of};
 ghost use Rattle.tensor_terms.specs.Tensors.{tensors_in};
 ghost use Rattle.tensor_terms.specs.Term.{has_inputs};
@@ -104,6 +106,30 @@ impl<'a> Root<'a> {
             Root::Reduction(reduction) => reduction.values(target, first, last),
             Root::Contraction(contraction) => contraction.values(target, first, last),
         }
+    }
+
+    /// Writes the values at the places from the first to before the last, whatever stands there.
+    pub(crate) fn fill(
+        &self,
+        alloc: Global,
+        first: usize,
+        last: usize,
+        out: &mut [i64],
+    ) -> Result<(), AllocError>
+        requires order { first ≤ last }
+        requires sound { IsSoundRoot self.now }
+        requires within { last ≤ root_count self.now }
+        requires long { length out.old ≡ last - first }
+        ensures len { length out.new ≡ length out.old }
+        ensures each { OnOk result ((k : ℕ) → k < length out.old
+            → value_in out.new k ≡ root_value self.now (first + k)) }
+    {
+        match self {
+            Root::Placed(placed) => placed.fill(alloc, first, last, out)?,
+            Root::Reduction(reduction) => reduction.fill(first, out),
+            Root::Contraction(contraction) => contraction.fill(first, out)?,
+        }
+        Ok(())
     }
 }
 

@@ -1,7 +1,8 @@
 //! Freeing tensors that no step left reads: something empty takes their place, so that the others
 //! keep their numbers.
 
-ghost use Rattle.std.specs.Prelude.{◌≡◌, ◌+◌, ◌≤◌, ◌++◌, List, length, vec_capacity};
+ghost use Rattle.std.specs.Prelude.{◌≡◌, ◌+◌, ◌<◌, ◌≤◌, ◌++◌, List, length, slice_set};
+ghost use Rattle.std.specs.Prelude.{vec_capacity};
 ghost use Rattle.tensor_ops.specs.Contents.{Contents};
 ghost use Rattle.tensor_reduce.specs.Held.{AreHeld, HasMore};
 
@@ -12,7 +13,7 @@ use std::alloc::Global;
 use tensor_ops::{Dims, Inputs, Tensor};
 
 /// Puts something empty in the place of so many tensors, which nobody has worked out or reads.
-pub(crate) fn push_freed(alloc: Global, tensors: &mut Vec<Tensor>, count: usize)
+pub(crate) fn push_freed(alloc: Global, tensors: &mut Vec<Tensor<'static>>, count: usize)
     requires { length tensors.old.items + count ≤ vec_capacity tensors.old }
     ensures more { HasMore count tensors.old.items tensors.new.items }
     ensures capacity { vec_capacity tensors.new ≡ vec_capacity tensors.old }
@@ -24,7 +25,12 @@ pub(crate) fn push_freed(alloc: Global, tensors: &mut Vec<Tensor>, count: usize)
 
 /// Frees the tensors that none of the steps left reads, from the one before the last back to
 /// the nearest that is read. Those of a tree's operands are never behind it.
-pub(crate) fn free_unread(alloc: Global, left: &[Step], inputs: &Inputs, tensors: &mut Vec<Tensor>)
+pub(crate) fn free_unread(
+    alloc: Global,
+    left: &[Step],
+    inputs: &Inputs,
+    tensors: &mut Vec<Tensor<'static>>,
+)
     ensures held { (whole : List Contents)
         → AreHeld left.now whole (inputs.now.tensors ++ tensors.old.items)
         → AreHeld left.now whole (inputs.now.tensors ++ tensors.new.items) }
@@ -39,13 +45,22 @@ pub(crate) fn free_unread(alloc: Global, left: &[Step], inputs: &Inputs, tensors
             if number >= NUMBERS || are_reading(left, number as u32) {
                 return;
             }
-            tensors[place] = freed(alloc);
+            put(tensors, place, freed(alloc));
         }
     }
 }
 
+/// Puts a tensor in the place of another one, which is freed.
+fn put(tensors: &mut Vec<Tensor<'static>>, place: usize, tensor: Tensor<'static>)
+    requires { place < length tensors.old.items }
+    ensures items { tensors.new.items ≡ slice_set tensors.old.items place tensor.entry }
+    ensures capacity { vec_capacity tensors.new ≡ vec_capacity tensors.old }
+{
+    tensors[place] = tensor;
+}
+
 /// A tensor that holds no memory.
-fn freed(alloc: Global) -> Tensor {
+fn freed(alloc: Global) -> Tensor<'static> {
     let Ok(dims) = Dims::new(&[0]) else {
         unreachable!()
     };

@@ -29,7 +29,7 @@ pub(crate) fn of_stage<RT: Threads + Wait + Sync>(
     stage: Stage<'_>,
     inputs: &Inputs,
     earlier: &[Tensor],
-) -> Result<Tensor, ForFault>
+) -> Result<Tensor<'static>, ForFault>
     requires inputs { IsTrue (has_inputs (stage_term stage)
         (length (inputs.now.tensors ++ earlier.now))) }
     requires dims { dims_of highest_rank (stage_term stage) (inputs.now.tensors ++ earlier.now)
@@ -81,7 +81,7 @@ fn of_schedule<RT: Threads + Wait + Sync>(
     dims: &Dims,
     inputs: &Inputs,
     earlier: &[Tensor],
-) -> Result<Tensor, ForFault>
+) -> Result<Tensor<'static>, ForFault>
     requires inputs { IsTrue (has_inputs (term_of expr.now)
         (length (inputs.now.tensors ++ earlier.now))) }
     requires dims { dims_of highest_rank (term_of expr.now) (inputs.now.tensors ++ earlier.now)

@@ -29,7 +29,7 @@ pub(crate) fn of_shards<RT: Threads + Wait + Sync>(
     dims: &Dims,
     inputs: &Inputs,
     earlier: &[Tensor],
-) -> Result<Tensor, ForFault>
+) -> Result<Tensor<'static>, ForFault>
     requires inputs { IsTrue (has_inputs (term_of expr.now)
         (length (inputs.now.tensors ++ earlier.now))) }
     requires dims { dims_of highest_rank (term_of expr.now) (inputs.now.tensors ++ earlier.now)

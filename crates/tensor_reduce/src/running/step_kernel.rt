@@ -26,8 +26,8 @@ impl<'a> StepKernel<'a> {
     pub fn of(
         alloc: Global,
         step: &'a Step,
-        inputs: &'a Inputs,
-        earlier: &'a [Tensor],
+        inputs: &'a Inputs<'a>,
+        earlier: &'a [Tensor<'a>],
     ) -> Result<StepKernel<'a>, AllocError>
         requires { IsReady step.now (inputs.now.tensors ++ earlier.now) }
         ensures term { IfOk result (λ kernel. kernel_term kernel ≡ term_of_step step.now) }
@@ -41,8 +41,8 @@ impl<'a> StepKernel<'a> {
     pub(crate) fn over(
         alloc: Global,
         expr: &'a Expr,
-        inputs: &'a Inputs,
-        earlier: &'a [Tensor],
+        inputs: &'a Inputs<'a>,
+        earlier: &'a [Tensor<'a>],
     ) -> Result<StepKernel<'a>, AllocError>
         requires inputs { IsTrue (has_inputs (term_of expr.now)
             (length (inputs.now.tensors ++ earlier.now))) }

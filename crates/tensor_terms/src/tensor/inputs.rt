@@ -16,12 +16,12 @@ const RANK_LIMIT: u32 = 6;
 /// A list of tensors, each known by its number from 0, and the highest rank that a result of an
 /// expression over them may have.
 #[derive(Drop)]
-pub struct Inputs {
-    tensors: Vec<Tensor>,
+pub struct Inputs<'a> {
+    tensors: Vec<Tensor<'a>>,
     rank_limit: u32,
 }
 
-impl Model for Inputs {
+impl<'a> Model for Inputs<'a> {
     ghost use Rattle.std.specs.Prelude.{◌≡◌, ◌⊎◌, length, ◌<◌, ◌^◌};
     ghost use Rattle.tensor_terms.specs.Contents.{Given, HaveRank};
 
@@ -33,12 +33,12 @@ impl Model for Inputs {
         × (((i.rank_limit ≡ 6) ⊎ (i.rank_limit ≡ 8)) × HaveRank i.rank_limit i.tensors.items) };
 }
 
-impl Inputs {
+impl<'a> Inputs<'a> {
     /// These tensors, numbered in their order. Results of expressions over them have rank 6 at most.
-    pub fn new(tensors: Vec<Tensor>) -> Inputs
+    pub fn new(tensors: Vec<Tensor<'a>>) -> Inputs<'a>
         requires few { vec_len tensors < 2 ^ 32 }
         requires rank { HaveRank 6 tensors.items }
-        ensures tensors { result.tensors ≡ tensors.items }
+        ensures tensors { result.tensors ≡ tensors.entry.items }
         ensures limit { result.rank ≡ 6 }
     {
         Inputs::with_rank(tensors, RANK_LIMIT)
@@ -46,11 +46,11 @@ impl Inputs {
 
     /// These tensors, numbered in their order. Results of expressions over them have at most this
     /// rank, which is 6 or 8.
-    pub fn with_rank(tensors: Vec<Tensor>, limit: u32) -> Inputs
+    pub fn with_rank(tensors: Vec<Tensor<'a>>, limit: u32) -> Inputs<'a>
         requires few { vec_len tensors < 2 ^ 32 }
         requires limit { (limit ≡ 6) ⊎ (limit ≡ 8) }
         requires rank { HaveRank limit tensors.items }
-        ensures tensors { result.tensors ≡ tensors.items }
+        ensures tensors { result.tensors ≡ tensors.entry.items }
         ensures limit { result.rank ≡ limit }
     {
         Inputs {
@@ -82,7 +82,7 @@ impl Inputs {
     }
 
     /// The tensor of a number.
-    pub fn get(&self, number: u32) -> &Tensor
+    pub fn get(&self, number: u32) -> &Tensor<'a>
         requires { number < length self.now.tensors }
         ensures { result.now ≡ input_of self.now.tensors number }
     {
@@ -90,10 +90,10 @@ impl Inputs {
     }
 
     /// Appends a tensor, whose number is then the old length. Its rank is within the limit.
-    pub fn push(&mut self, tensor: Tensor) -> Result<(), AllocError>
+    pub fn push(&mut self, tensor: Tensor<'a>) -> Result<(), AllocError>
         requires few { length self.old.tensors < 2 ^ 32 - 1 }
         requires rank { length tensor.dims ≤ self.old.rank }
-        ensures ok { OnOk result (self.new.tensors ≡ self.old.tensors ++ tensor ∷ []) }
+        ensures ok { OnOk result (self.new.tensors ≡ self.old.tensors ++ tensor.entry ∷ []) }
         ensures err { OnErr result (self.new ≡ self.old) }
         ensures limit { self.new.rank ≡ self.old.rank }
     {

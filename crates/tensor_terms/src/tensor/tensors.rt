@@ -9,22 +9,22 @@ use crate::tensor::inputs::Inputs;
 /// Tensors by their numbers: inputs, and behind them others.
 #[derive(Clone, Copy)]
 pub struct Tensors<'a> {
-    inputs: &'a Inputs,
-    others: &'a [Tensor],
+    inputs: &'a Inputs<'a>,
+    others: &'a [Tensor<'a>],
 }
 
 impl<'a> Tensors<'a> {
     ghost use Rattle.tensor_terms.specs.Tensors.{tensors_in};
 
     /// Inputs, and behind them others.
-    pub fn of(inputs: &'a Inputs, others: &'a [Tensor]) -> Tensors<'a>
+    pub fn of(inputs: &'a Inputs<'a>, others: &'a [Tensor<'a>]) -> Tensors<'a>
         ensures { tensors_in result ≡ inputs.now.tensors ++ others.now }
     {
         Tensors { inputs, others }
     }
 
     /// The tensor of a number.
-    pub fn get(self, number: u32) -> &'a Tensor
+    pub fn get(self, number: u32) -> &'a Tensor<'a>
         requires { number < length (tensors_in self) }
         ensures { result.now ≡ input_of (tensors_in self.entry) number }
     {

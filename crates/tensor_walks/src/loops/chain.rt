@@ -1,7 +1,7 @@
 //! Chains: operations one after the other, each on the value so far and the value of one and the
 //! same operand, which is read once for all of them.
 
-ghost use Rattle.std.specs.Prelude.{◌≡◌, ◌<◌, ℕ, pos, length, slice_index_or, vec_len, IsTrue};
+ghost use Rattle.std.specs.Prelude.{◌≡◌, ◌<◌, ℕ, pos, length, slice_index_or, IsTrue};
 ghost use Rattle.tensor_walks.specs.Chain.{chained, AreSame};
 
 use crate::loops::combine;
@@ -20,11 +20,11 @@ pub struct Link {
 }
 
 /// The values become those of the operations, one after the other, with the operand's values.
-pub fn combine_chain(links: &[Link], values: &mut Vec<i64>, operand: &[i64])
-    requires { vec_len values.old ≡ length operand.now }
-    ensures len { length values.new.items ≡ length operand.now }
-    ensures each { (k : ℕ) → k < length operand.now → slice_index_or values.new.items k (pos 0)
-        ≡ chained links.now (slice_index_or values.old.items k (pos 0))
+pub fn combine_chain(links: &[Link], values: &mut [i64], operand: &[i64])
+    requires { length values.old ≡ length operand.now }
+    ensures len { length values.new ≡ length operand.now }
+    ensures each { (k : ℕ) → k < length operand.now → slice_index_or values.new k (pos 0)
+        ≡ chained links.now (slice_index_or values.old k (pos 0))
         (slice_index_or operand.now k (pos 0)) }
 {
     for link in links {

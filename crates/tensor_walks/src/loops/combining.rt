@@ -2,10 +2,10 @@
 //! never put into a list of its own.
 
 ghost use Rattle.std.specs.Prelude.{◌≡◌, ◌<◌, ◌≤◌, ◌-◌, ◌+◌, ◌*◌, ◌/◌, ◌^◌, ℕ, pos, length};
-ghost use Rattle.std.specs.Prelude.{OnOk, slice_index_or, vec_len};
+ghost use Rattle.std.specs.Prelude.{OnOk, slice_index_or};
 ghost use Rattle.tensor_walks.specs.Loops.{either_way};
 ghost use Rattle.tensor_values.specs.Values.{value_in};
-ghost use Rattle.tensor_walks.specs.Walk.{walk_size, reached, along};
+ghost use Rattle.tensor_walks.specs.Walk.{walk_size, reached, along, has_long_rows};
 
 use crate::loops::combine_row;
 use crate::walk::{Axis, Reading, Row, rows_of};
@@ -15,14 +15,16 @@ use tensor_values::BinaryScalar;
 /// How many places rows have at least where they are read one by one.
 const SHORTEST_READ_ROW: usize = 16;
 
-/// Whether the rows along the first axis that has steps are long.
-pub fn has_long_rows(axes: &[Axis]) -> bool {
-    for axis in axes {
-        if axis.size != 1 {
-            return axis.size >= SHORTEST_READ_ROW;
-        }
+/// Whether the rows along the first axis of another size than 1 have 16 places or more. No value
+/// depends on it: it tells where [`combine_along`] is the shorter way.
+pub fn has_long_rows(axes: &[Axis]) -> bool
+    ensures { result ≡ has_long_rows axes.now }
+{
+    match axes {
+        [] => false,
+        [axis, rest @ ..] if axis.size == 1 => has_long_rows(rest),
+        [axis, ..] => axis.size >= SHORTEST_READ_ROW,
     }
-    false
 }
 
 /// The values become the operation's of them and the list's for a run of the walk's places, of
@@ -31,21 +33,21 @@ pub fn combine_along(
     alloc: Global,
     operation: BinaryScalar,
     turned: bool,
-    values: &mut Vec<i64>,
+    values: &mut [i64],
     reading: Reading<'_>,
     first: usize,
     last: usize,
 ) -> Result<(), AllocError>
     requires order { first ≤ last }
     requires within { last ≤ walk_size reading.axes.now }
-    requires same { vec_len values.old ≡ last - first }
+    requires same { length values.old ≡ last - first }
     requires inside { (p : ℕ) → p < walk_size reading.axes.now
         → reached reading.start reading.axes.now p < length reading.list.now }
     requires few { length reading.list.now < 2 ^ 32 }
-    ensures len { OnOk result (length values.new.items ≡ length values.old.items) }
+    ensures len { OnOk result (length values.new ≡ length values.old) }
     ensures each { OnOk result ((k : ℕ) → k < last - first
-        → slice_index_or values.new.items k (pos 0)
-        ≡ either_way operation turned (slice_index_or values.old.items k (pos 0))
+        → slice_index_or values.new k (pos 0)
+        ≡ either_way operation turned (slice_index_or values.old k (pos 0))
         (value_in reading.entry.list.now
         (reached reading.entry.start reading.entry.axes.now (first + k)))) }
 {
@@ -71,7 +73,7 @@ pub fn combine_along(
 fn combine_rows(
     operation: BinaryScalar,
     turned: bool,
-    values: &mut Vec<i64>,
+    values: &mut [i64],
     list: &[i64],
     rows: &[u32],
     axis: Axis,
@@ -81,12 +83,12 @@ fn combine_rows(
     requires size { 0 < axis.size }
     requires order { first ≤ last }
     requires rows { last ≤ axis.size * (first / axis.size + length rows.now) }
-    requires same { vec_len values.old ≡ last - first }
+    requires same { length values.old ≡ last - first }
     requires inside { (p : ℕ) → first ≤ p → p < last
         → along rows.now axis first p < length list.now }
-    ensures len { length values.new.items ≡ length values.old.items }
-    ensures each { (k : ℕ) → k < last - first → slice_index_or values.new.items k (pos 0)
-        ≡ either_way operation turned (slice_index_or values.old.items k (pos 0))
+    ensures len { length values.new ≡ length values.old }
+    ensures each { (k : ℕ) → k < last - first → slice_index_or values.new k (pos 0)
+        ≡ either_way operation turned (slice_index_or values.old k (pos 0))
         (value_in list.now (along rows.now axis first (first + k))) }
 {
     let mut place = first;

@@ -1,5 +1,6 @@
-use Rattle.std.proofs.Common.{◌≡◌, ◌<◌, ℕ, ℤ, pos, ◌+◌, ◌-◌, [], ◌∷◌, get_or, length, map, IfOk, refl, ap, sym, subst, ◌∙◌, rules, arith}
+use Rattle.std.proofs.Common.{◌≡◌, ◌<◌, ℕ, ℤ, pos, ◌+◌, ◌-◌, List, [], ◌∷◌, ◌++◌, get_or, length, map, take, drop, IfOk, refl, ap, sym, subst, ◌∙◌, rules, arith}
 use Rattle.std.specs.List.{range_with_len}
+use Rattle.std.proofs.Math.Seq.{take-append_seam}
 use Rattle.std.proofs.lemmas.List.FromFn.{length-range_with_len, get_or-range_with_len, length-map-range_with_len}
 use Rattle.std.proofs.lemmas.List.{length-map, get_or-map}
 use Rattle.std.proofs.lemmas.Result.{on_ok_weaker}
@@ -51,7 +52,7 @@ combine_at-returns t c =
       len = c.combine.ensures.len ∙ long;
       each = λ k below.
           c.combine.ensures.each k (rw long below)
-          ∙ ap (o (get_or c.args.values.now.items k (pos 0)))
+          ∙ ap (o (get_or c.args.values.now k (pos 0)))
           (ap (λ l. get_or l k (pos 0)) others
           ∙ get_or-map (meaning c.args.operand.now) places k 0 (pos 0) below);
     }
@@ -115,19 +116,19 @@ combine_at-returns-then-has_long_rows-clause-each t c =
     let inside : k < count = omega (arith, below, long) in
     let place : get_or (places_of c.args.places.now) k 0 ≡ first + k =
     ap (λ ps. get_or (places_of ps) k 0) c.in-Run.is ∙ get_or-range_with_len first count k 0 inside in
-    each k inside ∙ ap (λ y. o (get_or c.args.values.now.items k (pos 0)) y) (sym (c.in-Some.ensures.each (first + k)))
-    ∙ ap (λ p. o (get_or c.args.values.now.items k (pos 0)) (meaning c.args.operand.now p)) (sym place))
+    each k inside ∙ ap (λ y. o (get_or c.args.values.now k (pos 0)) y) (sym (c.in-Some.ensures.each (first + k)))
+    ∙ ap (λ p. o (get_or c.args.values.now k (pos 0)) (meaning c.args.operand.now p)) (sym place))
     c.combine_along.ensures.each
 
 pub combine_at-returns-in-Same-clause-each : goal.combine_at-returns-in-Same-clause-each
 combine_at-returns-in-Same-clause-each t c = λ k below.
     let o = either_way c.args.operation c.args.turned in
-    let old = c.args.values.now.items in
+    let old = c.args.values.now in
     let fits : SFits w64 c.in-Same.value = search rules in
     let value : ℤ = to_z w64 (of_z w64 c.in-Same.value) in
     let same : to_z w64 (of_z w64 c.in-Same.value) ≡ c.in-Same.value = simp to_z-of_z refl in
     let start : 0 + k ≡ k = omega arith in
-    ap (λ j. get_or c.combine_row.new.values.items j (pos 0)) (sym start)
+    ap (λ j. get_or c.combine_row.new.values j (pos 0)) (sym start)
     ∙ c.combine_row.ensures.each k (omega (arith, below, c.repeated.ensures.count, c.len.ensures))
     ∙ ap (λ j. o (get_or old j (pos 0)) (get_or (value ∷ []) (place_in c.repeated.result k) (pos 0))) start
     ∙ ap (λ p. o (get_or old k (pos 0)) (get_or (value ∷ []) p (pos 0))) (c.repeated.ensures.first k)
@@ -150,12 +151,18 @@ values_at-values_at-requires-in-Walk t c = (
   ),
 )
 
+-- a list of which all was written, as a slice
+all-written : (n : ℕ) (new items : List ℤ) → length new ≡ n → take n (new ++ drop (length new) items) ≡ new
+all-written n new items whole = rw (← whole) (take-append_seam new (drop (length new) items))
+
 pub values_at-returns-in_ok-values-in-Unary : goal.values_at-returns-in_ok-values-in-Unary
 values_at-returns-in_ok-values-in-Unary t c =
+    let values = c.in_ok-values-in-Unary.values in
     rw c.in-Unary.is
-    (places-applied (places_of c.args.places.now) (applied c.in-Unary.operation) (meaning c.in-Unary.operand.value)
-    c.in_ok-values-in-Unary.values.items c.apply.new.values.items
-    (c.in_ok-values-in-Unary.ensures ∙ c.in_ok-values_at-in-Unary.ensures
+    (all-written values.len c.apply.new.values values.items (c.apply.ensures.len ∙ c.deref_mut.ensures.len)
+    ∙ places-applied (places_of c.args.places.now) (applied c.in-Unary.operation) (meaning c.in-Unary.operand.value)
+    c.deref_mut.result.now c.apply.new.values
+    (c.deref_mut.ensures.value ∙ c.in_ok-values-in-Unary.ensures ∙ c.in_ok-values_at-in-Unary.ensures
     ∙ ap (λ a. map (meaning a) (places_of c.args.places.now)) c.deref.ensures)
     c.apply.ensures.len c.apply.ensures.each)
 
@@ -163,13 +170,20 @@ pub values_at-returns-in_ok-combine_at-in-Binary : goal.values_at-returns-in_ok-
 values_at-returns-in_ok-combine_at-in-Binary t c =
     let places = places_of c.args.places.now in
     let o = either_way c.in-Binary.operation c.in-Binary.turned in
+    let values = c.in_ok-values-in-Binary.values in
+    let old = c.deref_mut-in-Binary.result.now in
+    let new = c.combine_at.new.values in
+    let are : old ≡ map (meaning c.in-Binary.first.value) places =
+    c.deref_mut-in-Binary.ensures.value ∙ c.in_ok-values-in-Binary.ensures ∙ c.in_ok-values_at-in-Binary.ensures
+    ∙ ap (λ a. map (meaning a) places) c.deref-in-Binary.ensures in
+    let long : length old ≡ length places = ap length are ∙ length-map places (meaning c.in-Binary.first.value) in
     rw c.in-Binary.is
-    (places-paired places o (meaning c.in-Binary.first.value) (meaning c.in-Binary.second.value)
-    c.in_ok-values-in-Binary.values.items c.combine_at.new.values.items
-    (c.in_ok-values-in-Binary.ensures ∙ c.in_ok-values_at-in-Binary.ensures ∙ ap (λ a. map (meaning a) places) c.deref-in-Binary.ensures)
+    (all-written values.len new values.items
+    (c.in_ok-combine_at-in-Binary.ensures.len ∙ sym long ∙ c.deref_mut-in-Binary.ensures.len)
+    ∙ places-paired places o (meaning c.in-Binary.first.value) (meaning c.in-Binary.second.value) old new are
     c.in_ok-combine_at-in-Binary.ensures.len
     (λ k below. c.in_ok-combine_at-in-Binary.ensures.each k below
-    ∙ ap (λ a. o (get_or c.in_ok-values-in-Binary.values.items k (pos 0)) (meaning a (get_or places k 0))) c.deref-in-Binary-2.ensures))
+    ∙ ap (λ a. o (get_or old k (pos 0)) (meaning a (get_or places k 0))) c.deref-in-Binary-2.ensures))
 
 pub values_at-returns-in_ok-sources-in-Walk : goal.values_at-returns-in_ok-sources-in-Walk
 values_at-returns-in_ok-sources-in-Walk t c =
@@ -211,16 +225,21 @@ values_at-returns-in_ok-operand-in-Chain t c =
     let operand = c.as_slice-in-Chain.ensures.value ∙ c.in_ok-operand-in-Chain.ensures
     ∙ ap (λ a. map (meaning a) places) c.deref-in-Chain-2.ensures in
     let links = c.deref-in-Chain-3.ensures.value in
+    let values = c.in_ok-values-in-Chain.values in
+    let old = c.deref_mut-in-Chain.result.now in
+    let new = c.combine_chain.new.values in
+    let are : old ≡ map (meaning c.in-Chain.first.value) places =
+    c.deref_mut-in-Chain.ensures.value ∙ c.in_ok-values-in-Chain.ensures ∙ c.in_ok-values_at-in-Chain.ensures
+    ∙ ap (λ a. map (meaning a) places) c.deref-in-Chain.ensures in
+    let first_long : length old ≡ length places = ap length are ∙ length-map places (meaning c.in-Chain.first.value) in
+    let long : length new ≡ length places = c.combine_chain.ensures.len ∙ ap length operand ∙ length-map places second in
     rw c.in-Chain.is
-    (places-paired places (chained c.in-Chain.links.items) (meaning c.in-Chain.first.value) second
-    c.in_ok-values-in-Chain.values.items c.combine_chain.new.values.items
-    (c.in_ok-values-in-Chain.ensures ∙ c.in_ok-values_at-in-Chain.ensures
-    ∙ ap (λ a. map (meaning a) places) c.deref-in-Chain.ensures)
-    (c.combine_chain.ensures.len ∙ ap length operand ∙ length-map places second)
+    (all-written values.len new values.items (long ∙ sym first_long ∙ c.deref_mut-in-Chain.ensures.len)
+    ∙ places-paired places (chained c.in-Chain.links.items) (meaning c.in-Chain.first.value) second old new are long
     (λ k below. c.combine_chain.ensures.each k (rw (ap length operand ∙ length-map places second) below)
-    ∙ ap (λ ls. chained ls (get_or c.in_ok-values-in-Chain.values.items k (pos 0)) (get_or c.as_slice-in-Chain.result.now k (pos 0))) links
-    ∙ ap (λ l. chained c.in-Chain.links.items (get_or c.in_ok-values-in-Chain.values.items k (pos 0)) (get_or l k (pos 0))) operand
-    ∙ ap (λ y. chained c.in-Chain.links.items (get_or c.in_ok-values-in-Chain.values.items k (pos 0)) y) (get_or-map second places k 0 (pos 0) below)))
+    ∙ ap (λ ls. chained ls (get_or old k (pos 0)) (get_or c.as_slice-in-Chain.result.now k (pos 0))) links
+    ∙ ap (λ l. chained c.in-Chain.links.items (get_or old k (pos 0)) (get_or l k (pos 0))) operand
+    ∙ ap (λ y. chained c.in-Chain.links.items (get_or old k (pos 0)) y) (get_or-map second places k 0 (pos 0) below)))
 
 pub values_at-values_at-requires-in-Select : goal.values_at-values_at-requires-in-Select
 values_at-values_at-requires-in-Select t c =
@@ -254,16 +273,26 @@ values_at-values_at-requires-in-Select-3 t c =
 
 pub values_at-returns-in_ok-third-in-Select : goal.values_at-returns-in_ok-third-in-Select
 values_at-returns-in_ok-third-in-Select t c =
+    let places = places_of c.args.places.now in
+    let values = c.in_ok-values-in-Select.values in
+    let old = c.deref_mut-in-Select.result.now in
+    let new = c.select.new.values in
+    let are : old ≡ map (meaning c.in-Select.first.value) places =
+    c.deref_mut-in-Select.ensures.value ∙ c.in_ok-values-in-Select.ensures ∙ c.in_ok-values_at-in-Select.ensures
+    ∙ ap (λ a. map (meaning a) places) c.deref-in-Select.ensures in
+    let second : c.as_slice-in-Select.result.now ≡ map (meaning c.in-Select.second.value) places =
+    c.as_slice-in-Select.ensures.value ∙ c.in_ok-second-in-Select.ensures
+    ∙ ap (λ a. map (meaning a) places) c.deref-in-Select-2.ensures in
+    let first_long : length old ≡ length places = ap length are ∙ length-map places (meaning c.in-Select.first.value) in
+    let long : length new ≡ length places =
+    c.select.ensures.len ∙ ap length second ∙ length-map places (meaning c.in-Select.second.value) in
     rw c.in-Select.is
-    (places-selected (places_of c.args.places.now) (selected c.in-Select.order)
+    (all-written values.len new values.items (long ∙ sym first_long ∙ c.deref_mut-in-Select.ensures.len)
+    ∙ places-selected places (selected c.in-Select.order)
     (meaning c.in-Select.first.value) (meaning c.in-Select.second.value) (meaning c.in-Select.third.value)
-    c.in_ok-values-in-Select.values.items c.as_slice-in-Select.result.now c.as_slice-in-Select-2.result.now c.select.new.values.items
-    (c.in_ok-values-in-Select.ensures ∙ c.in_ok-values_at-in-Select.ensures
-    ∙ ap (λ a. map (meaning a) (places_of c.args.places.now)) c.deref-in-Select.ensures)
-    (c.as_slice-in-Select.ensures.value ∙ c.in_ok-second-in-Select.ensures
-    ∙ ap (λ a. map (meaning a) (places_of c.args.places.now)) c.deref-in-Select-2.ensures)
+    old c.as_slice-in-Select.result.now c.as_slice-in-Select-2.result.now new are second
     (c.as_slice-in-Select-2.ensures.value ∙ c.in_ok-third-in-Select.ensures
-    ∙ ap (λ a. map (meaning a) (places_of c.args.places.now)) c.deref-in-Select-3.ensures)
+    ∙ ap (λ a. map (meaning a) places) c.deref-in-Select-3.ensures)
     c.select.ensures.len c.select.ensures.each)
 
 pub values_at-returns-in_ok-values-in-Same : goal.values_at-returns-in_ok-values-in-Same

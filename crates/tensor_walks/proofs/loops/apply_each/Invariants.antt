@@ -5,6 +5,6 @@ use Rattle.tensor_walks.proofs.loops.apply_each.Given as goal
 
 abbrev pub invariant-loop-place : goal.invariant-loop-place
 invariant-loop-place l =
-    (length l.values.items ≡ length l.initial.values.items)
-    × ((k : ℕ) → k < l.place → slice_index_or l.values.items k (pos 0) ≡ applied l.operation (slice_index_or l.initial.values.items k (pos 0)))
-    × ((k : ℕ) → l.place ≤ k → slice_index_or l.values.items k (pos 0) ≡ slice_index_or l.initial.values.items k (pos 0))
+    (length l.values ≡ length l.initial.values)
+    × ((k : ℕ) → k < l.place → slice_index_or l.values k (pos 0) ≡ applied l.operation (slice_index_or l.initial.values k (pos 0)))
+    × ((k : ℕ) → l.place ≤ k → slice_index_or l.values k (pos 0) ≡ slice_index_or l.initial.values k (pos 0))

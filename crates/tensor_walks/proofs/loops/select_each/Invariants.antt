@@ -5,7 +5,7 @@ use Rattle.tensor_walks.proofs.loops.select_each.Given as goal
 
 abbrev pub invariant-loop-place : goal.invariant-loop-place
 invariant-loop-place l =
-    (length l.values.items ≡ length l.second)
-    × ((k : ℕ) → k < l.place → slice_index_or l.values.items k (pos 0)
-    ≡ selected l.order (slice_index_or l.initial.values.items k (pos 0)) (slice_index_or l.second k (pos 0)) (slice_index_or l.third k (pos 0)))
-    × ((k : ℕ) → l.place ≤ k → slice_index_or l.values.items k (pos 0) ≡ slice_index_or l.initial.values.items k (pos 0))
+    (length l.values ≡ length l.second)
+    × ((k : ℕ) → k < l.place → slice_index_or l.values k (pos 0)
+    ≡ selected l.order (slice_index_or l.initial.values k (pos 0)) (slice_index_or l.second k (pos 0)) (slice_index_or l.third k (pos 0)))
+    × ((k : ℕ) → l.place ≤ k → slice_index_or l.values k (pos 0) ≡ slice_index_or l.initial.values k (pos 0))

@@ -21,12 +21,12 @@ loop-behind-preserved c =
           omega (arith, c.len-in-loop-behind.ensures, c.loop-behind-test.true) in
           let unread : are_reading number left ≡ false =
           sym w.are_reading.ensures ∙ w.if-are_reading.false in
-          rw w.tensors-is (record {
+          rw (w.tensors-is, w.put.ensures.items) (record {
             held = λ whole are.
                 AreHeld-set left whole inputs items number place w.freed.result there before unread
                 (inv.held whole are);
             len = length-set items place w.freed.result ∙ inv.len;
-            capacity = inv.capacity;
+            capacity = w.put.ensures.capacity ∙ inv.capacity;
           })
       | else-not-is_empty w ↦ rw w.tensors-is inv
     ]

@@ -15,5 +15,5 @@ loop-link-preserved c =
           let y : ℤ = get_or c.args.operand.now k (pos 0) in
           c.combine.ensures.each k below
           ∙ ap (λ x. either_way link.operation link.turned x y) (inv.each k below)
-          ∙ sym (chained-next links i no_link (get_or c.args.values.now.items k (pos 0)) y c.loop-link-test.true);
+          ∙ sym (chained-next links i no_link (get_or c.args.values.now k (pos 0)) y c.loop-link-test.true);
     }

@@ -36,7 +36,7 @@ loop-start-preserved c =
           (rows-more (either_way c.args.operation c.args.turned)
           (λ k. value_in c.args.list.now (along c.args.rows.now axis first (first + k)))
           (λ k. value_in c.args.list.now (get_or c.args.rows.now c.loop-start.start-index 0 + steps_to axis (c.loop-start.from + k) * axis.step))
-          c.args.values.now.items c.loop-start.values.items c.combine_row.new.values.items (place - first) c.min-count.result
+          c.args.values.now c.loop-start.values c.combine_row.new.values (place - first) c.min-count.result
           inv.each inv.after c.combine_row.ensures.before c.combine_row.ensures.each
           (λ k below. ap (value_in c.args.list.now) (sym
           (along-row c.args.rows.now axis first c.loop-start.start-index (c.loop-start.from + k) (first + (place - first + k))

@@ -11,10 +11,10 @@ invariant-loop-start l = record {
   below : l.place ≤ l.last;
   index : l.from < l.axis.size;
   here : l.place < l.last → l.place ≡ l.from + l.axis.size * (l.first / l.axis.size + l.start-index);
-  len : length l.values.items ≡ length l.initial.values.items;
-  each : (k : ℕ) → k < l.place - l.first → slice_index_or l.values.items k (pos 0)
-      ≡ either_way l.operation l.turned (slice_index_or l.initial.values.items k (pos 0))
+  len : length l.values ≡ length l.initial.values;
+  each : (k : ℕ) → k < l.place - l.first → slice_index_or l.values k (pos 0)
+      ≡ either_way l.operation l.turned (slice_index_or l.initial.values k (pos 0))
       (value_in l.list (along l.rows l.axis l.first (l.first + k)));
   after : (k : ℕ) → l.place - l.first ≤ k
-      → slice_index_or l.values.items k (pos 0) ≡ slice_index_or l.initial.values.items k (pos 0);
+      → slice_index_or l.values k (pos 0) ≡ slice_index_or l.initial.values k (pos 0);
 }
