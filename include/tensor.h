@@ -8,12 +8,14 @@
 
    The values are those of the tensors, one tensor after the other in the order of their names by
    bytes, each column-major: the first index runs fastest. It asks for what the text asks for in
-   which each tensor also has its values in `data`, and has the same fault. All work is done on the
-   thread that calls; `workers` and `block` are checked, and change nothing.
+   which each tensor also has its values in `data`, however long that text would be, and has the
+   same fault. All work is done on the thread that calls; `workers` and `block` are checked, and
+   change nothing.
 
    What a caller owes:
    - Each pointer is to as many elements as its length says, aligned as its type is; it may not be
-     null, even where the length is 0. No length is above 2^60.
+     null, even where the length is 0. No list takes 2^63 bytes or more: so the lengths of
+     `values`, `out` and `dims` are below 2^60, and that of `arrays` is below 2^59.
    - What is written to, `out`, `dims` and `name`, overlaps nothing else that the call is given, and
      nobody else reads or writes it during the call. What is read, nobody writes during the call.
    - Calls may be made from any number of threads at once, but not from a signal handler, and not
@@ -35,7 +37,7 @@ extern "C" {
 #endif
 
 /* The version of the library, as the file VERSION has it. */
-#define TENSOR_VERSION "1.0.0"
+#define TENSOR_VERSION "2.0.0"
 
 /* The most values of a tensor, and so the most that an answer has. */
 #define TENSOR_MOST_VALUES 1048576
@@ -49,6 +51,12 @@ extern "C" {
 /* What is returned where `out`, `dims` or `name` has too little room. */
 #define TENSOR_NO_ROOM (-100)
 
+/* The values of one tensor, where they lie. */
+struct tensor_array {
+    const int64_t *values;
+    size_t length;
+};
+
 /* Writes the tensor of a frame: its values into `out`, and into `dims` its rank and then its dims.
    Returns how many values there are. Where the frame has a fault it returns the fault's number,
    negated (-1 to -15, docs/REQUEST.md), and where `out` or `dims` has too little room
@@ -57,6 +65,35 @@ int64_t tensor_evaluate(const uint8_t *header, size_t header_length,
                         const int64_t *values, size_t values_length,
                         int64_t *out, size_t out_length,
                         uint64_t *dims, size_t dims_length);
+
+/* Writes values of the tensor of a frame into `out`, from place `first` on: as many as there are and
+   as there is room for. Returns how many those are, 0 where `first` is past the last one. Faults are
+   returned as by tensor_evaluate, and then nothing is written; but for want of memory (-15), which
+   may leave anything in `out`. What stands behind what is written stays.
+
+   Calls with the same header and values are parts of one answer, whatever thread makes each and
+   whenever: a call from place 0 into room for n values, one from place n on, and so on until all
+   values that tensor_dims tells are there, write what tensor_evaluate writes. So threads of the
+   caller share one answer, each with a range of one list. Values are written where they are wanted,
+   and no list of them is made in between.
+
+   What lies below the outermost operation is worked out by each part anew, where it isn't worked out
+   place by place: reductions, contractions and convolutions, and what a reduction takes that is no
+   input. So parts pay for operations on each value and movements, with nothing but these and inputs
+   below; for reductions of an input to many values; and for contractions and convolutions of
+   inputs. Else the whole costs little more than a part of it. Each call also reads the header. */
+int64_t tensor_evaluate_part(const uint8_t *header, size_t header_length,
+                             const int64_t *values, size_t values_length,
+                             uint64_t first, int64_t *out, size_t out_length);
+
+/* Does the same where the tensors' values don't lie one behind the other: each tensor has an array
+   of its own, the arrays in the order of the names. Where each has as many values as its tensor has
+   places, it is the frame with the values of all joined. Other lengths, and more or fewer arrays
+   than tensors, are fault 7, and more values in all than a frame may have are fault 1. `count` of
+   tensor_dims is how many values the arrays have together. */
+int64_t tensor_evaluate_arrays(const uint8_t *header, size_t header_length,
+                               const struct tensor_array *arrays, size_t count,
+                               uint64_t first, int64_t *out, size_t out_length);
 
 /* Writes the rank and the dims of the tensor of a frame with this header and `count` values,
    whatever these are, and returns how many values the tensor has. None is worked out. Faults, and

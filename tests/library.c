@@ -1,13 +1,17 @@
 /* Calls the library on frames for tests/library, which builds it of this file and libtensor.a:
      library FILE                  prints the answer of each frame of the file, a line each
-     library FILE THREADS SECONDS  answers them again and again on so many threads for so long
+     library FILE THREADS SECONDS  answers each of them by a part a thread, on so many threads; then
+                                   each whole and by a part on each thread, and again for so long
      library FILE refuse           refuses each request for memory of each call in turn
-   FILE has frames: two numbers of 64 bits, h and v, then h bytes of header, then v values. The
+   Before that each is answered whole, and by parts of drawn sizes, with the values joined and with
+   an array a tensor. FILE has frames: two numbers of 64 bits, h and v, then h bytes of header, then
+   v values; FILE.arrays how many arrays each has, and how long each is, or 2^64 - 1. The
    memory that the library takes is counted, and refused, by --wrap=malloc,realloc,free. The status
    is 0 where all is well, and else 1, with a line on standard error. */
 
 #define _GNU_SOURCE
 #include <inttypes.h>
+#include <malloc.h>
 #include <pthread.h>
 #include <stdatomic.h>
 #include <stdbool.h>
@@ -18,12 +22,16 @@
 
 #include "tensor.h"
 
-enum { SPARE = 3, SENTINEL = 77, MOST_RUNS = 10000 };
+enum { SPARE = 3, SENTINEL = 77, MOST_RUNS = 10000, MOST_THREADS = 64, FROM_SYSTEM = 1 << 17 };
 
 struct frame {
     const uint8_t *header;
     const int64_t *values;
     size_t header_length, values_length;
+    /* The same values, an array a tensor, if it is known how long each is. */
+    struct tensor_array *arrays;
+    size_t array_count;
+    bool has_arrays;
     /* The answer of the first call: its result, and the values and dims behind it. */
     int64_t result;
     int64_t *out;
@@ -122,6 +130,38 @@ static void read_frames(const char *path)
     __real_free(bytes);
 }
 
+/* The next number of bytes that are read. */
+static uint64_t number(const uint8_t *bytes, size_t *at)
+{
+    uint64_t found;
+    memcpy(&found, bytes + *at, sizeof found);
+    *at += sizeof found;
+    return found;
+}
+
+/* Reads how long the arrays of each frame are, and gives each a block of its own. */
+static void read_arrays(const char *path)
+{
+    char beside[4096];
+    snprintf(beside, sizeof beside, "%s.arrays", path);
+    size_t size, at = 0;
+    uint8_t *bytes = contents(beside, &size);
+    for (size_t i = 0; i < frame_count; i++) {
+        struct frame *it = &frames[i];
+        uint64_t count = number(bytes, &at);
+        it->has_arrays = count != UINT64_MAX;
+        it->array_count = it->has_arrays ? count : 0;
+        it->arrays = __real_malloc((it->array_count + 1) * sizeof *it->arrays);
+        const uint8_t *values = (const uint8_t *)it->values;
+        for (size_t k = 0; k < it->array_count; k++) {
+            size_t length = number(bytes, &at);
+            it->arrays[k] = (struct tensor_array){copied(values, 8 * length), length};
+            values += 8 * length;
+        }
+    }
+    __real_free(bytes);
+}
+
 /* Answers a frame. What stands behind the room that the library is given has to stay. */
 static int64_t answer(const struct frame *it, int64_t *out, size_t room, uint64_t *dims)
 {
@@ -152,6 +192,101 @@ static void too_little_room(const struct frame *it, size_t room)
     if (dims[0] != 0)
         fail("dims written where there is too little room");
     __real_free(out);
+}
+
+/* A list of so many elements with others before and behind it, which have to stay. */
+static int64_t *guarded(size_t room)
+{
+    int64_t *list = __real_malloc((room + 2 * SPARE) * sizeof *list);
+    if (!list)
+        fail("no memory");
+    for (size_t place = 0; place < room + 2 * SPARE; place++)
+        list[place] = SENTINEL;
+    return list + SPARE;
+}
+
+static void free_guarded(int64_t *list, size_t room)
+{
+    for (size_t place = 0; place < SPARE; place++)
+        if (list[(ptrdiff_t)place - SPARE] != SENTINEL || list[room + place] != SENTINEL)
+            fail("a part is written past its room");
+    __real_free(list - SPARE);
+}
+
+/* How many values a part has, of as many as the frame's answer has. */
+static size_t part_size(const struct frame *it, uint64_t first, size_t room)
+{
+    uint64_t size = it->result > 0 ? (uint64_t)it->result : 0;
+    uint64_t left = size > first ? size - first : 0;
+    return left < room ? (size_t)left : room;
+}
+
+/* Answers a part of a frame, its values from a place on: with the values joined, or by arrays. */
+static int64_t answer_part(const struct frame *it, bool by_arrays, uint64_t first, int64_t *out,
+                           size_t room)
+{
+    int64_t before = held, result;
+    if (by_arrays)
+        result = tensor_evaluate_arrays(it->header, it->header_length, it->arrays,
+                                        it->array_count, first, out, room);
+    else
+        result = tensor_evaluate_part(it->header, it->header_length, it->values,
+                                      it->values_length, first, out, room);
+    if (held != before)
+        fail("a call for a part keeps memory");
+    return result;
+}
+
+/* Answers a part, and sees that it is that of the first answer, and that the rest of its room is as
+   it was; or else that there is no memory, where it is refused. */
+static void check_part_by(const struct frame *it, bool by_arrays, uint64_t first, size_t room)
+{
+    int64_t *out = guarded(room);
+    size_t count = part_size(it, first, room);
+    int64_t result = answer_part(it, by_arrays, first, out, room);
+    if (result != -15 || !was_refused) {
+        if (result != (it->result < 0 ? it->result : (int64_t)count))
+            fail("another number of values in a part");
+        if (count > 0 && memcmp(out, it->out + first, count * sizeof *out))
+            fail("other values in a part");
+        for (size_t place = count; place < room; place++)
+            if (out[place] != SENTINEL)
+                fail("written behind the values of a part");
+    }
+    free_guarded(out, room);
+}
+
+static void check_part(const struct frame *it, uint64_t first, size_t room)
+{
+    check_part_by(it, false, first, room);
+    if (it->has_arrays)
+        check_part_by(it, true, first, room);
+}
+
+/* The next of numbers that are drawn, below this one. */
+static uint64_t drawn(uint64_t *state, uint64_t below)
+{
+    *state = *state * 6364136223846793005u + 1442695040888963407u;
+    return (*state >> 33) % below;
+}
+
+/* Parts of a frame: of no values, of one, of all, past the end, and of drawn sizes one behind the
+   other up to the end and over it. */
+static void check_parts(const struct frame *it, uint64_t *state)
+{
+    size_t size = part_size(it, 0, SIZE_MAX);
+    check_part(it, 0, 0);
+    check_part(it, 0, size);
+    check_part(it, 0, size + 1);
+    check_part(it, size, 1);
+    check_part(it, size + 1, 2);
+    check_part(it, UINT64_MAX, 2);
+    check_part(it, drawn(state, size + 1), 1);
+    for (uint64_t first = 0; first < size;) {
+        size_t room = 1 + (size_t)drawn(state, size / 2 + 2);
+        check_part(it, first, room);
+        first += room;
+    }
 }
 
 /* The first answer of a frame, whose dims were asked for before it. */
@@ -207,18 +342,60 @@ static int64_t again(const struct frame *it, bool *is_same)
 
 static atomic_bool is_over;
 static atomic_ullong calls;
+static uint64_t thread_count;
+static pthread_barrier_t turn;
+static int64_t *shared;
 
-static void *answer_on(void *nothing)
+/* Works a frame's answer out with the other threads, each of which writes its part of one list. */
+static void answer_together(const struct frame *it, uint64_t thread)
 {
-    (void)nothing;
+    size_t size = part_size(it, 0, SIZE_MAX);
+    if (thread == 0)
+        shared = guarded(size);
+    pthread_barrier_wait(&turn);
+    size_t first = size * thread / thread_count, end = size * (thread + 1) / thread_count;
+    bool by_arrays = it->has_arrays && thread % 2 == 1;
+    int64_t result = answer_part(it, by_arrays, first, shared + first, end - first);
+    if (result != (it->result < 0 ? it->result : (int64_t)(end - first)))
+        fail("another number of values in a thread's part");
+    pthread_barrier_wait(&turn);
+    if (thread == 0) {
+        if (size > 0 && memcmp(shared, it->out, size * sizeof *shared))
+            fail("other values in parts of several threads");
+        free_guarded(shared, size);
+    }
+}
+
+/* Answers a frame whole, and a part of it that is drawn. */
+static void answer_both(size_t at, uint64_t *state)
+{
+    const struct frame *it = &frames[at];
+    bool is_same;
+    again(it, &is_same);
+    if (!is_same)
+        fail("another answer on another thread");
+    size_t size = part_size(it, 0, SIZE_MAX);
+    check_part_by(it, it->has_arrays && at % 2 == 1, drawn(state, size + 1),
+                  (size_t)drawn(state, size + 2));
+    calls += 2;
+}
+
+static void *answer_once(void *number)
+{
+    uint64_t thread = (uint64_t)(uintptr_t)number, state = thread;
+    for (size_t at = 0; at < frame_count; at++) {
+        answer_together(&frames[at], thread);
+        answer_both(at, &state);
+    }
+    return NULL;
+}
+
+static void *answer_on(void *number)
+{
+    uint64_t state = (uint64_t)(uintptr_t)number;
     while (!is_over)
-        for (size_t at = 0; at < frame_count && !is_over; at++) {
-            bool is_same;
-            again(&frames[at], &is_same);
-            if (!is_same)
-                fail("another answer on another thread");
-            calls++;
-        }
+        for (size_t at = 0; at < frame_count && !is_over; at++)
+            answer_both(at, &state);
     return NULL;
 }
 
@@ -239,42 +416,83 @@ static void sleep_for(double seconds)
     nanosleep(&time, NULL);
 }
 
-static void answer_on_threads(int count, double seconds)
+static void start(pthread_t *threads, void *(*work)(void *))
 {
-    pthread_t threads[64];
-    for (int i = 0; i < count; i++)
-        if (pthread_create(&threads[i], NULL, answer_on, NULL))
+    for (uint64_t i = 0; i < thread_count; i++)
+        if (pthread_create(&threads[i], NULL, work, (void *)(uintptr_t)i))
             fail("no thread");
-    sleep_for(seconds / 2);
-    long before = resident();
-    sleep_for(seconds / 2);
-    long after = resident();
-    is_over = true;
-    for (int i = 0; i < count; i++)
-        pthread_join(threads[i], NULL);
-    printf("%llu calls on %d threads, %ld KiB more in the second half\n", calls, count,
-           after - before);
 }
 
-/* Refuses the first request for memory of a call, then the second, and so on. */
-static void refuse_each(void)
+static void join(pthread_t *threads)
+{
+    for (uint64_t i = 0; i < thread_count; i++)
+        pthread_join(threads[i], NULL);
+}
+
+static void answer_on_threads(int count, double seconds)
+{
+    pthread_t threads[MOST_THREADS];
+    /* Large blocks go back to the system where they are freed, so what stays is what is held. */
+    mallopt(M_MMAP_THRESHOLD, FROM_SYSTEM);
+    thread_count = (uint64_t)count;
+    if (count > MOST_THREADS || pthread_barrier_init(&turn, NULL, (unsigned)count))
+        fail("no threads");
+    start(threads, answer_once);
+    join(threads);
+    long before = resident();
+    start(threads, answer_on);
+    sleep_for(seconds);
+    is_over = true;
+    join(threads);
+    printf("%llu calls on %d threads, %ld KiB more than when all was answered once\n", calls,
+           count, resident() - before);
+}
+
+/* A call of the library that is right, or finds no memory where that is refused. */
+static void call_whole(const struct frame *it)
+{
+    bool is_same;
+    int64_t result = again(it, &is_same);
+    if (!is_same && (result != -15 || !was_refused))
+        fail("another answer where memory is refused");
+}
+
+static void call_part(const struct frame *it)
+{
+    size_t size = part_size(it, 0, SIZE_MAX);
+    check_part_by(it, false, size / 3, size / 3 + 1);
+}
+
+static void call_arrays(const struct frame *it)
+{
+    size_t size = part_size(it, 0, SIZE_MAX);
+    check_part_by(it, true, size / 3, size / 3 + 1);
+}
+
+/* Refuses the first request for memory of a call, then the second, and so on. How many were. */
+static size_t refuse_each(const struct frame *it, void (*call)(const struct frame *))
+{
+    for (size_t given = 0; given < MOST_RUNS; given++) {
+        left = (int64_t)given;
+        was_refused = false;
+        call(it);
+        left = -1;
+        if (!was_refused)
+            return given;
+    }
+    fail("no end of requests for memory");
+    return 0;
+}
+
+static void refuse_all(void)
 {
     size_t refusals = 0;
-    for (size_t at = 0; at < frame_count; at++)
-        for (int64_t given = 0;; given++) {
-            bool is_same;
-            left = given;
-            was_refused = false;
-            int64_t result = again(&frames[at], &is_same);
-            left = -1;
-            if (!is_same && result != -15)
-                fail("another answer where memory is refused");
-            if (!was_refused)
-                break;
-            refusals++;
-            if (given == MOST_RUNS)
-                fail("no end of requests for memory");
-        }
+    for (size_t at = 0; at < frame_count; at++) {
+        const struct frame *it = &frames[at];
+        refusals += refuse_each(it, call_whole) + refuse_each(it, call_part);
+        if (it->has_arrays)
+            refusals += refuse_each(it, call_arrays);
+    }
     printf("%zu requests for memory refused\n", refusals);
 }
 
@@ -283,12 +501,16 @@ int main(int count, char **words)
     if (count < 2)
         fail("which frames?");
     read_frames(words[1]);
-    for (size_t at = 0; at < frame_count; at++)
+    read_arrays(words[1]);
+    uint64_t state = 1;
+    for (size_t at = 0; at < frame_count; at++) {
         first_answer(&frames[at]);
+        check_parts(&frames[at], &state);
+    }
     if (count == 4)
         answer_on_threads(atoi(words[2]), atof(words[3]));
     else if (count == 3)
-        refuse_each();
+        refuse_all();
     else
         for (size_t at = 0; at < frame_count; at++)
             print(&frames[at]);

@@ -15,7 +15,8 @@ use Rattle.serde_json.specs.Events.{members_len}
 use Rattle.serde_json.specs.Find.{get_member, get, as_object}
 use Rattle.serde_json.specs.Read.{number_of, of_json, of_items, of_members, max_depth, read}
 use Rattle.tensor_ops.specs.Contents.{Contents}
-use Rattle.expr_reader.specs.Behind.{tensors_by, place_by, naming_by}
+use Rattle.expr_reader.specs.Arrays.{array_tensor, array_tensors}
+use Rattle.expr_reader.specs.Behind.{Source, in_text, behind, apart, tensors_by, place_by, naming_by}
 use Rattle.expr_reader.specs.Counted.{member_count, count_in_items, count_in_members}
 use Rattle.expr_reader.specs.Fields.{Fields, has_members, cons_of, fields_of, reading}
 use Rattle.expr_reader.specs.Frame.{none_left, framed_tensor, framed_tensors}
@@ -196,17 +197,30 @@ AtMost-framed_tensors rank values (member name d ms) =
     (AtMost-framed_tensors rank (drop (length t.values) values) ms))
     (framed_tensor rank values d) (AtMost-none (framed_tensor rank values d))
 
-AtMost-tensors_by : (left : Option (List ℤ)) (rank : ℕ) (ms : Members)
-    → AtMost length (count_in_members ms) (tensors_by left rank ms)
-AtMost-tensors_by None rank ms = AtMost-tensors_in rank ms
-AtMost-tensors_by (Some values) rank ms = AtMost-framed_tensors rank values ms
+AtMost-array_tensors : (rank : ℕ) (arrays : List (List ℤ)) (ms : Members)
+    → AtMost length (count_in_members ms) (array_tensors rank arrays ms)
+AtMost-array_tensors rank [] no_members = omega arith
+AtMost-array_tensors rank [] (member name d ms) = tt
+AtMost-array_tensors rank (values ∷ arrays) no_members = tt
+AtMost-array_tensors rank (values ∷ arrays) (member name d ms) =
+    AtMost-and_then (λ t. 0) length 0 (count_in_members (member name d ms))
+    (λ t. option_map (λ ts. t ∷ ts) (array_tensors rank arrays ms))
+    (λ t none. AtMost-option_map length length (count_in_members ms) (count_in_members (member name d ms))
+    (λ ts. t ∷ ts) (λ ts few. omega arith) (array_tensors rank arrays ms) (AtMost-array_tensors rank arrays ms))
+    (array_tensor rank values d) (AtMost-none (array_tensor rank values d))
+
+AtMost-tensors_by : (source : Source) (rank : ℕ) (ms : Members)
+    → AtMost length (count_in_members ms) (tensors_by source rank ms)
+AtMost-tensors_by in_text rank ms = AtMost-tensors_in rank ms
+AtMost-tensors_by (behind values) rank ms = AtMost-framed_tensors rank values ms
+AtMost-tensors_by (apart arrays) rank ms = AtMost-array_tensors rank arrays ms
 
 -- what is read is there
 or_place-Ok : (place : Members → List Step) (d : Data) (named : Option Named) (n : Named) → or_place place d named ≡ Ok n → named ≡ Some n
 or_place-Ok place d None n is = (cc)
 or_place-Ok place d (Some m) n is = let same : m ≡ n = cc in ap Some same
 
-pub length-naming_by : (left : Option (List ℤ)) (rank : ℕ) (d : Data) (n : Named) → naming_by left rank d ≡ Ok n
+pub length-naming_by : (left : Source) (rank : ℕ) (d : Data) (n : Named) → naming_by left rank d ≡ Ok n
     → length n.tensors ≤ member_count d
 length-naming_by left rank d n is =
     subst (AtMost tensor_count (member_count d)) (or_place-Ok (place_by left rank) d (named_by (tensors_by left rank) d) n is) (all d)

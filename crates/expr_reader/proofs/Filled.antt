@@ -274,7 +274,7 @@ below-same i (Ok n) (Err l) next is = (cc)
 below-same i (Err k) (Ok m) next is = (cc)
 below-same i (Err k) (Err l) next is = let same : k.fault ≡ l.fault = cc in ap Err same
 
-fields_asked-same : (read other : Naming) (f : Fields) (inputs : Data)
+pub fields_asked-same : (read other : Naming) (f : Fields) (inputs : Data)
     → ((rank : ℕ) → unlocated (read rank f.inputs) ≡ unlocated (other rank inputs))
     → unlocated (fields_asked read f) ≡ unlocated (fields_asked other (record f { inputs = inputs }))
 fields_asked-same read other f inputs same =
@@ -288,7 +288,7 @@ fields_asked-same read other f inputs same =
     (tree_asked f p workers block) (same p.rank))))
 
 -- the same names and tensors, wherever a fault is
-or_place-same : (place other : Members → List Step) (d e : Data) (named same : Option Named) → named ≡ same
+pub or_place-same : (place other : Members → List Step) (d e : Data) (named same : Option Named) → named ≡ same
     → unlocated (or_place place d named) ≡ unlocated (or_place other e same)
 or_place-same place other d e named same is =
     subst (λ o. unlocated (or_place place d named) ≡ unlocated (or_place other e o)) is (by_names named)

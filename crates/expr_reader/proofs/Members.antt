@@ -1,7 +1,7 @@
 -- Members taken one after another.
 use Rattle.std.proofs.Common.{◌≡◌, ℕ, zero, suc, ◌+◌, ◌≤◌, List, [], ◌∷◌, ◌++◌, length, Option, Some, None}
 use Rattle.std.proofs.Common.{String, Global, string_bytes, refl, ap, sym, ◌∙◌, if◌then◌else◌, arith}
-use Rattle.std.proofs.Common.{ℤ, Bool, drop, option_map}
+use Rattle.std.proofs.Common.{Bool}
 use Rattle.std.proofs.Common.{length-append}
 use Rattle.std.specs.List.{position_from}
 use Rattle.std.specs.Option.{option_or}
@@ -10,67 +10,78 @@ use Rattle.serde_json.specs.Data.{Data, Members, no_members, member}
 use Rattle.serde_json.specs.View.{view, members_view}
 use Rattle.serde_json.specs.declared.value.Value.{Value}
 use Rattle.tensor_ops.specs.Contents.{Contents, HaveRank}
-use Rattle.expr_reader.specs.Behind.{tensor_by, tensors_by, place_by, is_end}
+use Rattle.expr_reader.specs.Behind.{Source, in_text, behind, apart, tensor_by, left_by, tensors_by, place_by, is_end}
 use Rattle.expr_reader.specs.Fields.{cons_of}
 use Rattle.expr_reader.specs.Place.{field}
 use Rattle.expr_reader.specs.Tensors.{names_in}
 use Rattle.expr_reader.proofs.Lists.{after, after-cons_of}
 use Rattle.expr_reader.proofs.Numbers.{position_from-cons, option_or-option_or}
 
-module _ (left : Option (List ℤ)) (rank : ℕ) where
+module _ (left : Source) (rank : ℕ) where
   module _ (name : List ℕ) (d : Data) (ms : Members) where
     -- a tensor, and then those of the members behind it
     pub tensors_by-member : (tensor : Contents) → tensor_by left rank d ≡ Some tensor
         → tensors_by left rank (member name d ms)
-        ≡ cons_of (Some tensor) (tensors_by (option_map (drop (length tensor.values)) left) rank ms)
+        ≡ cons_of (Some tensor) (tensors_by (left_by left tensor) rank ms)
     tensors_by-member = by_place left
       where
-        by_place : (places : Option (List ℤ)) (tensor : Contents) → tensor_by places rank d ≡ Some tensor
+        by_place : (places : Source) (tensor : Contents) → tensor_by places rank d ≡ Some tensor
             → tensors_by places rank (member name d ms)
-            ≡ cons_of (Some tensor) (tensors_by (option_map (drop (length tensor.values)) places) rank ms)
-        by_place None tensor read = rw read refl
-        by_place (Some values) tensor read = rw read refl
+            ≡ cons_of (Some tensor) (tensors_by (left_by places tensor) rank ms)
+        by_place in_text tensor read = rw read refl
+        by_place (behind values) tensor read = rw read refl
+        by_place (apart []) tensor read = (cc)
+        by_place (apart (array ∷ arrays)) tensor read = rw read refl
 
     pub tensors_by-no_tensor : tensor_by left rank d ≡ None → tensors_by left rank (member name d ms) ≡ None
     tensors_by-no_tensor = by_place left
       where
-        by_place : (places : Option (List ℤ)) → tensor_by places rank d ≡ None → tensors_by places rank (member name d ms) ≡ None
-        by_place None none = rw none refl
-        by_place (Some values) none = rw none refl
+        by_place : (places : Source) → tensor_by places rank d ≡ None → tensors_by places rank (member name d ms) ≡ None
+        by_place in_text none = rw none refl
+        by_place (behind values) none = rw none refl
+        by_place (apart []) none = refl
+        by_place (apart (array ∷ arrays)) none = rw none refl
 
     -- the place of one that is no tensor
     pub place_by-member : (tensor : Contents) → tensor_by left rank d ≡ Some tensor
-        → place_by left rank (member name d ms) ≡ place_by (option_map (drop (length tensor.values)) left) rank ms
+        → place_by left rank (member name d ms) ≡ place_by (left_by left tensor) rank ms
     place_by-member = by_place left
       where
-        by_place : (places : Option (List ℤ)) (tensor : Contents) → tensor_by places rank d ≡ Some tensor
-            → place_by places rank (member name d ms) ≡ place_by (option_map (drop (length tensor.values)) places) rank ms
-        by_place None tensor read = rw read refl
-        by_place (Some values) tensor read = rw read refl
+        by_place : (places : Source) (tensor : Contents) → tensor_by places rank d ≡ Some tensor
+            → place_by places rank (member name d ms) ≡ place_by (left_by places tensor) rank ms
+        by_place in_text tensor read = rw read refl
+        by_place (behind values) tensor read = rw read refl
+        by_place (apart []) tensor read = (cc)
+        by_place (apart (array ∷ arrays)) tensor read = rw read refl
 
     pub place_by-no_tensor : tensor_by left rank d ≡ None → place_by left rank (member name d ms) ≡ field name ∷ []
     place_by-no_tensor = by_place left
       where
-        by_place : (places : Option (List ℤ)) → tensor_by places rank d ≡ None → place_by places rank (member name d ms) ≡ field name ∷ []
-        by_place None none = rw none refl
-        by_place (Some values) none = rw none refl
+        by_place : (places : Source) → tensor_by places rank d ≡ None → place_by places rank (member name d ms) ≡ field name ∷ []
+        by_place in_text none = rw none refl
+        by_place (behind values) none = rw none refl
+        by_place (apart []) none = refl
+        by_place (apart (array ∷ arrays)) none = rw none refl
 
   -- behind the last member
   pub place_by-end : place_by left rank no_members ≡ []
   place_by-end = by_place left
     where
-      by_place : (places : Option (List ℤ)) → place_by places rank no_members ≡ []
-      by_place None = refl
-      by_place (Some values) = refl
+      by_place : (places : Source) → place_by places rank no_members ≡ []
+      by_place in_text = refl
+      by_place (behind values) = refl
+      by_place (apart arrays) = refl
 
   pub tensors_by-end : (is_last : Bool) → is_last ≡ is_end left → tensors_by left rank no_members ≡ (if is_last then Some [] else None)
   tensors_by-end is_last is = is_last_by left is
     where
-      is_last_by : (places : Option (List ℤ)) → is_last ≡ is_end places
+      is_last_by : (places : Source) → is_last ≡ is_end places
           → tensors_by places rank no_members ≡ (if is_last then Some [] else None)
-      is_last_by None is = rw is refl
-      is_last_by (Some []) is = rw is refl
-      is_last_by (Some (v ∷ vs)) is = rw is refl
+      is_last_by in_text is = rw is refl
+      is_last_by (behind []) is = rw is refl
+      is_last_by (behind (v ∷ vs)) is = rw is refl
+      is_last_by (apart []) is = rw is refl
+      is_last_by (apart (array ∷ arrays)) is = rw is refl
 
 -- the number of a name among those that are left, the first of which has number n
 abbrev pub number_from : ℕ → List (String Global × Value) → List ℕ → Option ℕ
@@ -81,14 +92,14 @@ module _ (rank : ℕ) (rest more : List (String Global × Value)) (name : String
   pub length-turn : (done : List Contents) (tensor : Contents) → length (done ++ tensor ∷ []) + length more ≡ length done + length rest
   length-turn done tensor = rw (first, length-append) (omega arith)
 
-  module _ (left : Option (List ℤ)) (done : List Contents) where
+  module _ (left : Source) (done : List Contents) where
     pub after-turn : (tensor : Contents) → tensor_by left rank (view value) ≡ Some tensor
-        → after (done ++ tensor ∷ []) (tensors_by (option_map (drop (length tensor.values)) left) rank (members_view more))
+        → after (done ++ tensor ∷ []) (tensors_by (left_by left tensor) rank (members_view more))
         ≡ after done (tensors_by left rank (members_view rest))
     after-turn tensor read =
         sym (ap (λ entries. after done (tensors_by left rank (members_view entries))) first
         ∙ ap (after done) (tensors_by-member left rank (string_bytes name) (view value) (members_view more) tensor read)
-        ∙ after-cons_of done tensor (tensors_by (option_map (drop (length tensor.values)) left) rank (members_view more)))
+        ∙ after-cons_of done tensor (tensors_by (left_by left tensor) rank (members_view more)))
 
     -- a member that is no tensor
     pub after-no_tensor : tensor_by left rank (view value) ≡ None → after done (tensors_by left rank (members_view rest)) ≡ None
@@ -96,9 +107,9 @@ module _ (rank : ℕ) (rest more : List (String Global × Value)) (name : String
         ap (λ entries. after done (tensors_by left rank (members_view entries))) first
         ∙ ap (after done) (tensors_by-no_tensor left rank (string_bytes name) (view value) (members_view more) none)
 
-  module _ (left : Option (List ℤ)) where
+  module _ (left : Source) where
     pub place-turn : (tensor : Contents) → tensor_by left rank (view value) ≡ Some tensor
-        → place_by (option_map (drop (length tensor.values)) left) rank (members_view more) ≡ place_by left rank (members_view rest)
+        → place_by (left_by left tensor) rank (members_view more) ≡ place_by left rank (members_view rest)
     place-turn tensor read =
         sym (ap (λ entries. place_by left rank (members_view entries)) first
         ∙ place_by-member left rank (string_bytes name) (view value) (members_view more) tensor read)

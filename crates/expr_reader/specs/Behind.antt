@@ -1,40 +1,68 @@
 -- Where the code takes the values of tensors from, for its private clauses.
-use Rattle.std.specs.Prelude.{ℕ, ℤ, Bool, true, false, List, [], ◌∷◌, Option, Some, None}
+use Rattle.std.specs.Prelude.{◌<◌, ◌≤◌, ℕ, ℤ, ⊤, Bool, true, false, List, [], ◌∷◌, length}
+use Rattle.std.specs.Prelude.{drop, Option, None}
 use Rattle.serde_json.specs.Data.{Data, Members}
 use Rattle.tensor_ops.specs.Contents.{Contents}
+use Rattle.expr_reader.specs.Arrays.{arrays_under, array_tensor, array_tensors, bad_array}
 use Rattle.expr_reader.specs.Frame.{framed_tensor, framed_tensors, bad_framed}
 use Rattle.expr_reader.specs.Place.{Step}
 use Rattle.expr_reader.specs.Tensors.{tensor_in, tensors_in, bad_member, named_by, or_place}
 use Rattle.expr_reader.specs.Request.{Naming}
 use Rattle.expr_reader.specs.declared.values.Values.{Values}
-use Rattle.expr_reader.specs.declared.values.Values.TheVariants.{InText, Behind}
+use Rattle.expr_reader.specs.declared.values.Values.TheVariants.{InText, Behind, Apart}
 
--- the values that stand behind the text, where they don't stand in it
-abbrev pub behind : Values → Option (List ℤ)
-behind InText = None
-behind (Behind values) = Some values.now
+-- where the values stand that are still to be dealt: in the text, one tensor's after another's
+-- behind it, or an array a tensor
+pub data Source : Type 0 where
+  in_text : Source
+  behind : List ℤ → Source
+  apart : List (List ℤ) → Source
 
--- a tensor, with the first of the values that stand behind the text, or with those in it
-abbrev pub tensor_by : Option (List ℤ) → ℕ → Data → Option Contents
-tensor_by None rank d = tensor_in rank d
-tensor_by (Some values) rank d = framed_tensor rank values d
+abbrev pub source_of : Values → Source
+source_of InText = in_text
+source_of (Behind values) = behind values.now
+source_of (Apart arrays) = apart (arrays_under arrays.now)
 
-abbrev pub tensors_by : Option (List ℤ) → ℕ → Members → Option (List Contents)
-tensors_by None rank ms = tensors_in rank ms
-tensors_by (Some values) rank ms = framed_tensors rank values ms
+-- a tensor, with the first of the values, or with those in the text
+abbrev pub tensor_by : Source → ℕ → Data → Option Contents
+tensor_by in_text rank d = tensor_in rank d
+tensor_by (behind values) rank d = framed_tensor rank values d
+tensor_by (apart []) rank d = None
+tensor_by (apart (array ∷ arrays)) rank d = array_tensor rank array d
+
+-- whether a tensor's values are there to be taken off
+abbrev pub HasFirst : Source → Contents → Type 0
+HasFirst in_text t = ⊤
+HasFirst (behind values) t = length t.values ≤ length values
+HasFirst (apart arrays) t = 0 < length arrays
+
+-- what is left behind those of a tensor
+abbrev pub left_by : Source → Contents → Source
+left_by in_text t = in_text
+left_by (behind values) t = behind (drop (length t.values) values)
+left_by (apart []) t = apart []
+left_by (apart (array ∷ arrays)) t = apart arrays
+
+abbrev pub tensors_by : Source → ℕ → Members → Option (List Contents)
+tensors_by in_text rank ms = tensors_in rank ms
+tensors_by (behind values) rank ms = framed_tensors rank values ms
+tensors_by (apart arrays) rank ms = array_tensors rank arrays ms
 
 -- the place of the first member that is no tensor
-abbrev pub place_by : Option (List ℤ) → ℕ → Members → List Step
-place_by None rank ms = bad_member rank ms
-place_by (Some values) rank ms = bad_framed rank values ms
+abbrev pub place_by : Source → ℕ → Members → List Step
+place_by in_text rank ms = bad_member rank ms
+place_by (behind values) rank ms = bad_framed rank values ms
+place_by (apart arrays) rank ms = bad_array rank arrays ms
 
 -- what inputs are read as
-abbrev pub naming_by : Option (List ℤ) → Naming
-naming_by values rank d =
-    or_place (place_by values rank) d (named_by (tensors_by values rank) d)
+abbrev pub naming_by : Source → Naming
+naming_by source rank d =
+    or_place (place_by source rank) d (named_by (tensors_by source rank) d)
 
--- whether no values are left behind the text
-abbrev pub is_end : Option (List ℤ) → Bool
-is_end None = true
-is_end (Some []) = true
-is_end (Some (v ∷ vs)) = false
+-- whether no values are left
+abbrev pub is_end : Source → Bool
+is_end in_text = true
+is_end (behind []) = true
+is_end (behind (v ∷ vs)) = false
+is_end (apart []) = true
+is_end (apart (array ∷ arrays)) = false

@@ -9,6 +9,7 @@ pub use Rattle.tensor_ops.specs.Result
 pub use Rattle.tensor_ops.specs.Value
 pub mod Alike
 pub mod Arguments
+pub mod Arrays
 pub mod Asked
 pub mod Faults
 pub mod Fields

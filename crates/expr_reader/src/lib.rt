@@ -4,6 +4,7 @@
 #![tactic(auto)]
 
 mod arguments;
+mod array;
 mod fault;
 mod fields;
 mod items;
@@ -18,12 +19,16 @@ mod text;
 mod values;
 mod version;
 
+pub use array::Array;
 pub use fault::Fault;
-pub use laws::{frames_ask_alike, frames_mean_texts, unfilled_headers_have_faults};
+pub use laws::{
+    arrays_mean_frames, frames_ask_alike, frames_mean_texts, other_arrays_have_faults,
+    unfilled_headers_have_faults,
+};
 pub use place::{Indices, Located, MAX_DEPTH, Place};
 pub use request::{Parsed, Request};
 pub use tensor_ops::{Dims, Expr, Inputs, Tensor};
-pub use text::{locate, parse_request, read_frame, read_part, read_request};
+pub use text::{locate, parse_request, read_arrays, read_frame, read_part, read_request};
 
 /// The most bytes of a text.
 pub const MAX_TEXT: usize = 16_777_216;

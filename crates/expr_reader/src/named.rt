@@ -5,7 +5,7 @@ ghost use Rattle.std.specs.Prelude.{Ok, Err, MatchResult, OnOk, IfErr, if◌then
 ghost use Rattle.std.specs.Option.{option_or};
 ghost use Rattle.std.specs.Str.{bytes_eq};
 ghost use Rattle.serde_json.specs.View.{view, members_view};
-ghost use Rattle.expr_reader.specs.Behind.{behind, tensors_by, place_by, naming_by};
+ghost use Rattle.expr_reader.specs.Behind.{source_of, tensors_by, place_by, naming_by};
 ghost use Rattle.expr_reader.specs.Counted.{member_count};
 ghost use Rattle.expr_reader.specs.Limits.{most_bytes};
 ghost use Rattle.expr_reader.specs.Located.{steps_under};
@@ -25,28 +25,29 @@ use tensor_ops::Inputs;
 /// Inputs, and the number of each by its name. A map in order, so that no choice of names makes it
 /// slow.
 #[derive(Drop)]
-pub(crate) struct NamedInputs<'v> {
+pub(crate) struct NamedInputs<'v, 'a> {
     pub(crate) numbers: BTreeMap<&'v str, u32>,
-    pub(crate) inputs: Inputs,
+    pub(crate) inputs: Inputs<'a>,
 }
 
-impl<'v> NamedInputs<'v> {
+impl<'v, 'a> NamedInputs<'v, 'a> {
     /// The tensor of each member of an object, numbered in the order of their names.
     pub(crate) fn read(
         alloc: Global,
         value: &'v Value,
         rank: u32,
-        values: Values<'_>,
+        values: Values<'a>,
         place: &mut Place<'v>,
-    ) -> Result<NamedInputs<'v>, Fault>
+    ) -> Result<NamedInputs<'v, 'a>, Fault>
         requires rank { (rank ≡ 6) ⊎ (rank ≡ 8) }
         requires few { member_count (view value.now) ≤ most_bytes + 1 }
         ensures { MatchResult result
-            (λ found. (n : Named) × (naming_by (behind values.entry) rank (view value.now) ≡ Ok n)
+            (λ found. (n : Named)
+            × (naming_by (source_of values.entry) rank (view value.now) ≡ Ok n)
             × IsNamed found rank n)
             (λ fault. (fault ≡ Fault.NoMemory)
             ⊎ (below (field (codes "inputs"))
-            (naming_by (behind values.entry) rank (view value.now))
+            (naming_by (source_of values.entry) rank (view value.now))
             ≡ Err (record { fault = fault; place = steps_under place.new }))) }
     {
         let Some(members) = value.as_object() else {
@@ -67,24 +68,24 @@ impl<'v> NamedInputs<'v> {
 
 /// The tensors of members and their numbers. Values that stand behind the text are those of the
 /// first member, then of the second, and so on, until none are left.
-fn read_members<'v>(
+fn read_members<'v, 'a>(
     alloc: Global,
     members: &'v Map<String, Value>,
     rank: u32,
-    values: Values<'_>,
+    values: Values<'a>,
     place: &mut Place<'v>,
-) -> Result<NamedInputs<'v>, Fault>
+) -> Result<NamedInputs<'v, 'a>, Fault>
     requires rank { (rank ≡ 6) ⊎ (rank ≡ 8) }
     requires few { length members.now.entries ≤ most_bytes + 1 }
     ensures { MatchResult result
         (λ found. (n : Named)
-        × (tensors_by (behind values.entry) rank (members_view members.now.entries)
+        × (tensors_by (source_of values.entry) rank (members_view members.now.entries)
         ≡ Some n.tensors)
         × (n.names ≡ names_in (members_view members.now.entries)) × IsNamed found rank n)
         (λ fault. (fault ≡ Fault.NoMemory) ⊎ ((fault ≡ Fault.BadTensor)
-        × (tensors_by (behind values.entry) rank (members_view members.now.entries) ≡ None)
+        × (tensors_by (source_of values.entry) rank (members_view members.now.entries) ≡ None)
         × (steps_under place.new ≡ field (codes "inputs")
-        ∷ place_by (behind values.entry) rank (members_view members.now.entries)))) }
+        ∷ place_by (source_of values.entry) rank (members_view members.now.entries)))) }
 {
     let mut numbers = BTreeMap::new(alloc);
     let mut tensors = Vec::new(alloc);

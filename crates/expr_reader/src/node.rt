@@ -42,7 +42,7 @@ pub(crate) struct Subtree {
 pub(crate) fn read_node(
     alloc: Global,
     version: Version,
-    named: &NamedInputs<'_>,
+    named: &NamedInputs<'_, '_>,
     value: &Value,
     before: u64,
     way: &mut Indices,
@@ -114,7 +114,7 @@ fn behind(position: u8, found: Result<Subtree, Fault>, way: &mut Indices) -> Res
 }
 
 /// The input of a name, which is a node up to this end.
-fn read_name(named: &NamedInputs<'_>, name: &str, end: u64) -> Result<Subtree, Fault>
+fn read_name(named: &NamedInputs<'_, '_>, name: &str, end: u64) -> Result<Subtree, Fault>
     requires { (rank : ℕ) × (n : Named) × IsNamed named.now rank n }
     ensures tree { (rank : ℕ) (n : Named) → IsNamed named.now rank n
         → IsFound (given rank n) (input_at n name.now end) [] result }

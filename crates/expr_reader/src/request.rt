@@ -22,13 +22,13 @@ pub struct Parsed {
 /// What a text asks for: an expression over inputs, and how to spread its work. The workers and the
 /// block change nothing in the answer.
 #[derive(Drop)]
-pub struct Request {
+pub struct Request<'a> {
     /// How many workers take part, from 1 to 256.
     pub workers: u32,
     /// How many places are worked on at a time, from 1 to 1,048,576.
     pub block: u64,
     /// The tensors, in the order of their names.
-    pub inputs: Inputs,
+    pub inputs: Inputs<'a>,
     /// The expression, which has result dims.
     pub expr: Expr,
     pub ghost has_inputs: { IsTrue (has_inputs (term_of expr) (length inputs.tensors)) },

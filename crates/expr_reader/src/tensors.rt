@@ -3,6 +3,7 @@
 ghost use Rattle.std.specs.Prelude.{◌≡◌, ◌≤◌, length, IfOk, IfSome};
 ghost use Rattle.serde_json.specs.View.{view};
 ghost use Rattle.tensor_ops.specs.Legal.{highest_rank};
+ghost use Rattle.expr_reader.specs.Arrays.{array_tensor};
 ghost use Rattle.expr_reader.specs.Frame.{framed_tensor};
 ghost use Rattle.expr_reader.specs.Outcome.{IsReadOr};
 ghost use Rattle.expr_reader.specs.Tensors.{dims_in, values_in, tensor_in};
@@ -16,7 +17,11 @@ use std::alloc::Global;
 use tensor_ops::{Dims, MAX_RANK, Tensor};
 
 /// A tensor: an object of exactly `dims` and `data`.
-pub(crate) fn read_tensor(alloc: Global, value: &Value, rank: usize) -> Result<Tensor, Fault>
+pub(crate) fn read_tensor(
+    alloc: Global,
+    value: &Value,
+    rank: usize,
+) -> Result<Tensor<'static>, Fault>
     requires { rank ≤ highest_rank }
     ensures tensor { IsReadOr Fault.BadTensor (λ t. t) (tensor_in rank (view value.now)) result }
     ensures rank { IfOk result (λ t. length t.dims ≤ rank) }
@@ -31,13 +36,12 @@ pub(crate) fn read_tensor(alloc: Global, value: &Value, rank: usize) -> Result<T
     Ok(Tensor::new(dims, values))
 }
 
-/// A tensor of a frame: an object of exactly `dims`, with the first of these values.
-pub(crate) fn read_framed_tensor(
-    alloc: Global,
+/// A tensor of a frame: an object of exactly `dims`, to which the first of these values are lent.
+pub(crate) fn read_framed_tensor<'a>(
     value: &Value,
     rank: usize,
-    values: &[i64],
-) -> Result<Tensor, Fault>
+    values: &'a [i64],
+) -> Result<Tensor<'a>, Fault>
     requires { rank ≤ highest_rank }
     ensures tensor { IsReadOr Fault.BadTensor (λ t. t)
         (framed_tensor rank values.now (view value.now)) result }
@@ -53,9 +57,26 @@ pub(crate) fn read_framed_tensor(
     if values.len() < size {
         return Err(Fault::BadTensor);
     }
-    match Vec::from_slice(alloc, &values[..size]) {
-        Ok(values) => Ok(Tensor::new(dims, values)),
-        Err(_) => Err(Fault::NoMemory),
+    Ok(Tensor::lent(dims, &values[..size]))
+}
+
+/// A tensor whose values are an array of their own: an object of exactly `dims`, to which all of
+/// them are lent.
+pub(crate) fn read_array_tensor<'a>(
+    value: &Value,
+    rank: usize,
+    values: &'a [i64],
+) -> Result<Tensor<'a>, Fault>
+    requires { rank ≤ highest_rank }
+    ensures tensor { IsReadOr Fault.BadTensor (λ t. t)
+        (array_tensor rank values.now (view value.now)) result }
+    ensures rank { IfOk result (λ t. length t.dims ≤ rank) }
+{
+    let tensor = read_framed_tensor(value, rank, values)?;
+    if tensor.values().len() == values.len() {
+        Ok(tensor)
+    } else {
+        Err(Fault::BadTensor)
     }
 }
 

@@ -2,10 +2,11 @@
 //! header and its values.
 
 ghost use Rattle.std.specs.Prelude.{◌≡◌, ◌+◌, ◌<◌, ◌≤◌, ◌⊎◌, [], Ok, Err, IsOk, MatchResult};
-ghost use Rattle.std.specs.Prelude.{MatchOption, length, IsErrOf, option_map, codes};
+ghost use Rattle.std.specs.Prelude.{MatchOption, length, IsErrOf, option_map, codes, nat_le};
 ghost use Rattle.serde_json.specs.View.{view};
+ghost use Rattle.expr_reader.specs.Arrays.{arrays_under, joined, request_of_arrays};
 ghost use Rattle.expr_reader.specs.Asked.{asked_under};
-ghost use Rattle.expr_reader.specs.Behind.{behind, naming_by};
+ghost use Rattle.expr_reader.specs.Behind.{source_of, naming_by};
 ghost use Rattle.expr_reader.specs.Counted.{member_count};
 ghost use Rattle.expr_reader.specs.Frame.{request_of_frame};
 ghost use Rattle.expr_reader.specs.Limits.{most_bytes, most_values};
@@ -20,6 +21,7 @@ ghost use Rattle.expr_reader.specs.Tensors.{Named, inputs_in, given};
 ghost use Rattle.expr_reader.specs.Version.{profile_under};
 ghost use Rattle.expr_reader.specs.Walked.{IsShaped, tree_under};
 
+use crate::array::Array;
 use crate::fault::Fault;
 use crate::fields::{Fields, parse, within};
 use crate::named::NamedInputs;
@@ -40,7 +42,7 @@ use std::alloc::Global;
 ///
 /// The first fault of the text, by number up to [`Fault::BadTensor`] and then on the walk over the
 /// tree, or [`Fault::NoMemory`].
-pub fn read_request(alloc: Global, text: &[u8]) -> Result<Request, Fault>
+pub fn read_request(alloc: Global, text: &[u8]) -> Result<Request<'static>, Fault>
     ensures request { MatchResult result
         (λ request. request_of text.now ≡ Ok (asked_under request))
         (λ fault. (fault ≡ Fault.NoMemory) ⊎ (request_of text.now ≡ Err fault)) }
@@ -60,7 +62,7 @@ pub fn read_request(alloc: Global, text: &[u8]) -> Result<Request, Fault>
 ///
 /// As of a text; [`Fault::TooLong`] also where there are too many values, and [`Fault::BadTensor`]
 /// also where there are more or fewer than the tensors have places.
-pub fn read_frame(alloc: Global, header: &[u8], values: &[i64]) -> Result<Request, Fault>
+pub fn read_frame<'a>(alloc: Global, header: &[u8], values: &'a [i64]) -> Result<Request<'a>, Fault>
     ensures request { MatchResult result
         (λ request. request_of_frame header.now values.now ≡ Ok (asked_under request))
         (λ fault. (fault ≡ Fault.NoMemory) ⊎ (request_of_frame header.now values.now ≡ Err fault)) }
@@ -73,6 +75,50 @@ pub fn read_frame(alloc: Global, header: &[u8], values: &[i64]) -> Result<Reques
     let parsed = parse_request(alloc, header)?;
     let mut place = Place::Whole;
     read_value(alloc, &parsed.value, Values::Behind(values), &mut place)
+}
+
+/// Reads a header as [`read_frame`] does, whose tensors' values lie apart: an array a tensor, in
+/// the order of their names. Where each has as many values as its tensor has places, it is the
+/// frame of the arrays one behind the other.
+///
+/// # Errors
+///
+/// As of that frame; [`Fault::BadTensor`] also where an array has more or fewer values than its
+/// tensor has places, and where there are more or fewer arrays than tensors.
+pub fn read_arrays<'a>(
+    alloc: Global,
+    header: &[u8],
+    arrays: &'a [Array<'a>],
+) -> Result<Request<'a>, Fault>
+    ensures request { MatchResult result
+        (λ request. request_of_arrays header.now (arrays_under arrays.now)
+        ≡ Ok (asked_under request))
+        (λ fault. (fault ≡ Fault.NoMemory)
+        ⊎ (request_of_arrays header.now (arrays_under arrays.now) ≡ Err fault)) }
+    ensures long_header { most_bytes < length header.now → IsErrOf result Fault.TooLong }
+    ensures many_values { most_values < length (joined (arrays_under arrays.now))
+        → IsErrOf result Fault.TooLong }
+{
+    if !has_few_values(arrays) {
+        return Err(Fault::TooLong);
+    }
+    let parsed = parse_request(alloc, header)?;
+    let mut place = Place::Whole;
+    read_value(alloc, &parsed.value, Values::Apart(arrays), &mut place)
+}
+
+/// Whether arrays have together no more values than there may be.
+fn has_few_values(arrays: &[Array<'_>]) -> bool
+    ensures { result ≡ nat_le (length (joined (arrays_under arrays.now))) most_values }
+{
+    let mut left = MAX_VALUES;
+    for array in arrays {
+        if array.values.len() > left {
+            return false;
+        }
+        left -= array.values.len();
+    }
+    true
 }
 
 /// The JSON value of a text. A fault of it is one of the whole text.
@@ -104,7 +150,7 @@ pub fn locate(alloc: Global, parsed: &Parsed) -> Option<Located<'_>>
 }
 
 /// What a request asks for with another expression in the place of its own.
-pub fn read_part(alloc: Global, parsed: &Parsed, expr: &Value) -> Result<Request, Fault>
+pub fn read_part(alloc: Global, parsed: &Parsed, expr: &Value) -> Result<Request<'static>, Fault>
     ensures { MatchResult result
         (λ request. part_asked (view parsed.now.value) (view expr.now) ≡ Ok (asked_under request))
         (λ fault. (fault ≡ Fault.NoMemory)
@@ -119,16 +165,16 @@ pub fn read_part(alloc: Global, parsed: &Parsed, expr: &Value) -> Result<Request
 }
 
 /// The request of a value.
-fn read_value<'v>(
+fn read_value<'v, 'a>(
     alloc: Global,
     value: &'v Value,
-    values: Values<'_>,
+    values: Values<'a>,
     place: &mut Place<'v>,
-) -> Result<Request, Fault>
+) -> Result<Request<'a>, Fault>
     requires few { member_count (view value.now) ≤ most_bytes + 1 }
     requires start { steps_under place.old ≡ [] }
     ensures { IsToldAt asked_under
-        (data_asked (naming_by (behind values.entry)) (view value.now))
+        (data_asked (naming_by (source_of values.entry)) (view value.now))
         (steps_under place.new) result }
 {
     let Some(fields) = Fields::of(value) else {
@@ -138,15 +184,15 @@ fn read_value<'v>(
 }
 
 /// The request of fields.
-fn read_fields<'v>(
+fn read_fields<'v, 'a>(
     alloc: Global,
     fields: &Fields<'v>,
-    values: Values<'_>,
+    values: Values<'a>,
     place: &mut Place<'v>,
-) -> Result<Request, Fault>
+) -> Result<Request<'a>, Fault>
     requires { member_count (view fields.now.inputs.now) ≤ most_bytes + 1 }
     ensures { IsToldAt asked_under
-        (fields_asked (naming_by (behind values.entry)) (fields_under fields.now))
+        (fields_asked (naming_by (source_of values.entry)) (fields_under fields.now))
         (steps_under place.new) result }
 {
     let Some(version) = version_of(fields) else {
@@ -175,7 +221,7 @@ fn read_fields<'v>(
 fn read_tree(
     alloc: Global,
     version: Version,
-    named: &NamedInputs<'_>,
+    named: &NamedInputs<'_, '_>,
     expr: &Value,
     place: &mut Place<'_>,
 ) -> Result<Subtree, Fault>

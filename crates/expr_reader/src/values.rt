@@ -1,64 +1,72 @@
 //! Where the values of the tensors of a text stand.
 
-ghost use Rattle.std.specs.Prelude.{◌≡◌, ◌≤◌, length, drop, IfOk, IfSome, option_map};
+ghost use Rattle.std.specs.Prelude.{◌≡◌, ◌≤◌, length, IfOk};
 ghost use Rattle.serde_json.specs.View.{view};
 ghost use Rattle.tensor_ops.specs.Legal.{highest_rank};
 ghost use Rattle.expr_reader.specs.Outcome.{IsReadOr};
 
+use crate::array::Array;
 use crate::fault::Fault;
-use crate::tensors::{read_framed_tensor, read_tensor};
+use crate::tensors::{read_array_tensor, read_framed_tensor, read_tensor};
 use serde_json::Value;
 use std::alloc::Global;
 use tensor_ops::Tensor;
 
-/// The values of each tensor stand in its `data`, or those of all of them behind the text.
+/// The values of each tensor stand in its `data`, or those of all of them behind the text, or each
+/// tensor's in an array of its own.
 #[derive(Clone, Copy)]
 pub(crate) enum Values<'a> {
     InText,
     Behind(&'a [i64]),
+    Apart(&'a [Array<'a>]),
 }
 
 impl<'a> Values<'a> {
-    ghost use Rattle.expr_reader.specs.Behind.{behind, tensor_by, is_end};
+    ghost use Rattle.expr_reader.specs.Behind.{source_of, tensor_by, left_by, is_end, HasFirst};
 
-    /// The tensor that a member is, with the first of the values where they stand behind the text.
+    /// The tensor that a member is, with the first of the values or arrays where there are any.
     pub(crate) fn first_tensor(
         self,
         alloc: Global,
         value: &Value,
         rank: usize,
-    ) -> Result<Tensor, Fault>
+    ) -> Result<Tensor<'a>, Fault>
         requires { rank ≤ highest_rank }
         ensures tensor { IsReadOr Fault.BadTensor (λ t. t)
-            (tensor_by (behind self.entry) rank (view value.now)) result }
+            (tensor_by (source_of self.entry) rank (view value.now)) result }
         ensures rank { IfOk result (λ t. length t.dims ≤ rank) }
-        ensures few { IfOk result (λ t.
-            IfSome (behind self.entry) (λ values. length t.values ≤ length values)) }
+        ensures first { IfOk result (λ t. HasFirst (source_of self.entry) t) }
     {
         match self {
             Values::InText => read_tensor(alloc, value, rank),
-            Values::Behind(values) => read_framed_tensor(alloc, value, rank, values),
+            Values::Behind(values) => read_framed_tensor(value, rank, values),
+            Values::Apart(arrays) => match arrays.first() {
+                Some(first) => read_array_tensor(value, rank, first.values),
+                None => Err(Fault::BadTensor),
+            },
         }
     }
 
-    /// The values that are left behind those of a tensor, which are the first.
+    /// What is left behind the values of a tensor, which are the first.
     pub(crate) fn without(self, tensor: &Tensor) -> Values<'a>
-        requires { IfSome (behind self) (λ values. length tensor.now.values ≤ length values) }
-        ensures { behind result ≡ option_map (drop (length tensor.now.values)) (behind self.entry) }
+        requires { HasFirst (source_of self) tensor.now }
+        ensures { source_of result ≡ left_by (source_of self.entry) tensor.now }
     {
         match self {
             Values::InText => Values::InText,
             Values::Behind(values) => Values::Behind(&values[tensor.values().len()..]),
+            Values::Apart(arrays) => Values::Apart(&arrays[1..]),
         }
     }
 
-    /// Whether no values are left behind the text.
+    /// Whether no values are left.
     pub(crate) fn is_end(self) -> bool
-        ensures { result ≡ is_end (behind self.entry) }
+        ensures { result ≡ is_end (source_of self.entry) }
     {
         match self {
             Values::InText => true,
             Values::Behind(values) => values.is_empty(),
+            Values::Apart(arrays) => arrays.is_empty(),
         }
     }
 }

@@ -1,5 +1,6 @@
 -- The answer of a frame: its tensor, or its first fault.
 use Rattle.std.specs.Prelude.{ℕ, ℤ, List, Result, Ok, Err}
+use Rattle.expr_reader.specs.Arrays.{request_of_arrays}
 use Rattle.expr_reader.specs.Contents.{Contents}
 use Rattle.expr_reader.specs.Frame.{request_of_frame}
 use Rattle.expr_reader.specs.Request.{Asked}
@@ -18,6 +19,10 @@ asked_tensor a = tensor_of a.term a.inputs
 abbrev pub answer_of_frame : List ℕ → List ℤ → Result Contents Fault
 answer_of_frame header values = or_fault asked_tensor (request_of_frame header values)
 
--- the dims of that tensor
+-- the same where each tensor's values lie in an array of their own
+abbrev pub answer_of_arrays : List ℕ → List (List ℤ) → Result Contents Fault
+answer_of_arrays header arrays = or_fault asked_tensor (request_of_arrays header arrays)
+
+-- the dims of a frame's tensor
 abbrev pub answer_dims : List ℕ → List ℤ → Result (List ℕ) Fault
 answer_dims header values = or_fault (λ t. t.dims) (answer_of_frame header values)

@@ -1,33 +1,67 @@
 //! What a frame asks for, worked out on the thread that asks.
 
-ghost use Rattle.std.specs.Prelude.{◌≡◌, ◌⊎◌, ℤ, List, Ok, Err, length, MatchResult};
-ghost use Rattle.tensor_c.specs.Answer.{answer_of_frame, answer_dims};
+ghost use Rattle.std.specs.Prelude.{◌≡◌, ◌⊎◌, ℤ, List, Ok, Err, length, false};
+ghost use Rattle.std.specs.Prelude.{MatchResult, IsErrOf};
+ghost use Rattle.expr_reader.specs.Asked.{asked_under};
+ghost use Rattle.tensor_c.specs.Answer.{answer_of_frame, answer_dims, asked_tensor};
+ghost use Rattle.tensor_c.specs.Call.{IsCall, IsTooLong, called, has_room, no_room};
 
-use expr_reader::{Dims, Fault, MAX_VALUES, Tensor, read_frame};
+use crate::faults::result_of;
+use crate::room::{NO_ROOM, has_room, put_tensor};
+use expr_reader::{Dims, Fault, MAX_TEXT, MAX_VALUES, Request, read_frame};
 use std::alloc::Global;
 use tensor_ops::eval_plain;
 
-/// The tensor of a frame.
-pub(crate) fn tensor_of(alloc: Global, header: &[u8], values: &[i64]) -> Result<Tensor, Fault>
-    ensures { MatchResult result
-        (λ tensor. answer_of_frame header.now values.now ≡ Ok tensor)
-        (λ fault. (fault ≡ Fault.NoMemory) ⊎ (answer_of_frame header.now values.now ≡ Err fault)) }
+/// Writes the tensor of a frame, and returns how many values it has, or what stands for a fault or
+/// for too little room.
+pub(crate) fn put_answer(
+    alloc: Global,
+    header: &[u8],
+    values: &[i64],
+    out: &mut [i64],
+    dims: &mut [u64],
+) -> i64
+    ensures call { IsCall (answer_of_frame header.now values.now) out.old dims.old
+        (record { result = result; out = out.new; dims = dims.new }) }
+    ensures too_long { IsTooLong header.now (length values.now)
+        → record { result = result; out = out.new; dims = dims.new }
+        ≡ called (Err Fault.TooLong) out.old dims.old }
 {
-    let request = read_frame(alloc, header, values)?;
+    match read_frame(alloc, header, values) {
+        Ok(request) => put_asked(alloc, &request, out, dims),
+        Err(fault) => result_of(fault),
+    }
+}
+
+/// Writes the tensor that a request asks for. Room is looked at before memory is asked for, so want
+/// of memory never stands for too little room.
+fn put_asked(alloc: Global, request: &Request<'_>, out: &mut [i64], dims: &mut [u64]) -> i64
+    ensures call { IsCall (Ok (asked_tensor (asked_under request.now))) out.old dims.old
+        (record { result = result; out = out.new; dims = dims.new }) }
+    ensures no_room { has_room (asked_tensor (asked_under request.now)) out.old dims.old ≡ false
+        → result ≡ no_room }
+{
+    let Ok(sizes) = request.expr.dims(&request.inputs) else {
+        unreachable!();
+    };
+    if !has_room(&sizes, out, dims) {
+        return NO_ROOM;
+    }
     match eval_plain(alloc, &request.expr, &request.inputs) {
-        Ok(tensor) => Ok(tensor),
-        Err(_) => Err(Fault::NoMemory),
+        Ok(tensor) => put_tensor(&tensor, out, dims),
+        Err(_) => result_of(Fault::NoMemory),
     }
 }
 
 /// The dims of the tensor of a frame with so many values. They are the same whatever the values
 /// are: zeroes stand for them.
 pub(crate) fn dims_of(alloc: Global, header: &[u8], count: u64) -> Result<Dims, Fault>
-    ensures { (values : List ℤ) → length values ≡ count → MatchResult result
+    ensures dims { (values : List ℤ) → length values ≡ count → MatchResult result
         (λ dims. answer_dims header.now values ≡ Ok dims)
         (λ fault. (fault ≡ Fault.NoMemory) ⊎ (answer_dims header.now values ≡ Err fault)) }
+    ensures too_long { IsTooLong header.now count → IsErrOf result Fault.TooLong }
 {
-    if count > MAX_VALUES as u64 {
+    if header.len() > MAX_TEXT || count > MAX_VALUES as u64 {
         return Err(Fault::TooLong);
     }
     let Ok(zeroes) = Vec::from_elem(alloc, 0i64, count as usize) else {

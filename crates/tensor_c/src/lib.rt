@@ -3,19 +3,29 @@
 //! says what a caller owes.
 #![tactic(auto)]
 
+mod arrays;
 mod evaluation;
 mod faults;
+mod laws;
+mod part;
 mod room;
 
-ghost use Rattle.std.specs.Prelude.{◌≡◌, ◌≢◌, ℤ, pos, List, length};
+ghost use Rattle.std.specs.Prelude.{◌≡◌, ◌≢◌, ℤ, pos, List, length, Err};
+ghost use Rattle.expr_reader.specs.Arrays.{arrays_under, joined};
 ghost use Rattle.expr_reader.specs.Faults.{fault_number, fault_name};
 ghost use Rattle.expr_reader.specs.declared.fault.Fault.{Fault};
-ghost use Rattle.tensor_c.specs.Answer.{answer_of_frame, answer_dims};
-ghost use Rattle.tensor_c.specs.Call.{IsCall, IsDimsCall, called_for_name};
+ghost use Rattle.tensor_c.specs.Answer.{answer_of_arrays, answer_of_frame, answer_dims};
+ghost use Rattle.tensor_c.specs.Call.{IsCall, IsDimsCall, IsTooLong};
+ghost use Rattle.tensor_c.specs.Call.{called, called_for_dims, called_for_name};
+ghost use Rattle.tensor_c.specs.Part.{IsPartCall, called_for_part};
 
-use crate::evaluation::{dims_of, tensor_of};
+use crate::arrays::put_part_over;
+use crate::evaluation::{dims_of, put_answer};
 use crate::faults::{fault_of, result_of};
-use crate::room::{put_dims, put_tensor, put_text};
+use crate::part::put_part;
+use crate::room::{put_dims, put_text};
+use expr_reader::Array;
+pub use laws::{calls_for_parts_are_one, parts_make_the_whole};
 use std::alloc::Global;
 
 /// Writes the tensor of a frame, its values into `out`, its rank and then its dims into `dims`, and
@@ -29,13 +39,53 @@ pub extern "C" fn tensor_evaluate(
     out: &mut [i64],
     dims: &mut [u64],
 ) -> i64
-    ensures { IsCall (answer_of_frame header.now values.now) out.old dims.old
+    ensures call { IsCall (answer_of_frame header.now values.now) out.old dims.old
         (record { result = result; out = out.new; dims = dims.new }) }
+    ensures too_long { IsTooLong header.now (length values.now)
+        → record { result = result; out = out.new; dims = dims.new }
+        ≡ called (Err Fault.TooLong) out.old dims.old }
 {
-    match tensor_of(alloc, header, values) {
-        Ok(tensor) => put_tensor(&tensor, out, dims),
-        Err(fault) => result_of(fault),
-    }
+    put_answer(alloc, header, values, out, dims)
+}
+
+/// Writes values of the tensor of a frame, from the one at a place on, as many as there are and as
+/// `out` has room for, and returns how many are written. So calls from several threads, each with
+/// a list of its own, share one answer. Of a fault the number is returned, negated, and nothing is
+/// written; where there is no memory (-15) anything may stand in `out` then.
+#[unsafe(no_mangle)]
+pub extern "C" fn tensor_evaluate_part(
+    alloc: Global,
+    header: &[u8],
+    values: &[i64],
+    first: u64,
+    out: &mut [i64],
+) -> i64
+    ensures call { IsPartCall (answer_of_frame header.now values.now) first out.old
+        (record { result = result; out = out.new }) }
+    ensures too_long { IsTooLong header.now (length values.now)
+        → record { result = result; out = out.new }
+        ≡ called_for_part (Err Fault.TooLong) first out.old }
+{
+    put_part(alloc, header, values, first, out)
+}
+
+/// Does as [`tensor_evaluate_part`] where each tensor's values lie in an array of their own: an
+/// array a tensor, in the order of their names.
+#[unsafe(no_mangle)]
+pub extern "C" fn tensor_evaluate_arrays(
+    alloc: Global,
+    header: &[u8],
+    arrays: &[Array<'_>],
+    first: u64,
+    out: &mut [i64],
+) -> i64
+    ensures call { IsPartCall (answer_of_arrays header.now (arrays_under arrays.now)) first out.old
+        (record { result = result; out = out.new }) }
+    ensures too_long { IsTooLong header.now (length (joined (arrays_under arrays.now)))
+        → record { result = result; out = out.new }
+        ≡ called_for_part (Err Fault.TooLong) first out.old }
+{
+    put_part_over(alloc, header, arrays, first, out)
 }
 
 /// Writes the rank and the dims of the tensor of a frame with so many values, whatever they are,
@@ -43,9 +93,11 @@ pub extern "C" fn tensor_evaluate(
 /// room are answered as by [`tensor_evaluate`].
 #[unsafe(no_mangle)]
 pub extern "C" fn tensor_dims(alloc: Global, header: &[u8], count: u64, dims: &mut [u64]) -> i64
-    ensures { (values : List ℤ) → length values ≡ count
+    ensures call { (values : List ℤ) → length values ≡ count
         → IsDimsCall (answer_dims header.now values) dims.old
         (record { result = result; dims = dims.new }) }
+    ensures too_long { IsTooLong header.now count → record { result = result; dims = dims.new }
+        ≡ called_for_dims (Err Fault.TooLong) dims.old }
 {
     match dims_of(alloc, header, count) {
         Ok(found) => put_dims(&found, dims),

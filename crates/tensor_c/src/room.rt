@@ -1,24 +1,31 @@
 //! Answers in the room that a caller lends.
 
-ghost use Rattle.std.specs.Prelude.{◌≡◌, ◌≤◌, ◌<◌, Ok, length};
+ghost use Rattle.std.specs.Prelude.{◌≡◌, ◌≤◌, ◌<◌, Ok, length, IsTrue};
+ghost use Rattle.expr_reader.specs.Contents.{Contents};
+ghost use Rattle.expr_reader.specs.Index.{size_of};
 ghost use Rattle.tensor_c.specs.Call.{begun, called, called_for_dims, called_for_name};
-ghost use Rattle.tensor_c.specs.Call.{no_room, ranked};
+ghost use Rattle.tensor_c.specs.Call.{has_room, no_room, ranked};
 
 use expr_reader::{Dims, Tensor};
 
 /// What is returned where a list has too little room.
 pub(crate) const NO_ROOM: i64 = -100;
 
+/// Whether the values of a tensor of these dims, and its rank and dims, have room.
+pub(crate) fn has_room(sizes: &Dims, out: &[i64], dims: &[u64]) -> bool
+    ensures { (t : Contents) → t.dims ≡ sizes.now → length t.values ≡ size_of sizes.now
+        → result ≡ has_room t out.now dims.now }
+{
+    sizes.size() <= out.len() as u64 && sizes.rank() < dims.len()
+}
+
 /// Writes the values of a tensor, its rank and its dims, and returns how many values there are.
-/// Nothing is written where one of the two lists has too little room.
 pub(crate) fn put_tensor(tensor: &Tensor, out: &mut [i64], dims: &mut [u64]) -> i64
+    requires { IsTrue (has_room tensor.now out.old dims.old) }
     ensures { record { result = result; out = out.new; dims = dims.new }
         ≡ called (Ok tensor.now) out.old dims.old }
 {
     let (values, sizes) = (tensor.values(), tensor.dims());
-    if out.len() < values.len() || dims.len() <= sizes.rank() {
-        return NO_ROOM;
-    }
     put_first(out, values);
     put_ranked(dims, sizes.as_slice());
     sizes.size() as i64

@@ -5,10 +5,10 @@ use Rattle.std.specs.Str.{bytes_eq}
 use Rattle.std.proofs.lemmas.Grind.{common_steps}
 use Rattle.std.proofs.lemmas.List.{append-nil}
 use Rattle.serde_json.specs.View.{members_view}
-use Rattle.expr_reader.specs.Behind.{behind}
+use Rattle.expr_reader.specs.Behind.{source_of}
 use Rattle.expr_reader.specs.Numbers.{number_in}
 use Rattle.expr_reader.specs.Tensors.{names_in}
-use Rattle.expr_reader.proofs.Members.{length-turn, after-turn, after-no_tensor, place-turn, place-no_tensor, place_by-end, number-turn, length-names_in, HaveRank-append, tensors_by-end}
+use Rattle.expr_reader.proofs.Members.{length-turn, after-turn, place-turn, number-turn, length-names_in, HaveRank-append, tensors_by-end}
 use Rattle.expr_reader.proofs.Numbers.{option_or-None}
 use Rattle.expr_reader.proofs.named.read_members.Goals as goal
 
@@ -28,9 +28,9 @@ loop-name-preserved c =
       tt,
       rw (items, length-turn c.args.rank _ _ _ _ first done c.in-Ok.tensor) c.loop-name.invariant.2,
       rw items (HaveRank-append c.args.rank done c.in-Ok.tensor c.loop-name.invariant.3 c.in-Ok.ensures.rank),
-      rw (items, c.without-left.ensures, after-turn c.args.rank _ _ _ _ first (behind c.loop-name.left) done c.in-Ok.tensor c.in-Ok.ensures.tensor)
+      rw (items, c.without-left.ensures, after-turn c.args.rank _ _ _ _ first (source_of c.loop-name.left) done c.in-Ok.tensor c.in-Ok.ensures.tensor)
           c.loop-name.invariant.4,
-      rw (c.without-left.ensures, place-turn c.args.rank _ _ _ _ first (behind c.loop-name.left) c.in-Ok.tensor c.in-Ok.ensures.tensor)
+      rw (c.without-left.ensures, place-turn c.args.rank _ _ _ _ first (source_of c.loop-name.left) c.in-Ok.tensor c.in-Ok.ensures.tensor)
           c.loop-name.invariant.5,
       λ q. rw long
           (number-turn c.args.rank _ _ _ _ first (number_in c.loop-name.numbers q) (number_in c.put_first.new.numbers q) (length done) q (put q)
@@ -41,7 +41,7 @@ pub returns : goal.returns
 returns c =
     let end = c.in-None.ensures.steps.0 in
     let last : c.is_end.result ≡ true = grind (arith, common_steps) in
-    let tensors = rw (end, tensors_by-end (behind c.loop-name.left) c.args.rank c.is_end.result c.is_end.ensures, last, append-nil)
+    let tensors = rw (end, tensors_by-end (source_of c.loop-name.left) c.args.rank c.is_end.result c.is_end.ensures, last, append-nil)
     at c.loop-name.invariant.4 in
     let count = rw end at c.loop-name.invariant.2 in (
       record {

@@ -6,7 +6,7 @@ use Rattle.std.specs.Option.{option_or}
 use Rattle.std.specs.Str.{bytes_eq}
 use Rattle.serde_json.specs.View.{members_view}
 use Rattle.tensor_ops.specs.Contents.{HaveRank}
-use Rattle.expr_reader.specs.Behind.{behind, tensors_by, place_by}
+use Rattle.expr_reader.specs.Behind.{source_of, tensors_by, place_by}
 use Rattle.expr_reader.specs.Numbers.{number_in}
 use Rattle.expr_reader.specs.Tensors.{names_in, number_of}
 use Rattle.expr_reader.proofs.Lists.{after}
@@ -18,10 +18,10 @@ invariant-loop-name l =
     × ((goal.iterator-loop-name).is_finite l.name-iterator)
     × (length l.tensors.items + length l.name-iterator ≡ length l.fn.members.entries)
     × HaveRank l.rank l.tensors.items
-    × (after l.tensors.items (tensors_by (behind l.left) l.rank (members_view l.name-iterator))
-    ≡ tensors_by (behind l.fn.values) l.rank (members_view l.fn.members.entries))
-    × (place_by (behind l.left) l.rank (members_view l.name-iterator)
-    ≡ place_by (behind l.fn.values) l.rank (members_view l.fn.members.entries))
+    × (after l.tensors.items (tensors_by (source_of l.left) l.rank (members_view l.name-iterator))
+    ≡ tensors_by (source_of l.fn.values) l.rank (members_view l.fn.members.entries))
+    × (place_by (source_of l.left) l.rank (members_view l.name-iterator)
+    ≡ place_by (source_of l.fn.values) l.rank (members_view l.fn.members.entries))
     × ((name : List ℕ) → option_or (number_in l.numbers name)
     (position_from (λ other. bytes_eq name other) (length l.tensors.items) (names_in (members_view l.name-iterator)))
     ≡ number_of (names_in (members_view l.fn.members.entries)) name)

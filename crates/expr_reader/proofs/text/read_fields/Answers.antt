@@ -1,6 +1,6 @@
 use Rattle.std.proofs.Common.{◌≤◌, length, ap, arith}
 use Rattle.serde_json.specs.View.{view}
-use Rattle.expr_reader.specs.Behind.{behind}
+use Rattle.expr_reader.specs.Behind.{source_of}
 use Rattle.expr_reader.specs.Limits.{most_workers}
 use Rattle.expr_reader.specs.Version.{profile_under}
 use Rattle.expr_reader.specs.Walked.{tree_under}
@@ -33,7 +33,7 @@ invariant_of-result-clause-few c =
       arith,
       c.requires,
       ap (λ g. length g.tensors) named.inputs,
-      length-naming_by (behind c.args.values) c.rank.result (view c.args.fields.now.inputs.now) n c.in_ok-named.ensures.1,
+      length-naming_by (source_of c.args.values) c.rank.result (view c.args.fields.now.inputs.now) n c.in_ok-named.ensures.1,
       nodes_of-tree_at (profile_under c.in-Some.version) n 0 (view c.args.fields.now.expr.now)
           (tree_under c.in_ok-tree.tree) tree.0,
     )

@@ -3,8 +3,8 @@ use Rattle.std.proofs.lemmas.Result.{err_from_is_err_and}
 use Rattle.tensor_c.proofs.Dims.{answer_dims-same}
 use Rattle.tensor_c.proofs.evaluation.dims_of.Goals as goal
 
-pub returns-in_err-request : goal.returns-in_err-request
-returns-in_err-request c = λ values long.
+pub returns-in_err-request-clause-dims : goal.returns-in_err-request-clause-dims
+returns-in_err-request-clause-dims c = λ values long.
     let zeroes : List ℤ = c.as_slice.result.now in
     let same : length values ≡ length zeroes = omega (arith, long, c.as_slice.ensures.len, c.in-Ok.ensures.len, c.in-Ok.zeroes.ok.0) in
     let p = err_from_is_err_and c.from_residual.result c.from_residual.ensures.1 in
@@ -13,8 +13,8 @@ returns-in_err-request c = λ values long.
       | inr fault ↦ inr (answer_dims-same c.args.header.now values zeroes same ∙ rw fault refl)
     ])
 
-pub returns : goal.returns
-returns c = λ values long.
+pub returns-clause-dims : goal.returns-clause-dims
+returns-clause-dims c = λ values long.
     let zeroes : List ℤ = c.as_slice.result.now in
     let same : length values ≡ length zeroes = omega (arith, long, c.as_slice.ensures.len, c.in-Ok.ensures.len, c.in-Ok.zeroes.ok.0) in
     answer_dims-same c.args.header.now values zeroes same ∙ rw c.in_ok-request.ensures.request (ap Ok c.in-Ok-dims.ensures.shape)

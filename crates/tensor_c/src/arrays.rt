@@ -1,0 +1,32 @@
+//! A part of the answer where each tensor's values lie in an array of their own.
+
+ghost use Rattle.std.specs.Prelude.{◌≡◌, length, Err};
+ghost use Rattle.expr_reader.specs.Arrays.{arrays_under, joined};
+ghost use Rattle.tensor_c.specs.Answer.{answer_of_arrays};
+ghost use Rattle.tensor_c.specs.Call.{IsTooLong};
+ghost use Rattle.tensor_c.specs.Part.{called_for_part, IsPartCall};
+
+use crate::faults::result_of;
+use crate::part::put_part_of;
+use expr_reader::{Array, Fault, read_arrays};
+use std::alloc::Global;
+
+/// Writes the values of the tensor of a header and arrays from a place on, as `put_part` does.
+pub(crate) fn put_part_over(
+    alloc: Global,
+    header: &[u8],
+    arrays: &[Array<'_>],
+    first: u64,
+    out: &mut [i64],
+) -> i64
+    ensures call { IsPartCall (answer_of_arrays header.now (arrays_under arrays.now)) first out.old
+        (record { result = result; out = out.new }) }
+    ensures too_long { IsTooLong header.now (length (joined (arrays_under arrays.now)))
+        → record { result = result; out = out.new }
+        ≡ called_for_part (Err Fault.TooLong) first out.old }
+{
+    match read_arrays(alloc, header, arrays) {
+        Ok(request) => put_part_of(alloc, &request, first, out),
+        Err(fault) => result_of(fault),
+    }
+}

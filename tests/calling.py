@@ -1,0 +1,122 @@
+"""Calls of the library from Python, by ctypes, for tests/library."""
+
+import ctypes
+
+MOST = 16_777_216
+LEAST, GREATEST = -(2**63), 2**63 - 1
+DIMS_ROOM, NO_ROOM, SPARE, SENTINEL = 9, -100, 3, 77
+CALLS = ("evaluate", "evaluate_part", "evaluate_arrays", "dims", "fault_name")
+TWO = '"a":{"dims":[2]},"b":{"dims":[2]}'
+ENDS = [LEAST, GREATEST, -1, 1]
+
+
+def header(inputs, expr):
+    return f'{{"version":1,"workers":1,"block":1,"inputs":{{{inputs}}},"expr":{expr}}}'
+
+
+class Array(ctypes.Structure):
+    """struct tensor_array of include/tensor.h."""
+
+    _fields_ = [("values", ctypes.c_void_p), ("length", ctypes.c_size_t)]
+
+
+def arrays_of(*lists):
+    """Arrays of these values, which are lists or lie in memory already."""
+    is_memory = [isinstance(it, ctypes.Array) for it in lists]
+    kept = [
+        it if lies else (ctypes.c_int64 * max(len(it), 1))(*it) for it, lies in zip(lists, is_memory)
+    ]
+    found = (Array * len(lists))(*[(ctypes.addressof(k), len(it)) for k, it in zip(kept, lists)])
+    found.kept = kept
+    return found
+
+
+def bytes_of(text):
+    text = text.encode()
+    return (ctypes.c_uint8 * len(text))(*text)
+
+
+class Library:
+    """The shared library, by ctypes."""
+
+    def __init__(self, path):
+        self.calls = ctypes.CDLL(path)
+        for name in CALLS:
+            getattr(self.calls, f"tensor_{name}").restype = ctypes.c_int64
+
+    def call(self, name, *arguments):
+        """A call, where a list stands for its pointer and length."""
+        words = []
+        for it in arguments:
+            if isinstance(it, int):
+                words.append(ctypes.c_uint64(it))
+            else:
+                words += [it, ctypes.c_size_t(len(it))]
+        return getattr(self.calls, name)(*words)
+
+    def name_of(self, number):
+        name = (ctypes.c_uint8 * 16)(*[SENTINEL] * 16)
+        length = self.call("tensor_fault_name", number, name)
+        return length, bytes(name)
+
+    def line(self, header_text, values):
+        """The line of an answer. Dims are asked for first."""
+        text = bytes_of(header_text)
+        dims, again = (ctypes.c_uint64 * DIMS_ROOM)(), (ctypes.c_uint64 * DIMS_ROOM)()
+        count = self.call("tensor_dims", text, len(values), dims)
+        out = (ctypes.c_int64 * (max(count, 0) + SPARE))(*[SENTINEL] * (max(count, 0) + SPARE))
+        values = (ctypes.c_int64 * len(values))(*values)
+        result = self.call("tensor_evaluate", text, values, out, again)
+        if result != count or list(dims) != list(again):
+            return "tensor_dims and tensor_evaluate differ"
+        if list(out[max(count, 0):]) != [SENTINEL] * SPARE:
+            return "written past the result"
+        if count < 0:
+            length, name = self.name_of(-count)
+            return f"error {-count} {name[:length].decode()}"
+        data = ",".join(map(str, out[:count]))
+        return f'{{"data":[{data}],"dims":[{",".join(map(str, dims[1 : 1 + dims[0]]))}]}}'
+
+
+def part_calls(library):
+    """Calls for parts, as what each is, what it gives and what it is to give."""
+    text, four = bytes_of(header(TWO, '["add","a","b"]')), (ctypes.c_int64 * 4)(*ENDS)
+    many = (ctypes.c_int64 * (MOST + 1))()
+    long = (ctypes.c_uint8 * (MOST + 1))()
+    for name, asked, first, wanted in (
+        ("of all", (text, four), 0, (2, [GREATEST, LEAST])),
+        ("of the last value", (text, four), 1, (1, [LEAST])),
+        ("past the end", (text, four), 2, (0, [])),
+        ("far past the end", (text, four), 2**64 - 1, (0, [])),
+        ("of a fault", (text, (ctypes.c_int64 * 3)()), 0, (-7, [])),
+        ("of too many values", (text, many), 0, (-1, [])),
+        ("of too long a header", (long, four), 0, (-1, [])),
+    ):
+        out = (ctypes.c_int64 * 3)(*[SENTINEL] * 3)
+        result = library.call("tensor_evaluate_part", *asked, first, out)
+        left = [SENTINEL] * (3 - len(wanted[1]))
+        yield f"a part {name}", (result, list(out)), (wanted[0], wanted[1] + left)
+
+
+def array_calls(library):
+    """The same of calls with an array a tensor."""
+    two, long = bytes_of(header(TWO, '["sub","a","b"]')), (ctypes.c_uint8 * (MOST + 1))()
+    one, fault = bytes_of(header('"a":{"dims":[2]}', '"a"')), bytes_of(header(TWO, '["div"]'))
+    many = arrays_of([5, 7], (ctypes.c_int64 * (MOST - 1))())
+    for name, text, arrays, first, wanted in (
+        ("of two", two, arrays_of([5, 7], [2, 3]), 0, (2, [3, 4])),
+        ("of two from the second value on", two, arrays_of([5, 7], [2, 3]), 1, (1, [4])),
+        ("of two past the end", two, arrays_of([5, 7], [2, 3]), 2**64 - 1, (0, [])),
+        ("whose lengths fit together alone", two, arrays_of([5], [7, 2, 3]), 0, (-7, [])),
+        ("of which one has no values", two, arrays_of([5, 7], []), 0, (-7, [])),
+        ("one too few", two, arrays_of([5, 7]), 0, (-7, [])),
+        ("one too many", one, arrays_of([5, 7], []), 0, (-7, [])),
+        ("none", two, arrays_of(), 0, (-7, [])),
+        ("of another fault", fault, arrays_of([5, 7], [2, 3]), 0, (-9, [])),
+        ("of too long a header", long, arrays_of([5, 7], [2, 3]), 0, (-1, [])),
+        ("of too many values together", two, many, 0, (-1, [])),
+    ):
+        out = (ctypes.c_int64 * 3)(*[SENTINEL] * 3)
+        result = library.call("tensor_evaluate_arrays", text, arrays, first, out)
+        left = [SENTINEL] * (3 - len(wanted[1]))
+        yield f"arrays {name}", (result, list(out)), (wanted[0], wanted[1] + left)
