@@ -26,6 +26,11 @@ def escaped(step):
     return str(step).replace("~", "~0").replace("/", "~1")
 
 
+def shown(steps):
+    """The place as the lines have it: its pointer, where a few letters are as JSON escapes them."""
+    return "".join(f"\\u{ord(it):04x}" if it < " " or it in '":\\' else it for it in pointer(steps))
+
+
 class Tree:
     """A walk over an expression that knows where it is."""
 
@@ -60,7 +65,7 @@ class Tree:
 
 
 def look(fields):
-    """Looks at the value of a text, up to its first fault."""
+    """The dims of what a text's value asks for, or its first fault."""
     if not isinstance(fields, dict) or fields.keys() != FIELDS:
         raise Place(3, [])
     if not is_whole(fields["version"], min(VERSIONS), max(VERSIONS)):
@@ -75,15 +80,17 @@ def look(fields):
     for name in sorted(inputs, key=str.encode):
         if not is_tensor(version, inputs[name]):
             raise Place(7, ["inputs", name])
-    Tree(version, inputs).dims(fields["expr"], ["expr"])
+    return Tree(version, inputs).dims(fields["expr"], ["expr"])
 
 
-def place(text):
-    """The number of a text's fault and the pointer to it, or None."""
+def find(text):
+    """The value of a text, where it is JSON; its fault, as a number and the steps to the place, or
+    None; and the dims of its result, or None."""
+    value = None
     try:
-        look(parse(text))
+        value = parse(text)
+        return value, None, look(value)
     except Fault as fault:
-        return fault.number, ""
+        return value, (fault.number, []), None
     except Place as found:
-        return found.number, pointer(found.steps)
-    return None
+        return value, (found.number, found.steps), None

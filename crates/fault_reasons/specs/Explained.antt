@@ -1,36 +1,53 @@
--- What is said of a text that has a fault: the fault, its place, and a reason, of which no more is
--- said here.
-use Rattle.std.specs.Prelude.{◌≡◌, ◌⊎◌, ℕ, List, [], ◌∷◌, ◌++◌, codes, decimal, Result, Err}
-use Rattle.std.specs.Prelude.{IsOk, MatchOption}
+-- What is told of a text: its first fault, where it is, and a reason; or that it has none.
+-- What the reason says is not said here, nor what stands behind the line that there is no fault.
+use Rattle.std.specs.Prelude.{◌≡◌, ◌⊎◌, ℕ, List, ◌++◌, All, codes, decimal, Option, Some, None}
+use Rattle.std.specs.Prelude.{Result, Ok, Err, false, ◌==◌}
+use Rattle.std.specs.Cow.{cow_slice_items}
 use Rattle.expr_reader.specs.Faults.{fault_number, fault_name}
-use Rattle.expr_reader.specs.Place.{Step, Located}
+use Rattle.expr_reader.specs.Place.{Located}
 use Rattle.expr_reader.specs.Request.{Asked}
 use Rattle.expr_reader.specs.declared.fault.Fault.{Fault}
 use Rattle.expr_reader.specs.declared.fault.Fault.TheVariants.{NoMemory}
-use Rattle.fault_reasons.specs.Pointer.{pointer_of}
+use Rattle.fault_reasons.specs.Pointer.{place_text}
 use Rattle.fault_reasons.specs.declared.explanation.Explanation.{Explanation}
 
--- a place as a pointer, or these words where that is empty
-abbrev pub place_text : List Step → List ℕ
-place_text [] = codes "the whole text"
-place_text (step ∷ steps) = pointer_of (step ∷ steps)
+-- the line of a fault, which is all that is told of want of memory
+abbrev pub fault_line : Fault → List ℕ
+fault_line fault =
+    codes "error " ++ (decimal (fault_number fault) ++ (codes " " ++ (fault_name fault
+    ++ codes "\n")))
 
--- a fault and a place, and then a reason
+-- and below it its place and a reason
 abbrev pub fault_lines : Fault → List ℕ → List ℕ → List ℕ
 fault_lines fault place reason =
-    codes "error " ++ decimal (fault_number fault) ++ codes " " ++ fault_name fault
-    ++ codes "\nat " ++ place ++ codes ": " ++ reason ++ codes "\n"
+    fault_line fault ++ (codes "at " ++ (place ++ (codes ": " ++ (reason ++ codes "\n"))))
 
--- the fault that is found, and where it is
-pub record IsFaultOf (found : Result Asked Located) (told : Explanation) (fault : Fault)
-    : Type 0 where
-  pub place : List Step
-  pub found_there : found ≡ Err (record { fault = fault; place = place })
+-- no byte is a line feed
+abbrev pub IsOneLine : List ℕ → Type 0
+IsOneLine text = All (λ byte. (byte == 10) ≡ false) text
+
+-- the lines on a fault that was found
+pub record TellsOf (found : Located) (lines : List ℕ) : Type 0 where
   pub reason : List ℕ
-  pub lines : told.lines.items ≡ fault_lines fault (place_text place) reason
+  pub one_line : IsOneLine reason
+  pub all : lines ≡ fault_lines found.fault (place_text found.place) reason
 
--- none where there is none; or there is no memory
+-- the lines on a text without a fault, of which the first one is this
+pub record TellsOfNone (lines : List ℕ) : Type 0 where
+  pub rest : List ℕ
+  pub all : lines ≡ codes "no fault\n" ++ rest
+
+-- what is told of what a text asks for, or of its first fault
+abbrev pub Tells : Result Asked Located → Option Fault → List ℕ → Type 0
+Tells (Ok asked) fault lines = (fault ≡ None) × TellsOfNone lines
+Tells (Err found) fault lines = (fault ≡ Some found.fault) × TellsOf found lines
+
+-- want of memory
+pub record IsNoMemory (told : Explanation) : Type 0 where
+  pub fault : told.fault ≡ Some NoMemory
+  pub lines : cow_slice_items told.lines ≡ fault_line NoMemory
+
+-- either
 abbrev pub IsExplained : Result Asked Located → Explanation → Type 0
 IsExplained found told =
-    MatchOption told.fault (IsOk found)
-    (λ fault. (fault ≡ NoMemory) ⊎ IsFaultOf found told fault)
+    Tells found told.fault (cow_slice_items told.lines) ⊎ IsNoMemory told

@@ -1,6 +1,7 @@
--- A place as a JSON pointer (RFC 6901).
-use Rattle.std.specs.Prelude.{ℕ, ◌==◌, List, [], ◌∷◌, ◌++◌, flat_map, codes, decimal}
-use Rattle.std.specs.Prelude.{if◌then◌else◌}
+-- A place as a JSON pointer (RFC 6901), and as a line shows it.
+use Rattle.std.specs.Prelude.{ℕ, ◌/◌, ◌%◌, ◌==◌, Bool, ◌||◌, nat_lt, List, [], ◌∷◌, ◌++◌}
+use Rattle.std.specs.Prelude.{flat_map, codes, decimal, if◌then◌else◌}
+use Rattle.std.specs.Char.{digit_char}
 use Rattle.expr_reader.specs.Place.{Step, field, index}
 
 -- a byte of a name, where a tilde and a slash are written in two
@@ -15,3 +16,19 @@ step_text (index n) = codes "/" ++ decimal n
 
 abbrev pub pointer_of : List Step → List ℕ
 pointer_of steps = flat_map step_text steps
+
+-- whether a byte isn't shown as it is: a control byte, a quotation mark and a backslash, as in a
+-- JSON string, and a colon, since one ends the place
+abbrev pub is_hidden : ℕ → Bool
+is_hidden byte = nat_lt byte 32 || (byte == 34 || (byte == 92 || byte == 58))
+
+-- a byte as a line shows it: one that is hidden by JSON's escape, a `u` and four digits of base 16
+abbrev pub shown : ℕ → List ℕ
+shown byte =
+    if is_hidden byte then codes "\\u00" ++ digit_char (byte / 16) ∷ digit_char (byte % 16) ∷ []
+    else byte ∷ []
+
+-- a place as a line shows it, where the empty pointer is these words
+abbrev pub place_text : List Step → List ℕ
+place_text [] = codes "the whole text"
+place_text (step ∷ steps) = flat_map shown (pointer_of (step ∷ steps))

@@ -1,21 +1,23 @@
 //! What is said of a request text: its fault, where it is and why, or its plan.
 
-ghost use Rattle.std.specs.Prelude.{◌≡◌, Some, IfOk};
+ghost use Rattle.std.specs.Prelude.{◌≡◌, ◌⊎◌, ◌++◌, None, Some, IfOk, MatchOption};
+ghost use Rattle.std.specs.Cow.{cow_slice_items};
 ghost use Rattle.serde_json.specs.View.{view};
-ghost use Rattle.expr_reader.specs.Located.{steps_under};
+ghost use Rattle.expr_reader.specs.Located.{located_under};
 ghost use Rattle.expr_reader.specs.Request.{request_at, data_asked};
 ghost use Rattle.expr_reader.specs.Tensors.{inputs_in};
-ghost use Rattle.fault_reasons.specs.Explained.{place_text, fault_lines, IsExplained};
+ghost use Rattle.fault_reasons.specs.Explained.{Tells, IsExplained, fault_line};
 
+use crate::lines::{WHOLE, fault_lines, one_line, place_text};
 use crate::plan::plan_lines;
-use crate::pointers::pointer;
 use crate::reasons::why;
 use crate::texts::why_text;
-use expr_reader::{Fault, Parsed, Place, locate, parse_request};
+use expr_reader::{Fault, Parsed, locate, parse_request};
 use std::alloc::{AllocError, Global};
+use std::borrow::CowSlice;
 
-/// The place of a fault that is one of the whole text.
-const WHOLE: &[u8] = b"the whole text";
+/// The line where there is no memory, which takes none.
+const NO_MEMORY: &[u8] = b"error 15 NoMemory\n";
 
 /// What is said of a text, and its fault where it has one.
 #[derive(Drop)]
@@ -23,65 +25,81 @@ pub struct Explanation {
     /// The fault that is answered.
     pub fault: Option<Fault>,
     /// Lines, each with its line feed.
-    pub lines: Vec<u8>,
+    pub lines: CowSlice<'static, u8, Global>,
 }
 
-/// Explains a text: `error NUMBER NAME` and `at POINTER: REASON` where it has a fault, and else
-/// `no fault` and the steps that it is worked out in. What the reason says has no clause.
-pub fn explain(alloc: Global, text: &[u8]) -> Result<Explanation, AllocError>
-    ensures { IfOk result (IsExplained (request_at text.now)) }
+/// Lines that were made, and the fault that they tell.
+#[derive(Drop)]
+struct Told {
+    fault: Option<Fault>,
+    lines: Vec<u8>,
+}
+
+/// Explains a text: `error NUMBER NAME` and `at PLACE: REASON` where it has a fault, and else
+/// `no fault`, the dims of its result, and the steps that it is worked out in. Where a growth of
+/// memory is refused the line of that is all.
+pub fn explain(alloc: Global, text: &[u8]) -> Explanation
+    ensures { IsExplained (request_at text.now) result }
 {
-    let parsed = match parse_request(alloc, text) {
-        Ok(parsed) => parsed,
+    match explain_text(alloc, text) {
+        Ok(told) => Explanation {
+            fault: told.fault,
+            lines: CowSlice::Owned(told.lines),
+        },
+        Err(_) => no_memory(),
+    }
+}
+
+/// What is said where there is no memory. It takes none.
+pub fn no_memory() -> Explanation
+    ensures fault { result.fault ≡ Some Fault.NoMemory }
+    ensures lines { cow_slice_items result.lines ≡ fault_line Fault.NoMemory }
+{
+    Explanation {
+        fault: Some(Fault::NoMemory),
+        lines: CowSlice::Borrowed(NO_MEMORY),
+    }
+}
+
+/// Explains a text, where there is memory.
+fn explain_text(alloc: Global, text: &[u8]) -> Result<Told, AllocError>
+    ensures { IfOk result (λ told. Tells (request_at text.now) told.fault told.lines.items) }
+{
+    match parse_request(alloc, text) {
+        Ok(parsed) => explain_parsed(alloc, &parsed),
         Err(fault) => {
-            let reason = why_text(alloc, fault, text)?;
-            return told(alloc, fault, WHOLE, reason.as_str());
+            if fault == Fault::NoMemory {
+                return Err(AllocError);
+            }
+            let reason = one_line(alloc, why_text(alloc, fault, text)?.as_str())?;
+            let lines = fault_lines(alloc, fault, WHOLE, reason.as_slice())?;
+            Ok(Told {
+                fault: Some(fault),
+                lines,
+            })
         }
-    };
-    explain_parsed(alloc, &parsed)
+    }
 }
 
 /// Explains a text that was parsed.
-fn explain_parsed(alloc: Global, parsed: &Parsed) -> Result<Explanation, AllocError>
-    ensures { IfOk result (IsExplained (data_asked inputs_in (view parsed.now.value))) }
+fn explain_parsed(alloc: Global, parsed: &Parsed) -> Result<Told, AllocError>
+    ensures { IfOk result (λ told.
+        Tells (data_asked inputs_in (view parsed.now.value)) told.fault told.lines.items) }
 {
-    match locate(alloc, parsed) {
-        Some(located) => {
-            let reason = why(alloc, parsed, &located)?;
-            let place = shown(alloc, &located.place)?;
-            told(alloc, located.fault, place.as_slice(), reason.as_str())
-        }
-        None => Ok(Explanation {
+    let Some(located) = locate(alloc, parsed) else {
+        return Ok(Told {
             fault: None,
             lines: plan_lines(alloc, parsed)?,
-        }),
+        });
+    };
+    if located.fault == Fault::NoMemory {
+        return Err(AllocError);
     }
-}
-
-/// A place, as the lines have it.
-fn shown(alloc: Global, place: &Place<'_>) -> Result<Vec<u8>, AllocError>
-    ensures { IfOk result (λ text. text.items ≡ place_text (steps_under place.now)) }
-{
-    match place {
-        Place::Whole => Vec::from_slice(alloc, WHOLE),
-        Place::Field(_) | Place::Input(_) | Place::Node(_) => pointer(alloc, place),
-    }
-}
-
-/// That there is this fault, where and why.
-fn told(alloc: Global, fault: Fault, place: &[u8], reason: &str) -> Result<Explanation, AllocError>
-    ensures fault { IfOk result (λ told. told.fault ≡ Some fault) }
-    ensures lines { IfOk result (λ told.
-        told.lines.items ≡ fault_lines fault place.now reason.now) }
-{
-    let error = format!(in alloc; "error {} {}\nat ", fault.number(), fault.name())?;
-    let mut lines = error.into_bytes();
-    lines.extend_from_slice(place)?;
-    lines.extend_from_slice(b": ")?;
-    lines.extend_from_slice(reason.as_bytes())?;
-    lines.push(b'\n')?;
-    Ok(Explanation {
-        fault: Some(fault),
+    let place = place_text(alloc, &located.place)?;
+    let reason = one_line(alloc, why(alloc, parsed, &located)?.as_str())?;
+    let lines = fault_lines(alloc, located.fault, place.as_slice(), reason.as_slice())?;
+    Ok(Told {
+        fault: Some(located.fault),
         lines,
     })
 }

@@ -6,6 +6,7 @@
 mod explanation;
 mod fields;
 mod found;
+mod lines;
 mod movements;
 mod nodes;
 mod operations;
@@ -19,5 +20,5 @@ mod sizes;
 mod tensors;
 mod texts;
 
-pub use explanation::{Explanation, explain};
+pub use explanation::{Explanation, explain, no_memory};
 pub use pointers::pointer;

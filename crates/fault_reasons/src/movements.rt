@@ -1,6 +1,6 @@
 //! Why a movement, a pad or a reshape of an operand fails.
 
-use crate::sizes::{places, sizes_in, why_axes, why_illegal};
+use crate::sizes::{past_words, places, sizes_in, why_axes, why_illegal};
 use serde_json::Value;
 use std::alloc::{AllocError, Global};
 
@@ -61,8 +61,11 @@ pub(crate) fn why_broadcast(
         return Ok(Some(reason));
     }
     let mut sizes = Vec::new(alloc);
-    for (count, size) in counts.iter().zip(dims.iter()) {
-        sizes.push(count.saturating_mul(*size))?;
+    for (axis, (count, size)) in counts.iter().zip(dims.iter()).enumerate() {
+        let Some(repeated) = count.checked_mul(*size) else {
+            return past_words(alloc, axis);
+        };
+        sizes.push(repeated)?;
     }
     why_illegal(alloc, version, sizes.as_slice())
 }
@@ -189,12 +192,23 @@ pub(crate) fn why_pad(
         return Ok(Some(reason));
     }
     let mut sizes = Vec::new(alloc);
-    for (pair, size) in list.iter().zip(dims.iter()) {
-        let mut padded = *size;
-        if let Some(pair) = sizes_in(alloc, pair)? {
-            padded = padded.saturating_add(crate::sizes::total(pair.as_slice()));
-        }
+    for (axis, (pair, size)) in list.iter().zip(dims.iter()).enumerate() {
+        let Some(pair) = sizes_in(alloc, pair)? else {
+            return Ok(None);
+        };
+        let Some(padded) = sum_of(*size, pair.as_slice()) else {
+            return past_words(alloc, axis);
+        };
         sizes.push(padded)?;
     }
     why_illegal(alloc, version, sizes.as_slice())
+}
+
+/// A size and more, where that is not past 64 bits.
+fn sum_of(size: u64, more: &[u64]) -> Option<u64> {
+    let mut sum = size;
+    for each in more {
+        sum = sum.checked_add(*each)?;
+    }
+    Some(sum)
 }

@@ -83,7 +83,7 @@ fn near(name: &str) -> Option<&'static str> {
 /// Why a value is no node.
 pub(crate) fn why_node(alloc: Global, value: &Value) -> Result<String, AllocError> {
     let what = found(alloc, value)?;
-    if value.is_number() {
+    if value.as_i64().is_some() {
         return format!(in alloc;
             "a number is no expression: [\"constant\",x,{what}] has it at each place of x"
         );

@@ -18,7 +18,7 @@ impl Form {
             Form::Sizes => "a list of whole numbers from 0 to 9223372036854775807",
             Form::Pairs => "a list of lists of two whole numbers from 0 to 9223372036854775807",
             Form::Flags => "a list of truth values",
-            Form::Value => "a whole number of the range of 64 bits",
+            Form::Value => { "a whole number from -9223372036854775808 to 9223372036854775807" }
         }
     }
 }

@@ -1,5 +1,6 @@
 //! The values at places.
 
+use crate::operations::known_operation;
 use expr_reader::Place;
 use serde_json::Value;
 
@@ -31,4 +32,63 @@ fn node_at<'v>(root: &'v Value, indices: &[u8]) -> Option<&'v Value> {
         value = value.get(*index as usize)?;
     }
     Some(value)
+}
+
+/// How many nodes the walk over the expression has met before the one at a place: those on the way
+/// to it, and all of the operands on the left of the way, which have no fault.
+pub(crate) fn nodes_before(root: &Value, place: &Place<'_>) -> u64 {
+    let (Place::Node(indices), Some(expr)) = (place, root.get("expr")) else {
+        return 0;
+    };
+    let mut value = expr;
+    let mut nodes = 0u64;
+    for index in indices.as_slice().iter().rev() {
+        let Some(below) = value.get(*index as usize) else {
+            return nodes;
+        };
+        nodes = nodes
+            .saturating_add(1)
+            .saturating_add(nodes_left(value, *index as usize));
+        value = below;
+    }
+    nodes
+}
+
+/// The nodes of a node's operands on the left of this index.
+fn nodes_left(value: &Value, index: usize) -> u64 {
+    let mut nodes = 0u64;
+    if let Some(elements) = value.as_array() {
+        for operand in elements.iter().take(index).skip(1) {
+            nodes = nodes.saturating_add(nodes_in(operand));
+        }
+    }
+    nodes
+}
+
+/// The nodes of an expression without a fault.
+fn nodes_in(value: &Value) -> u64 {
+    match value {
+        Value::Array(elements) => {
+            let operands = operands_of(elements.as_slice());
+            let mut nodes = 1u64;
+            for (index, element) in elements.iter().enumerate() {
+                if 1 <= index && index <= operands {
+                    nodes = nodes.saturating_add(nodes_in(element));
+                }
+            }
+            nodes
+        }
+        _ => 1,
+    }
+}
+
+/// How many operands stand behind the name of a node's operation.
+fn operands_of(elements: &[Value]) -> usize {
+    let Some(name) = elements.first().and_then(Value::as_str) else {
+        return 0;
+    };
+    match known_operation(name) {
+        Some(operation) => operation.operands,
+        None => 0,
+    }
 }

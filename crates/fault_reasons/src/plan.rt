@@ -1,32 +1,45 @@
 //! The steps that a request without a fault is worked out in.
 
-use expr_reader::{Parsed, Request, read_part};
+ghost use Rattle.std.specs.Prelude.{IfOk};
+ghost use Rattle.fault_reasons.specs.Explained.{TellsOfNone};
+
+use expr_reader::{Fault, Parsed, Request, read_part};
 use std::alloc::{AllocError, Global};
 use tensor_reduce::{Plan, Step};
 
 /// That a request has no fault, the dims of its result, and a line for each step.
-pub(crate) fn plan_lines(alloc: Global, parsed: &Parsed) -> Result<Vec<u8>, AllocError> {
+pub(crate) fn plan_lines(alloc: Global, parsed: &Parsed) -> Result<Vec<u8>, AllocError>
+    ensures { IfOk result (λ lines. TellsOfNone lines.items) }
+{
     let mut lines = Vec::from_slice(alloc, b"no fault\n")?;
-    if let Some(expr) = parsed.value.get("expr")
-        && let Ok(request) = read_part(alloc, parsed, expr)
-    {
-        push_steps(alloc, &request, &mut lines)?;
-    }
+    let steps = steps_of(alloc, parsed)?;
+    lines.extend_from_slice(steps.as_bytes())?;
     Ok(lines)
 }
 
-/// Appends the dims of the result and a line for each step.
-fn push_steps(alloc: Global, request: &Request, lines: &mut Vec<u8>) -> Result<(), AllocError> {
+/// The dims of the result and a line for each step, of a text that asks for some.
+fn steps_of(alloc: Global, parsed: &Parsed) -> Result<String, AllocError> {
+    let Some(expr) = parsed.value.get("expr") else {
+        return Ok(String::new(alloc));
+    };
+    match read_part(alloc, parsed, expr) {
+        Ok(request) => steps(alloc, &request),
+        Err(Fault::NoMemory) => Err(AllocError),
+        Err(_) => Ok(String::new(alloc)),
+    }
+}
+
+/// The same of a request.
+fn steps(alloc: Global, request: &Request) -> Result<String, AllocError> {
+    let mut lines = String::new(alloc);
     if let Ok(dims) = request.expr.dims(&request.inputs) {
-        let line = format!(in alloc; "dims {:?}\n", dims.as_slice())?;
-        lines.extend_from_slice(line.as_bytes())?;
+        lines.push_str(format!(in alloc; "dims {:?}\n", dims.as_slice())?.as_str())?;
     }
     let plan = Plan::of(alloc, &request.expr, &request.inputs)?;
     for (index, step) in plan.steps().iter().enumerate() {
-        let line = step_line(alloc, index, step)?;
-        lines.extend_from_slice(line.as_bytes())?;
+        lines.push_str(step_line(alloc, index, step)?.as_str())?;
     }
-    Ok(())
+    Ok(lines)
 }
 
 /// The line of a step: its dims, and how many values it works out.

@@ -3,10 +3,10 @@
 use crate::fields::{why_block, why_fields, why_version, why_workers};
 use crate::nodes::{why_argument, why_arity, why_input, why_node, why_operation};
 use crate::operations::known_operation;
-use crate::places::{above, value_at};
+use crate::places::{above, nodes_before, value_at};
 use crate::shapes::{Call, why_shapes};
 use crate::tensors::{why_inputs, why_tensor};
-use expr_reader::{Fault, Located, Parsed, Place, read_part};
+use expr_reader::{Fault, Located, MAX_NODES, Parsed, Place};
 use serde_json::Value;
 use std::alloc::{AllocError, Global};
 
@@ -33,8 +33,10 @@ pub(crate) fn why(
         Fault::UnknownInput => why_input(alloc, root.get("inputs"), value),
         Fault::BadArity => why_arity(alloc, value),
         Fault::UnknownOp | Fault::BadArgument => why_element(alloc, version, root, located, value),
-        Fault::ShapeMismatch | Fault::OutOfRange => why_checks(alloc, parsed, version, value),
-        Fault::TooLarge => why_large(alloc, parsed, version, value),
+        Fault::TooLarge if nodes_before(root, &located.place) >= MAX_NODES => why_too_many(alloc),
+        Fault::ShapeMismatch | Fault::OutOfRange | Fault::TooLarge => {
+            why_checks(alloc, parsed, version, value)
+        }
         fault => format!(in alloc; "{fault}"),
     }
 }
@@ -77,15 +79,7 @@ fn why_checks(
     why_shapes(alloc, parsed, call, operands)
 }
 
-/// Why a node is too large: by its own checks, or since there are too many before it.
-fn why_large(
-    alloc: Global,
-    parsed: &Parsed,
-    version: u64,
-    node: &Value,
-) -> Result<String, AllocError> {
-    match read_part(alloc, parsed, node) {
-        Err(Fault::TooLarge) => why_checks(alloc, parsed, version, node),
-        _ => format!(in alloc; "this is the 1001st node, and an expression has at most 1000"),
-    }
+/// Why a node has no place any more in an expression.
+fn why_too_many(alloc: Global) -> Result<String, AllocError> {
+    format!(in alloc; "this is the 1001st node, and an expression has at most {MAX_NODES}")
 }

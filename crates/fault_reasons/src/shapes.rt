@@ -5,7 +5,7 @@ use crate::movements::{
 };
 use crate::pairs::{why_concat, why_contract, why_convolve};
 use crate::sizes::{sizes_in, why_axes};
-use expr_reader::{Dims, Parsed, read_part};
+use expr_reader::{Dims, Fault, Parsed, read_part};
 use serde_json::Value;
 use std::alloc::{AllocError, Global};
 
@@ -26,7 +26,7 @@ pub(crate) fn why_shapes(
 ) -> Result<String, AllocError> {
     let mut dims = Vec::new(alloc);
     for operand in operands {
-        match dims_of(alloc, parsed, operand) {
+        match dims_of(alloc, parsed, operand)? {
             Some(of_one) => dims.push(of_one)?,
             None => return general(alloc, call),
         }
@@ -49,15 +49,18 @@ pub(crate) fn why_shapes(
     }
 }
 
-/// What is said where there is no memory to find out more.
+/// What is said where no more is known.
 fn general(alloc: Global, call: Call<'_>) -> Result<String, AllocError> {
     format!(in alloc; "the dims of the operands don't fit \"{}\"", call.name)
 }
 
 /// The result dims of an operand.
-fn dims_of(alloc: Global, parsed: &Parsed, operand: &Value) -> Option<Dims> {
-    let request = read_part(alloc, parsed, operand).ok()?;
-    request.expr.dims(&request.inputs).ok()
+fn dims_of(alloc: Global, parsed: &Parsed, operand: &Value) -> Result<Option<Dims>, AllocError> {
+    match read_part(alloc, parsed, operand) {
+        Ok(request) => Ok(request.expr.dims(&request.inputs).ok()),
+        Err(Fault::NoMemory) => Err(AllocError),
+        Err(_) => Ok(None),
+    }
 }
 
 /// Why an operation on one operand fails, if it is known.

@@ -45,9 +45,14 @@ pub(crate) fn why_illegal(
     }
     let product = product(sizes);
     if product > MOST_PLACES {
+        let zero = if sizes.contains(&0) {
+            ", a 0 counted as 1,"
+        } else {
+            ""
+        };
         let most = if product == u64::MAX { "at least " } else { "" };
         let reason = format!(in alloc;
-            "the product of the dims {sizes:?} is {most}{product}, and at most {MOST_PLACES}"
+            "the product of the dims {sizes:?}{zero} is {most}{product}, and at most {MOST_PLACES}"
         )?;
         return Ok(Some(reason));
     }
@@ -69,13 +74,14 @@ pub(crate) fn sizes_in(alloc: Global, value: &Value) -> Result<Option<Vec<u64>>,
     Ok(Some(sizes))
 }
 
-/// The sum of sizes, or the greatest number of 64 bits where it is past that.
-pub(crate) fn total(sizes: &[u64]) -> u64 {
-    let mut total = 0u64;
-    for size in sizes {
-        total = total.saturating_add(*size);
-    }
-    total
+/// That a result is past 64 bits along an axis.
+pub(crate) fn past_words(alloc: Global, axis: usize) -> Result<Option<String>, AllocError> {
+    let rule = format!(in alloc; "the product of its dims is at most {MOST_PLACES}")?;
+    let reason = format!(in alloc;
+        "along axis {axis} the result has more than {} places, and {rule}",
+        u64::MAX
+    )?;
+    Ok(Some(reason))
 }
 
 /// Why axes aren't each one of these dims' and none twice, if they aren't.

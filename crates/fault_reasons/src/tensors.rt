@@ -68,7 +68,9 @@ fn why_data(alloc: Global, dims: &Value, value: &Value) -> Result<String, AllocE
         if number.as_i64().is_none() {
             let what = found(alloc, number)?;
             return format!(in alloc;
-                "the data are whole numbers of the range of 64 bits, and that at index {index} is {what}"
+                "the data are whole numbers from {} to {}, and that at index {index} is {what}",
+                i64::MIN,
+                i64::MAX
             );
         }
     }

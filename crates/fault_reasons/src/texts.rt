@@ -8,9 +8,8 @@ use std::alloc::{AllocError, Global};
 pub(crate) fn why_text(alloc: Global, fault: Fault, text: &[u8]) -> Result<String, AllocError> {
     match fault {
         Fault::TooLong => format!(in alloc;
-            "a text has at most {} bytes, and this has {}",
-            expr_reader::MAX_TEXT,
-            text.len()
+            "a text has at most {} bytes, and this has more",
+            expr_reader::MAX_TEXT
         ),
         Fault::NotJson => why_json(alloc, text),
         _ => format!(in alloc; "{fault}"),
@@ -22,17 +21,33 @@ fn why_json(alloc: Global, text: &[u8]) -> Result<String, AllocError> {
     match str::from_utf8(text) {
         Ok(text) => match Value::from_str(alloc, text) {
             Ok(_) => format!(in alloc; "it is no JSON"),
+            Err(error) if error.is_memory() => Err(AllocError),
+            Err(error) if error.is_eof() => why_end(alloc, text.as_bytes()),
             Err(error) => {
-                let byte = if error.is_eof() {
-                    text.len()
-                } else {
-                    byte_at(text.as_bytes(), error.line(), error.column())
-                };
+                let byte = byte_at(text.as_bytes(), error.line(), error.column());
                 format!(in alloc; "{error} (byte {byte})")
             }
         },
         Err(error) => format!(in alloc; "byte {} begins no UTF-8", error.valid_up_to()),
     }
+}
+
+/// That a text ends too early: in which line, how many bytes stand there, and how many in all.
+fn why_end(alloc: Global, text: &[u8]) -> Result<String, AllocError> {
+    let mut line = 1usize;
+    let mut column = 0usize;
+    for byte in text {
+        if *byte == b'\n' {
+            line = line.saturating_add(1);
+            column = 0;
+        } else {
+            column = column.saturating_add(1);
+        }
+    }
+    format!(in alloc;
+        "EOF while parsing at line {line} column {column} (byte {})",
+        text.len()
+    )
 }
 
 /// How many bytes stand before a column of a line, both counted from 1.

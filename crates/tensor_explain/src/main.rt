@@ -3,26 +3,42 @@
 //! ignores any.
 #![tactic(auto)]
 
-use fault_reasons::explain;
+use fault_reasons::{Explanation, explain, no_memory};
 use std::io;
-use std::io::{Read, Write};
+use std::io::{ErrorKind, Read, Write};
 use std::process::ExitCode;
+use tensor_runner::{MOST_READ, StreamFault, ending_of};
 
-/// What is said where there is no memory to say more.
-const NO_MEMORY: &[u8] = b"error 15 NoMemory\n";
-
-fn main(rt: HostRuntime) -> io::Result<ExitCode> {
+/// What is said of the text of standard input, of which no more is read than tells that it is too
+/// long.
+fn explained(rt: &HostRuntime) -> Result<Explanation, StreamFault> {
     let alloc = rt.alloc();
     let mut text = Vec::new(alloc);
-    rt.stdin().read_to_end(&mut text)?;
-    match explain(alloc, text.as_slice()) {
-        Ok(told) => {
-            rt.stdout().write_all(told.lines.as_slice())?;
-            Ok(ExitCode::from(u8::from(told.fault.is_some())))
-        }
-        Err(_) => {
-            rt.stdout().write_all(NO_MEMORY)?;
-            Ok(ExitCode::from(1))
+    match rt.stdin().take(MOST_READ as u64).read_to_end(&mut text) {
+        Ok(_) => Ok(explain(alloc, text.as_slice())),
+        Err(error) if error.kind() == ErrorKind::OutOfMemory => Ok(no_memory()),
+        Err(_) => Err(StreamFault::ReadFault),
+    }
+}
+
+/// Writes what is said, and answers the status.
+fn told(rt: &HostRuntime) -> Result<u8, StreamFault> {
+    let told = explained(rt)?;
+    match rt.stdout().write_all(told.lines.as_slice()) {
+        Ok(()) => Ok(u8::from(told.fault.is_some())),
+        Err(_) => Err(StreamFault::WriteFault),
+    }
+}
+
+fn main(rt: HostRuntime) -> io::Result<ExitCode> {
+    match told(&rt) {
+        Ok(status) => Ok(ExitCode::from(status)),
+        Err(fault) => {
+            let ending = ending_of(Err(fault));
+            if let Some(complaint) = ending.complaint {
+                eprint!(rt; "{complaint}")?;
+            }
+            Ok(ExitCode::from(ending.status))
         }
     }
 }

@@ -1,0 +1,102 @@
+//! The lines on a fault: its place and a reason, each in one line.
+
+ghost use Rattle.std.specs.Prelude.{◌≡◌, ◌<◌, ◌++◌, flat_map, IfOk, OnOk};
+ghost use Rattle.std.specs.Char.{digit_char};
+ghost use Rattle.expr_reader.specs.Located.{steps_under};
+ghost use Rattle.fault_reasons.specs.Explained.{fault_lines, IsOneLine};
+ghost use Rattle.fault_reasons.specs.Pointer as text;
+ghost use Rattle.fault_reasons.specs.Pointer.{is_hidden, shown};
+
+use crate::pointers::pointer;
+use expr_reader::{Fault, Place};
+use std::alloc::{AllocError, Global};
+
+/// The place of a fault that is one of the whole text.
+pub(crate) const WHOLE: &[u8] = b"the whole text";
+
+/// A place, as the lines have it.
+pub(crate) fn place_text(alloc: Global, place: &Place<'_>) -> Result<Vec<u8>, AllocError>
+    ensures { IfOk result (λ place_bytes.
+        place_bytes.items ≡ text.place_text (steps_under place.now)) }
+{
+    match place {
+        Place::Whole => Vec::from_slice(alloc, WHOLE),
+        Place::Field(_) | Place::Input(_) | Place::Node(_) => {
+            let pointer = pointer(alloc, place)?;
+            shown(alloc, pointer.as_slice())
+        }
+    }
+}
+
+/// A pointer as a line shows it.
+fn shown(alloc: Global, pointer: &[u8]) -> Result<Vec<u8>, AllocError>
+    ensures { IfOk result (λ place. place.items ≡ flat_map shown pointer.now) }
+{
+    let mut place = Vec::new(alloc);
+    for byte in pointer {
+        push_shown(&mut place, *byte)?;
+    }
+    Ok(place)
+}
+
+/// Appends a byte of a pointer as a line shows it.
+fn push_shown(place: &mut Vec<u8>, byte: u8) -> Result<(), AllocError>
+    ensures { OnOk result (place.new.items ≡ place.old.items ++ shown byte) }
+{
+    if !is_hidden(byte) {
+        place.push(byte)?;
+        return Ok(());
+    }
+    place.extend_from_slice(b"\\u00")?;
+    place.push(digit(byte / 16))?;
+    place.push(digit(byte % 16))?;
+    Ok(())
+}
+
+/// A digit of base 16.
+fn digit(value: u8) -> u8
+    requires { value < 16 }
+    ensures { result ≡ digit_char value }
+{
+    if value < 10 {
+        b'0' + value
+    } else {
+        b'a' - 10 + value
+    }
+}
+
+/// Whether a byte isn't shown as it is.
+fn is_hidden(byte: u8) -> bool
+    ensures { result ≡ is_hidden byte }
+{
+    byte < 32 || byte == b'"' || byte == b'\\' || byte == b':'
+}
+
+/// That there is this fault, where and why.
+pub(crate) fn fault_lines(
+    alloc: Global,
+    fault: Fault,
+    place: &[u8],
+    reason: &[u8],
+) -> Result<Vec<u8>, AllocError>
+    ensures { IfOk result (λ lines. lines.items ≡ fault_lines fault place.now reason.now) }
+{
+    let error = format!(in alloc; "error {} {}\nat ", fault.number(), fault.name())?;
+    let mut lines = error.into_bytes();
+    lines.extend_from_slice(place)?;
+    lines.extend_from_slice(b": ")?;
+    lines.extend_from_slice(reason)?;
+    lines.push(b'\n')?;
+    Ok(lines)
+}
+
+/// A text with a space for each line feed.
+pub(crate) fn one_line(alloc: Global, text: &str) -> Result<Vec<u8>, AllocError>
+    ensures { IfOk result (λ line. IsOneLine line.items) }
+{
+    let mut line = Vec::new(alloc);
+    for byte in text.as_bytes() {
+        line.push(if *byte == b'\n' { b' ' } else { *byte })?;
+    }
+    Ok(line)
+}
