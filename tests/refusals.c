@@ -1,4 +1,5 @@
-/* Refuses a program's requests for memory and its starts of threads, as tests/refusals asks.
+/* Refuses a program's requests for memory and its starts of threads, as tests/refusals asks, and
+   interrupts its calls on the standard streams.
 
    It is loaded by LD_PRELOAD and answers in place of the C library. What it counts begins with the
    program's main: the loader's and the C library's own start, before that, is left alone. From
@@ -9,7 +10,9 @@
    REFUSE_START    the start of a thread that is refused, from 1; 0 for none
    REFUSE_ONWARD   1 where all that come later are refused too
    REFUSE_THREADS  how many threads there may be at once, the first one counted; 0 for any number
-   REFUSE_COUNTS   a file of 32 bytes, where the counts below are kept */
+   REFUSE_CALLS    how many reads of standard input are interrupted before each that isn't, and how
+                   many writes to standard output
+   REFUSE_COUNTS   a file of 40 bytes, where the counts below are kept */
 #define _GNU_SOURCE
 #include <dlfcn.h>
 #include <errno.h>
@@ -22,9 +25,10 @@
 #include <sys/mman.h>
 #include <unistd.h>
 
-/* Requests for memory and starts of threads, and how many of each were refused. */
+/* Requests for memory and starts of threads, and how many of each were refused; and how many calls
+   on the standard streams were interrupted. */
 struct counts {
-    _Atomic uint64_t requests, requests_refused, starts, starts_refused;
+    _Atomic uint64_t requests, requests_refused, starts, starts_refused, interrupted;
 };
 
 /* A started thread's function and its argument, until it runs. */
@@ -39,7 +43,7 @@ enum { MOST_STARTED = 1024 };
 static struct counts none, *counts = &none;
 static struct started started[MOST_STARTED];
 static atomic_int counting, threads = 1;
-static uint64_t refused_request, refused_start, onward, most_threads;
+static uint64_t refused_request, refused_start, onward, most_threads, interrupted_calls;
 
 /* The GNU C library's own calls, which these names reach past the ones below. */
 void *__libc_malloc(size_t);
@@ -83,6 +87,31 @@ int posix_memalign(void **made, size_t align, size_t size) {
     if (!room) return ENOMEM;
     *made = room;
     return 0;
+}
+
+/* Whether this call, of those on one stream, is interrupted. */
+static int is_interrupted(_Atomic uint64_t *calls) {
+    if (!interrupted_calls || !atomic_load(&counting)) return 0;
+    if (atomic_fetch_add(calls, 1) % (interrupted_calls + 1) == interrupted_calls) return 0;
+    atomic_fetch_add(&counts->interrupted, 1);
+    errno = EINTR;
+    return 1;
+}
+
+ssize_t read(int file, void *room, size_t size) {
+    static _Atomic uint64_t calls;
+    static ssize_t (*real)(int, void *, size_t);
+    if (file == STDIN_FILENO && is_interrupted(&calls)) return -1;
+    if (!real) real = dlsym(RTLD_NEXT, "read");
+    return real(file, room, size);
+}
+
+ssize_t write(int file, const void *bytes, size_t size) {
+    static _Atomic uint64_t calls;
+    static ssize_t (*real)(int, const void *, size_t);
+    if (file == STDOUT_FILENO && is_interrupted(&calls)) return -1;
+    if (!real) real = dlsym(RTLD_NEXT, "write");
+    return real(file, bytes, size);
 }
 
 static void *run_started(void *at) {
@@ -146,6 +175,7 @@ int __libc_start_main(int (*given)(int, char **, char **), int count, char **wor
     refused_start = setting("REFUSE_START");
     onward = setting("REFUSE_ONWARD");
     most_threads = setting("REFUSE_THREADS");
+    interrupted_calls = setting("REFUSE_CALLS");
     real_main = given;
     return real(counted_main, count, words, begin, end, last, stack);
 }

@@ -1,9 +1,11 @@
 -- Frames of answers, and how they are written.
-use Rattle.std.proofs.Common.{◌≡◌, ◌⊎◌, ◌<◌, ◌+◌, ◌-◌, ℕ, ℤ, Bool, true, false, List, [], ◌∷◌, ◌++◌, length, map, take, drop, get_or, set, Option, Result, Ok, Err, OnErr}
+use Rattle.std.proofs.Common.{◌≡◌, ◌≢◌, ◌⊎◌, ◌<◌, ◌+◌, ◌-◌, ℕ, ℤ, Bool, true, false, List, [], ◌∷◌, ◌++◌, length, map, take, drop, get_or, set, Option, Result, Ok, Err, OnErr}
 use Rattle.std.proofs.Common.{refl, ap, sym, ◌∙◌, subst, append_assoc, arith, length-append, inl, inr}
 use Rattle.std.specs.Prelude.{nat_lt, MatchResult, if◌then◌else◌}
 use Rattle.std.specs.List.{flat_map}
 use Rattle.std.proofs.Math.Seq.{take-add, take-append-add}
+use Rattle.std.proofs.Math.Decide.{dec_le}
+use Rattle.std.proofs.Math.Nat.{lt_of_not-le}
 use Rattle.std.proofs.lemmas.Bool.{lt-ltb}
 use Rattle.std.proofs.lemmas.List.{take_more_set, take_more, map-append, take-append-drop, take-append-le, length-drop, length-take-le}
 use Rattle.std.proofs.lemmas.List.Concat.{flat_map-append}
@@ -20,10 +22,10 @@ use Rattle.expr_reader.specs.declared.fault.Fault.TheVariants.{TooLong, NoMemory
 use Rattle.tensor_runner.specs.Answer.{tensor, fault, answer_from, asked_tensor}
 use Rattle.tensor_runner.specs.Pieces.{AppendsFront}
 use Rattle.tensor_runner.proofs.Streams.{Appends-trans}
-use Rattle.frame_server.specs.Answer.{answer_of, answer_bytes, IsAnswerTo}
+use Rattle.frame_server.specs.Answer.{answer_of, answer_bytes, IsAnswerTo, IsShort}
 use Rattle.frame_server.specs.Answering.{front_bytes, bytes_in, IsFrameOfTensor, IsFaultOf}
 use Rattle.frame_server.specs.Frame.{frame_bytes, frame_in, header_len, value_count, number_bytes, value_bytes, IsWhole}
-use Rattle.frame_server.specs.Taking.{IsTooLong, frame_under}
+use Rattle.frame_server.specs.Taking.{IsTooLong, IsPassed, frame_under}
 use Rattle.frame_server.specs.declared.frame.AnswerFrame.{AnswerFrame}
 use Rattle.frame_server.specs.declared.frame.WholeFrame.{WholeFrame}
 use Rattle.frame_server.proofs.Frames.{length-values_of}
@@ -110,24 +112,46 @@ too_long bytes whole (inr many) =
     request-long _ _ (inr (subst (λ (n : ℕ). most_values < n) (sym (length-values_of (value_count bytes) (drop (16 + header_len bytes) bytes))) many))
 
 -- what answers a frame that was passed over
-pub IsAnswerTo-passed : (bytes : List ℕ) (f : Fault) → IsWhole bytes → (f ≡ NoMemory) ⊎ ((f ≡ TooLong) × IsTooLong (header_len bytes) (value_count bytes)) → IsAnswerTo bytes (fault f)
-IsAnswerTo-passed bytes f whole (inl memory) = inr (ap fault memory)
+pub IsAnswerTo-passed : (bytes : List ℕ) (f : Fault) → IsWhole bytes → IsPassed (header_len bytes) (value_count bytes) f → IsAnswerTo bytes (fault f)
+IsAnswerTo-passed bytes f whole (inl memory) = inr (ap fault memory.0, memory.1)
 IsAnswerTo-passed bytes f whole (inr long) = inl (ap fault long.0 ∙ sym (too_long bytes whole long.1))
 
 -- the frame of the tensor that a frame's request asks for, or want of memory
 pub IsFrameOfTensor-asked : (bytes : List ℕ) (frame : WholeFrame) (request : Request) (r : Result AnswerFrame Fault) → frame_under frame ≡ frame_in bytes
     → request_of_frame frame.header.items frame.values.items ≡ Ok (asked_under request)
     → MatchResult r (λ a. bytes_in a ≡ answer_bytes (tensor (asked_tensor (asked_under request)))) (λ f. f ≡ NoMemory)
-    → MatchResult r (IsFrameOfTensor bytes) (IsFaultOf bytes)
-IsFrameOfTensor-asked bytes frame request (Ok a) same asks written = record {
+    → IsShort (header_len bytes) (value_count bytes) → MatchResult r (IsFrameOfTensor bytes) (IsFaultOf bytes)
+IsFrameOfTensor-asked bytes frame request (Ok a) same asks written short = record {
   found = asked_tensor (asked_under request);
   answers = ap answer_of (sym same) ∙ ap answer_from asks;
   written = written;
 }
-IsFrameOfTensor-asked bytes frame request (Err f) same asks memory = inr (ap fault memory)
+IsFrameOfTensor-asked bytes frame request (Err f) same asks memory short = inr (ap fault memory, short)
 
 -- the first fault of a frame, or want of memory
 pub IsFaultOf-asked : (bytes : List ℕ) (frame : WholeFrame) (f : Fault) → frame_under frame ≡ frame_in bytes
-    → (f ≡ NoMemory) ⊎ (request_of_frame frame.header.items frame.values.items ≡ Err f) → IsFaultOf bytes f
-IsFaultOf-asked bytes frame f same (inl memory) = inr (ap fault memory)
-IsFaultOf-asked bytes frame f same (inr asks) = inl (sym (ap answer_of (sym same) ∙ ap answer_from asks))
+    → (f ≡ NoMemory) ⊎ (request_of_frame frame.header.items frame.values.items ≡ Err f) → IsShort (header_len bytes) (value_count bytes)
+    → IsFaultOf bytes f
+IsFaultOf-asked bytes frame f same (inl memory) short = inr (ap fault memory, short)
+IsFaultOf-asked bytes frame f same (inr asks) short = inl (sym (ap answer_of (sym same) ∙ ap answer_from asks))
+
+-- a header and values that are too long aren't short
+IsShort-long : (header_len value_count : ℕ) → IsTooLong header_len value_count ⊎ IsShort header_len value_count
+IsShort-long header_len value_count = elim (dec_le header_len most_bytes) [
+  | no long ↦ inl (inl (lt_of_not-le long))
+  | yes short ↦ elim (dec_le value_count most_values) [
+    | no many ↦ inl (inr (lt_of_not-le many))
+    | yes few ↦ inr (record { header = short; values = few })
+  ]
+]
+
+fault_of : (f : Fault) → fault f ≡ fault TooLong → f ≡ TooLong
+fault_of f is = cc
+
+-- a fault that isn't of a frame that is too long
+pub short-fault : (bytes : List ℕ) (f : Fault) → IsWhole bytes → IsFaultOf bytes f → f ≢ TooLong → IsShort (header_len bytes) (value_count bytes)
+short-fault bytes f whole (inr memory) other = memory.1
+short-fault bytes f whole (inl own) other = elim (IsShort-long (header_len bytes) (value_count bytes)) [
+  | inl long ↦ absurd (other (fault_of f (own ∙ too_long bytes whole long)))
+  | inr short ↦ short
+]

@@ -6,7 +6,8 @@ use Rattle.std.specs.Io.KnownBytes.{IsAtEnd}
 use Rattle.tensor_runner.specs.History.{History}
 use Rattle.tensor_runner.specs.Streams.{HasFailed}
 use Rattle.frame_server.specs.Frame.{Frame, IsUnfinished, header_len, value_count}
-use Rattle.frame_server.specs.Taking.{IsBelow, IsCutOff, IsHeadOf, IsKept, IsKeptRest, IsTooLong, values_of}
+use Rattle.frame_server.specs.Answer.{IsShort}
+use Rattle.frame_server.specs.Taking.{IsBelow, IsCutOff, IsHeadOf, IsKept, IsKeptRest, IsPassed, values_of}
 use Rattle.frame_server.specs.Taking.{Takes, TakesCount, TakesValues, TakesHead, TakesRest, TakesFrame, FailsIn, StopsInFrame, MovesValues}
 use Rattle.frame_server.specs.declared.frame.Head.{Head}
 use Rattle.frame_server.specs.declared.frame.NextFrame.{NextFrame}
@@ -113,18 +114,25 @@ TakesRest-passed a b h k old new head next count t is kept = record {
   kept = kept t.bytes;
 }
 
-IsKept-head : (front bytes : List ℕ) (head : Head) (next : NextFrame) → length front ≡ 16 → IsHeadOf front head → IsKeptRest head bytes next
-    → IsKept (front ++ bytes) next
-IsKept-head front bytes head (Whole frame) sixteen told kept =
-    kept
-    ∙ ap (λ (n : ℕ). framed (take n bytes) (values_of head.value_count (drop n bytes))) told.header
-    ∙ ap (λ (n : ℕ). framed (take (header_len front) bytes) (values_of n (drop (header_len front) bytes))) told.values
-    ∙ sym (frame_in-head front bytes sixteen)
-IsKept-head front bytes head (Passed fault) sixteen told (inl memory) = inl memory
-IsKept-head front bytes head (Passed fault) sixteen told (inr long) =
+-- what a head says of the whole frame
+on_frame : (P : ℕ → ℕ → Type 0) (front bytes : List ℕ) (head : Head) → length front ≡ 16 → IsHeadOf front head → P head.header_len head.value_count
+    → P (header_len (front ++ bytes)) (value_count (front ++ bytes))
+on_frame P front bytes head sixteen told holds =
     let h : head.header_len ≡ header_len (front ++ bytes) = told.header ∙ sym (header_len-append front bytes (omega arith)) in
     let v : head.value_count ≡ value_count (front ++ bytes) = told.values ∙ sym (value_count-append front bytes (omega arith)) in
-    inr (long.0, subst (λ (n : ℕ). IsTooLong (header_len (front ++ bytes)) n) v (subst (λ (n : ℕ). IsTooLong n head.value_count) h long.1))
+    subst (λ (n : ℕ). P (header_len (front ++ bytes)) n) v (subst (λ (n : ℕ). P n head.value_count) h holds)
+
+IsKept-head : (front bytes : List ℕ) (head : Head) (next : NextFrame) → length front ≡ 16 → IsHeadOf front head → IsKeptRest head bytes next
+    → IsKept (front ++ bytes) next
+IsKept-head front bytes head (Whole frame) sixteen told kept = (
+  kept.0
+      ∙ ap (λ (n : ℕ). framed (take n bytes) (values_of head.value_count (drop n bytes))) told.header
+      ∙ ap (λ (n : ℕ). framed (take (header_len front) bytes) (values_of n (drop (header_len front) bytes))) told.values
+      ∙ sym (frame_in-head front bytes sixteen),
+  on_frame IsShort front bytes head sixteen told kept.1,
+)
+IsKept-head front bytes head (Passed fault) sixteen told passed =
+    on_frame (λ h v. IsPassed h v fault) front bytes head sixteen told passed
 
 -- a frame
 pub TakesFrame-of : (a b c : Option (List ℕ)) (h k m : Option History) (old mid new : List ℕ) (head : Head) (next : NextFrame)

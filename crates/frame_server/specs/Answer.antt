@@ -1,11 +1,12 @@
 -- What answers a frame.
-use Rattle.std.specs.Prelude.{◌≡◌, ◌⊎◌, ℕ, pos, List, [], ◌∷◌, ◌++◌, map, codes, decimal}
+use Rattle.std.specs.Prelude.{◌≡◌, ◌⊎◌, ◌≤◌, ℕ, pos, List, [], ◌∷◌, ◌++◌, map, codes, decimal}
 use Rattle.expr_reader.specs.Faults.{fault_number, fault_name}
 use Rattle.expr_reader.specs.Frame.{request_of_frame}
+use Rattle.expr_reader.specs.Limits.{most_bytes, most_values}
 use Rattle.expr_reader.specs.declared.fault.Fault.{Fault}
 use Rattle.expr_reader.specs.declared.fault.Fault.TheVariants.{NoMemory}
 use Rattle.tensor_runner.specs.Answer.{Answer, tensor, fault, answer_from, numbers_text}
-use Rattle.frame_server.specs.Frame.{Frame, frame_in, frame_bytes}
+use Rattle.frame_server.specs.Frame.{Frame, frame_in, frame_bytes, header_len, value_count}
 
 -- the tensor of the request that a frame means, or its first fault
 abbrev pub answer_of : Frame → Answer
@@ -27,6 +28,14 @@ frame_of (fault f) = record { header = fault_text f; values = [] }
 abbrev pub answer_bytes : Answer → List ℕ
 answer_bytes a = frame_bytes (frame_of a)
 
--- the answer of the frame that these bytes are, or want of memory
+-- a header of this length, with so many values, isn't too long
+pub record IsShort (header_len value_count : ℕ) : Type 0 where
+  pub header : header_len ≤ most_bytes
+  pub values : value_count ≤ most_values
+
+-- the answer of the frame that these bytes are, or want of memory; but never that of a frame that
+-- is too long
 abbrev pub IsAnswerTo : List ℕ → Answer → Type 0
-IsAnswerTo bytes a = (a ≡ answer_of (frame_in bytes)) ⊎ (a ≡ fault NoMemory)
+IsAnswerTo bytes a =
+    (a ≡ answer_of (frame_in bytes))
+    ⊎ ((a ≡ fault NoMemory) × IsShort (header_len bytes) (value_count bytes))

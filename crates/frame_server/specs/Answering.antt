@@ -1,10 +1,10 @@
 -- Frames of answers on the way, for the private clauses of the server.
-use Rattle.std.specs.Prelude.{◌≡◌, ◌⊎◌, ℕ, ℤ, List, [], ◌++◌, length, Option, Some, None}
+use Rattle.std.specs.Prelude.{◌≡◌, ◌≢◌, ◌⊎◌, ℕ, ℤ, List, [], ◌++◌, length, Option, Some, None}
 use Rattle.std.specs.Cow.{cow_slice_items}
 use Rattle.std.specs.List.{flat_map}
 use Rattle.expr_reader.specs.Contents.{Contents}
 use Rattle.expr_reader.specs.declared.fault.Fault.{Fault}
-use Rattle.expr_reader.specs.declared.fault.Fault.TheVariants.{NoMemory}
+use Rattle.expr_reader.specs.declared.fault.Fault.TheVariants.{TooLong, NoMemory}
 use Rattle.tensor_runner.specs.Answer.{Answer, tensor, fault}
 use Rattle.frame_server.specs.Answer.{answer_of, answer_bytes, IsAnswerTo}
 use Rattle.frame_server.specs.Frame.{frame_in, number_bytes, value_bytes}
@@ -38,7 +38,8 @@ pub record IsFrameOfTensor (bytes : List ℕ) (frame : AnswerFrame) : Type 0 whe
 abbrev pub IsFaultOf : List ℕ → Fault → Type 0
 IsFaultOf bytes f = IsAnswerTo bytes (fault f)
 
--- the frame of this fault, or of want of memory
+-- the frame of this fault, or of want of memory, but for a frame that is too long
 abbrev pub IsRefusal : Fault → AnswerFrame → Type 0
 IsRefusal f frame =
-    (bytes_in frame ≡ answer_bytes (fault f)) ⊎ (bytes_in frame ≡ answer_bytes (fault NoMemory))
+    (bytes_in frame ≡ answer_bytes (fault f))
+    ⊎ ((bytes_in frame ≡ answer_bytes (fault NoMemory)) × (f ≢ TooLong))

@@ -5,10 +5,12 @@ use Rattle.std.specs.Prelude.{Option, vec_capacity}
 use Rattle.std.specs.Io.KnownBytes.{Consumes, IsAtEnd}
 use Rattle.std.specs.Simd.{first_chunks}
 use Rattle.expr_reader.specs.Limits.{most_bytes, most_values}
+use Rattle.expr_reader.specs.declared.fault.Fault.{Fault}
 use Rattle.expr_reader.specs.declared.fault.Fault.TheVariants.{TooLong, NoMemory}
 use Rattle.tensor_runner.specs.History.{History, reading}
 use Rattle.tensor_runner.specs.Streams.{HasFailed}
 use Rattle.tensor_runner.specs.Taking.{Reads}
+use Rattle.frame_server.specs.Answer.{IsShort}
 use Rattle.frame_server.specs.Frame.{Frame, IsWhole, IsUnfinished, frame_in, value_of}
 use Rattle.frame_server.specs.Frame.{header_len, value_count}
 use Rattle.frame_server.specs.declared.buffer.InputBuffer.{InputBuffer}
@@ -86,8 +88,9 @@ pub record TakesHead (before after : Option (List ℕ)) (h k : Option History)
 abbrev pub IsTooLong : ℕ → ℕ → Type 0
 IsTooLong header_len value_count = (most_bytes < header_len) ⊎ (most_values < value_count)
 
--- room for a frame's header and values
+-- room for a frame's header and values, which aren't too long
 pub record HasRoom (head : Head) (room : WholeFrame) : Type 0 where
+  pub short : IsShort head.header_len head.value_count
   pub no_header : room.header.items ≡ []
   pub no_values : room.values.items ≡ []
   pub header : head.header_len ≤ vec_capacity room.header
@@ -97,15 +100,20 @@ pub record HasRoom (head : Head) (room : WholeFrame) : Type 0 where
 abbrev pub frame_under : WholeFrame → Frame
 frame_under frame = record { header = frame.header.items; values = frame.values.items }
 
+-- why nothing is kept of a frame with a header of this length and so many values
+abbrev pub IsPassed : ℕ → ℕ → Fault → Type 0
+IsPassed header_len value_count fault =
+    ((fault ≡ NoMemory) × IsShort header_len value_count)
+    ⊎ ((fault ≡ TooLong) × IsTooLong header_len value_count)
+
 -- what is kept of a frame's bytes, given what stands behind its head: all, or why nothing is
 abbrev pub IsKeptRest : Head → List ℕ → NextFrame → Type 0
 IsKeptRest head bytes (Whole frame) =
-    frame_under frame ≡ record {
+    (frame_under frame ≡ record {
       header = take head.header_len bytes;
       values = values_of head.value_count (drop head.header_len bytes);
-    }
-IsKeptRest head bytes (Passed fault) =
-    (fault ≡ NoMemory) ⊎ ((fault ≡ TooLong) × IsTooLong head.header_len head.value_count)
+    }) × IsShort head.header_len head.value_count
+IsKeptRest head bytes (Passed fault) = IsPassed head.header_len head.value_count fault
 
 -- what stands behind a frame's head was taken
 pub record TakesRest (before after : Option (List ℕ)) (h k : Option History)
@@ -117,9 +125,9 @@ pub record TakesRest (before after : Option (List ℕ)) (h k : Option History)
 
 -- what is kept of a frame: all, or why nothing is
 abbrev pub IsKept : List ℕ → NextFrame → Type 0
-IsKept bytes (Whole frame) = frame_under frame ≡ frame_in bytes
-IsKept bytes (Passed fault) =
-    (fault ≡ NoMemory) ⊎ ((fault ≡ TooLong) × IsTooLong (header_len bytes) (value_count bytes))
+IsKept bytes (Whole frame) =
+    (frame_under frame ≡ frame_in bytes) × IsShort (header_len bytes) (value_count bytes)
+IsKept bytes (Passed fault) = IsPassed (header_len bytes) (value_count bytes) fault
 
 -- a whole frame was taken
 pub record TakesFrame (before after : Option (List ℕ)) (h k : Option History)

@@ -3,12 +3,12 @@
 ghost use Rattle.std.specs.Prelude.{◌≡◌, ◌⊎◌, ℕ, List, Ok, Err, length, IfOk, MatchResult};
 ghost use Rattle.expr_reader.specs.Asked.{asked_under};
 ghost use Rattle.expr_reader.specs.Frame.{request_of_frame};
-ghost use Rattle.frame_server.specs.Answer.{answer_bytes, dims_text, fault_text};
+ghost use Rattle.frame_server.specs.Answer.{answer_bytes, dims_text, fault_text, IsShort};
 ghost use Rattle.frame_server.specs.Answering.{IsFrameFor, IsFrameOfTensor, IsFaultOf};
 ghost use Rattle.frame_server.specs.Answering.{front_bytes, bytes_in, IsRefusal};
-ghost use Rattle.frame_server.specs.Frame.{IsWhole, frame_in};
+ghost use Rattle.frame_server.specs.Frame.{IsWhole, frame_in, header_len, value_count};
 ghost use Rattle.frame_server.specs.Taking.{IsKept, frame_under};
-ghost use Rattle.tensor_runner.specs.Answer.{tensor, asked_tensor};
+ghost use Rattle.tensor_runner.specs.Answer.{tensor, fault, asked_tensor};
 
 use crate::frame::{AnswerFrame, NextFrame, WholeFrame};
 use expr_reader::{Fault, Request, Tensor, read_frame};
@@ -21,6 +21,9 @@ use tensor_runner::{RunFault, eval, unsigned_text};
 /// What stands before the values where there is no memory, which takes none: no values, and a
 /// header of 17 bytes.
 const NO_MEMORY: &[u8] = b"\x11\0\0\0\0\0\0\0\0\0\0\0\0\0\0\0error 15 NoMemory";
+
+/// The same of a frame that is too long: a header of 15 bytes.
+const TOO_LONG: &[u8] = b"\x0f\0\0\0\0\0\0\0\0\0\0\0\0\0\0\0error 1 TooLong";
 
 /// The frame that answers one.
 pub(crate) fn answer<RT: Threads + Wait + Sync>(
@@ -58,9 +61,10 @@ fn answered_whole<RT: Threads + Wait + Sync>(
     frame: WholeFrame,
 ) -> Result<AnswerFrame, Fault>
     ensures { (bytes : List ℕ) → frame_under frame ≡ frame_in bytes
+        → IsShort (header_len bytes) (value_count bytes)
         → MatchResult result (IsFrameOfTensor bytes) (IsFaultOf bytes) }
 {
-    match requested(alloc, frame) {
+    match requested(alloc, &frame) {
         Ok(request) => tensor_frame(rt, alloc, &request),
         Err(fault) => Err(fault),
     }
@@ -89,12 +93,12 @@ fn tensor_frame<RT: Threads + Wait + Sync>(
     }
 }
 
-/// The request that a frame means. The frame's memory is free then.
-fn requested(alloc: Global, frame: WholeFrame) -> Result<Request, Fault>
+/// The request that a frame means, to whose tensors the frame's values are lent.
+fn requested(alloc: Global, frame: &WholeFrame) -> Result<Request<'_>, Fault>
     ensures { MatchResult result (λ request.
-        request_of_frame frame.header.items frame.values.items ≡ Ok (asked_under request))
+        request_of_frame frame.now.header.items frame.now.values.items ≡ Ok (asked_under request))
         (λ fault. (fault ≡ Fault.NoMemory)
-        ⊎ (request_of_frame frame.header.items frame.values.items ≡ Err fault)) }
+        ⊎ (request_of_frame frame.now.header.items frame.now.values.items ≡ Err fault)) }
 {
     read_frame(alloc, frame.header.as_slice(), frame.values.as_slice())
 }
@@ -120,19 +124,39 @@ fn front_with(alloc: Global, header: &[u8], value_count: usize) -> Result<Vec<u8
     Ok(front)
 }
 
-/// The frame of a fault, or of want of memory.
+/// The frame of a fault, or of want of memory. That of a frame that is too long wants none.
 fn refusal(alloc: Global, fault: Fault) -> AnswerFrame
     ensures { IsRefusal fault result }
 {
+    if fault == Fault::TooLong {
+        return too_long();
+    }
     match refusal_front(alloc, fault) {
         Ok(front) => AnswerFrame {
             front: CowSlice::Owned(front),
             tensor: None,
         },
-        Err(_) => AnswerFrame {
-            front: CowSlice::Borrowed(NO_MEMORY),
-            tensor: None,
-        },
+        Err(_) => no_memory(),
+    }
+}
+
+/// The frame of want of memory, which takes none.
+fn no_memory() -> AnswerFrame
+    ensures { bytes_in result ≡ answer_bytes (fault Fault.NoMemory) }
+{
+    AnswerFrame {
+        front: CowSlice::Borrowed(NO_MEMORY),
+        tensor: None,
+    }
+}
+
+/// The frame of one that is too long, which takes no memory.
+fn too_long() -> AnswerFrame
+    ensures { bytes_in result ≡ answer_bytes (fault Fault.TooLong) }
+{
+    AnswerFrame {
+        front: CowSlice::Borrowed(TOO_LONG),
+        tensor: None,
     }
 }
 

@@ -33,5 +33,5 @@ pub(crate) struct AnswerFrame {
     /// Its sizes and its header.
     pub(crate) front: CowSlice<'static, u8, Global>,
     /// The tensor whose values stand behind them. There is none of a fault.
-    pub(crate) tensor: Option<Tensor>,
+    pub(crate) tensor: Option<Tensor<'static>>,
 }

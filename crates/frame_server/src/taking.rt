@@ -1,11 +1,11 @@
 //! Takes a client's bytes, frame by frame.
 
 ghost use Rattle.std.specs.Prelude.{◌≡◌, ◌+◌, ◌*◌, ◌≤◌, [], length, IfOk, IfSome, IfErr, OnOk, OnErr};
-ghost use Rattle.std.specs.Prelude.{◌⊎◌, MatchOption, MatchResult, vec_capacity};
+ghost use Rattle.std.specs.Prelude.{MatchOption, MatchResult, vec_capacity};
 ghost use Rattle.frame_server.specs.Frame.{IsUnfinished};
 ghost use Rattle.frame_server.specs.Taking.{pending_bytes, IsBelow, OwesNothingWhile, FailsIn};
 ghost use Rattle.frame_server.specs.Taking.{IsCutOff, StopsInFrame, Takes, TakesCount, TakesHead};
-ghost use Rattle.frame_server.specs.Taking.{TakesValues, TakesRest, TakesFrame, Ends, HasRoom, IsTooLong};
+ghost use Rattle.frame_server.specs.Taking.{TakesValues, TakesRest, TakesFrame, Ends, HasRoom, IsPassed};
 
 use crate::buffer::{HEAD, InputBuffer, VALUE};
 use crate::frame::{Head, NextFrame, WholeFrame};
@@ -107,9 +107,7 @@ fn take_rest<C: Client>(
 
 /// Room for a frame, or why there is none.
 fn room_for(alloc: Global, head: Head) -> Result<WholeFrame, Fault>
-    ensures { MatchResult result (HasRoom head)
-        (λ fault. (fault ≡ Fault.NoMemory)
-        ⊎ ((fault ≡ Fault.TooLong) × IsTooLong head.header_len head.value_count)) }
+    ensures { MatchResult result (HasRoom head) (IsPassed head.header_len head.value_count) }
 {
     if head.header_len > MAX_TEXT as u64 || head.value_count > MAX_VALUES as u64 {
         return Err(Fault::TooLong);

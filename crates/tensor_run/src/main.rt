@@ -4,11 +4,13 @@
 
 use std::io;
 use std::process::ExitCode;
-use tensor_runner::{CountedReader, CountedWriter, serve};
+use tensor_runner::{CountedReader, CountedWriter, Uninterrupted, serve};
 
 fn main(rt: HostRuntime) -> io::Result<ExitCode> {
-    let mut reader = CountedReader::new(rt.stdin());
-    let mut writer = CountedWriter::new(rt.stdout());
+    let mut reader = CountedReader::new(Uninterrupted { stream: rt.stdin() });
+    let mut writer = CountedWriter::new(Uninterrupted {
+        stream: rt.stdout(),
+    });
     let ending = serve(&rt, rt.alloc(), &mut reader, &mut writer);
     if let Some(complaint) = ending.complaint {
         eprint!(rt; "{complaint}")?;

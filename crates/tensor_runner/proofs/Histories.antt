@@ -1,5 +1,5 @@
 -- What was read and written, piece by piece.
-use Rattle.std.proofs.Common.{◌≡◌, ℕ, List, [], ◌∷◌, ◌++◌, Option, Some, None, IfSome, option_map, ap, sym, ◌∙◌, subst, append_assoc}
+use Rattle.std.proofs.Common.{◌≡◌, ℕ, List, [], ◌∷◌, ◌++◌, Option, Some, None, IfSome, option_map, refl, ap, sym, ◌∙◌, subst, append_assoc}
 use Rattle.std.proofs.lemmas.List.{append-nil}
 use Rattle.std.proofs.lemmas.List.Elements.{All-push, All-nil}
 use Rattle.tensor_runner.specs.Answer.{Answer, IsAnswerTo, line_of}
@@ -16,6 +16,11 @@ writing-more None k m xs ys zs first then is = then ∙ ap (λ (o : Option Histo
 writing-more (Some h) k m xs ys zs first then is =
     then ∙ ap (λ (o : Option History). option_map (writing ys) o) first
     ∙ ap (λ (t : List ℕ). Some (record { taken = h.taken; written = t })) (append_assoc h.written xs ys ∙ ap (λ (t : List ℕ). h.written ++ t) is)
+
+-- no read
+pub reading-none : (h : Option History) → h ≡ option_map (reading []) h
+reading-none None = refl
+reading-none (Some h) = ap (λ (t : List ℕ). Some (record { taken = t; written = h.written })) (sym (append-nil h.taken))
 
 -- one read and then another
 pub reading-more : (h k m : Option History) (xs ys : List ℕ) → k ≡ option_map (reading xs) h → m ≡ option_map (reading ys) k

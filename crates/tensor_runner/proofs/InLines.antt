@@ -2,12 +2,14 @@
 use Rattle.std.proofs.Common.{◌≡◌, ◌==◌, ℕ, List, [], ◌∷◌, ◌++◌, Bool, true, false, Option, Some, None, Result, Ok, Err, OnErr, IfSome, refl, ap, sym, ◌∙◌, subst, append_assoc}
 use Rattle.std.proofs.lemmas.Bool.{true≢false}
 use Rattle.std.proofs.lemmas.List.{append-nil}
-use Rattle.std.proofs.lemmas.List.Elements.{All-append}
+use Rattle.std.proofs.lemmas.List.Elements.{All-append, All-nil}
 use Rattle.std.specs.Io.KnownBytes.{Consumes, Keeps, IsAtEnd}
+use Rattle.tensor_runner.specs.Kept.{IsKept}
 use Rattle.tensor_runner.specs.Taking.{HasNoFeed, IsCaughtUp, Reads, TakesPiece, InLine, TakesLine, StopsInLine}
 use Rattle.tensor_runner.specs.History.{History, OwesNothing}
-use Rattle.tensor_runner.specs.declared.buffer.KeptLine.{KeptLine}
-use Rattle.tensor_runner.proofs.Histories.{Reads-trans, OwesNothing-in_line}
+use Rattle.tensor_runner.specs.declared.kept.KeptText.{KeptText}
+use Rattle.tensor_runner.proofs.Histories.{reading-none, Reads-trans, OwesNothing-in_line}
+use Rattle.tensor_runner.proofs.Streams.{Consumes-none}
 
 -- a byte that is no line feed
 abbrev IsPlain : ℕ → Type 0
@@ -19,8 +21,19 @@ Consumes-keeps (Some all) None c xs taken same = absurd taken
 Consumes-keeps (Some all) (Some bs) None xs taken same = absurd same
 Consumes-keeps (Some all) (Some bs) (Some cs) xs taken same = taken ∙ ap (λ (l : List ℕ). xs ++ l) (sym same)
 
+-- no byte of a line was taken yet
+pub InLine-start : (a : Option (List ℕ)) (h : Option History) (pending : List ℕ) (kept : KeptText) → IsKept [] kept → InLine a a h h pending pending kept
+InLine-start a h pending kept is = record {
+  line = [];
+  bytes = [];
+  read = record { consumed = Consumes-none a; noted = reading-none h };
+  no_feed = All-nil IsPlain;
+  kept_of = is;
+  parted = append-nil pending;
+}
+
 -- a line whose line feed was found
-pub TakesLine-ended : (a b : Option (List ℕ)) (h k : Option History) (old now new : List ℕ) (before after : KeptLine) (ended : Bool)
+pub TakesLine-ended : (a b : Option (List ℕ)) (h k : Option History) (old now new : List ℕ) (before after : KeptText) (ended : Bool)
     → InLine a b h k old now before → ended ≡ true → TakesPiece now new ended before after
     → TakesLine a b h k old new (record { kept = after; ended = true })
 TakesLine-ended a b h k old now new before after ended i is piece =
@@ -37,7 +50,7 @@ TakesLine-ended a b h k old now new before after ended i is piece =
     }
 
 -- all that was held belongs to the line
-pub InLine-open : (a b : Option (List ℕ)) (h k : Option History) (old now new : List ℕ) (before after : KeptLine) (ended : Bool)
+pub InLine-open : (a b : Option (List ℕ)) (h k : Option History) (old now new : List ℕ) (before after : KeptText) (ended : Bool)
     → InLine a b h k old now before → ended ≡ false → TakesPiece now new ended before after → InLine a b h k old [] after
 InLine-open a b h k old now new before after ended i is piece =
     let t = subst (λ (e : Bool). TakesPiece now new e before after) is piece in
@@ -52,20 +65,20 @@ InLine-open a b h k old now new before after ended i is piece =
           ∙ sym (append_assoc i.line t.piece []);
     }
 
-InLine-whole : (a b : Option (List ℕ)) (h k : Option History) (old : List ℕ) (kept : KeptLine) (i : InLine a b h k old [] kept) → old ++ i.bytes ≡ i.line
+InLine-whole : (a b : Option (List ℕ)) (h k : Option History) (old : List ℕ) (kept : KeptText) (i : InLine a b h k old [] kept) → old ++ i.bytes ≡ i.line
 InLine-whole a b h k old kept i = i.parted ∙ append-nil i.line
 
-pub InLine-plain : (a b : Option (List ℕ)) (h k : Option History) (old : List ℕ) (kept : KeptLine) (i : InLine a b h k old [] kept) → HasNoFeed (old ++ i.bytes)
+pub InLine-plain : (a b : Option (List ℕ)) (h k : Option History) (old : List ℕ) (kept : KeptText) (i : InLine a b h k old [] kept) → HasNoFeed (old ++ i.bytes)
 InLine-plain a b h k old kept i = subst HasNoFeed (sym (InLine-whole a b h k old kept i)) i.no_feed
 
 -- so that nothing is owed
-pub InLine-owes : (a b : Option (List ℕ)) (h k : Option History) (old : List ℕ) (kept : KeptLine)
+pub InLine-owes : (a b : Option (List ℕ)) (h k : Option History) (old : List ℕ) (kept : KeptText)
     → IfSome h (IsCaughtUp old) → InLine a b h k old [] kept → IfSome k OwesNothing
 InLine-owes a b h k old kept up i =
     OwesNothing-in_line old i.bytes h k up i.read.noted (InLine-plain a b h k old kept i)
 
 -- more was read
-pub InLine-more : (a b c : Option (List ℕ)) (h k m : Option History) (old new : List ℕ) (kept : KeptLine)
+pub InLine-more : (a b c : Option (List ℕ)) (h k m : Option History) (old new : List ℕ) (kept : KeptText)
     → InLine a b h k old [] kept → Reads b c k m new → InLine a c h m old new kept
 InLine-more a b c h k m old new kept i more = record {
   line = i.line;
@@ -77,7 +90,7 @@ InLine-more a b c h k m old new kept i more = record {
 }
 
 -- the client's bytes are at their end
-pub TakesLine-last : (a b : Option (List ℕ)) (h k : Option History) (old now : List ℕ) (kept : KeptLine)
+pub TakesLine-last : (a b : Option (List ℕ)) (h k : Option History) (old now : List ℕ) (kept : KeptText)
     → InLine a b h k old now kept → now ≡ [] → IsAtEnd b → TakesLine a b h k old now (record { kept = kept; ended = false })
 TakesLine-last a b h k old now kept i nothing end = record {
   line = i.line;
@@ -91,7 +104,7 @@ TakesLine-last a b h k old now kept i nothing end = record {
 }
 
 -- a read failed
-pub InLine-stops : (a b c : Option (List ℕ)) (h k : Option History) (old : List ℕ) (kept : KeptLine)
+pub InLine-stops : (a b c : Option (List ℕ)) (h k : Option History) (old : List ℕ) (kept : KeptText)
     → InLine a b h k old [] kept → Keeps b c → StopsInLine a c old
 InLine-stops a b c h k old kept i same = record {
   bytes = i.bytes;

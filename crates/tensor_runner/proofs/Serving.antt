@@ -1,8 +1,8 @@
 -- From line to line.
-use Rattle.std.proofs.Common.{◌≡◌, ◌<◌, ◌≤◌, ◌+◌, ℕ, min, List, [], ◌∷◌, ◌++◌, length, take}
+use Rattle.std.proofs.Common.{◌≡◌, ◌<◌, ◌≤◌, ◌+◌, ℕ, List, [], ◌∷◌, ◌++◌, length, take}
 use Rattle.std.proofs.Common.{Bool, true, false, Result, Ok, Err, OnOk, Option, Some, None, IfSome, option_map, refl, ap, sym, ◌∙◌, subst, append_assoc, arith, length-append, inl, inr, ◌⊎◌}
 use Rattle.std.proofs.Math.Seq.{take-append-add}
-use Rattle.std.proofs.lemmas.List.{append-nil, take_all, take-append-le, length-take}
+use Rattle.std.proofs.lemmas.List.{append-nil, take-append-le}
 use Rattle.std.proofs.lemmas.List.Concat.{flat_map-append}
 use Rattle.std.proofs.lemmas.List.Elements.{All-push, All-nil}
 use Rattle.std.specs.Cow.{cow_slice_items}
@@ -15,21 +15,20 @@ use Rattle.tensor_runner.specs.Line.{IsLineFor}
 use Rattle.tensor_runner.specs.Lines.{lines_of, whole_lines, AreAnswersTo, lines_answering}
 use Rattle.tensor_runner.specs.Lines.{AnswersLines, BreaksOff, CutsLinesShort}
 use Rattle.tensor_runner.specs.Pieces.{AppendsFront}
-use Rattle.tensor_runner.specs.Run.{most_reads}
-use Rattle.tensor_runner.specs.Server.{Serves, KeepsNone, HasNothing, IsNothing}
-use Rattle.tensor_runner.specs.Taking.{HasNoFeed, with_feeds, IsKept, TakesLine, StopsInLine, behind, IsCaughtUp}
+use Rattle.tensor_runner.specs.Kept.{IsKept, kept_len}
+use Rattle.tensor_runner.specs.Server.{Serves, HasNothing, IsNothing}
+use Rattle.tensor_runner.specs.Taking.{HasNoFeed, with_feeds, TakesLine, StopsInLine, behind, IsCaughtUp}
 use Rattle.tensor_runner.specs.Streams.{HasFailed}
 use Rattle.tensor_runner.specs.declared.answer.Line.{Line}
 use Rattle.tensor_runner.specs.declared.ending.Ending.{Ending}
 use Rattle.tensor_runner.specs.declared.status.StreamFault.{StreamFault}
 use Rattle.tensor_runner.specs.declared.status.StreamFault.TheVariants.{ReadFault, WriteFault}
-use Rattle.tensor_runner.specs.declared.buffer.KeptLine.{KeptLine}
-use Rattle.tensor_runner.specs.declared.buffer.KeptLine.TheVariants.{Text, NoMemory}
+use Rattle.tensor_runner.specs.declared.kept.KeptText.{KeptText}
 use Rattle.tensor_runner.specs.declared.buffer.NextLine.{NextLine}
 use Rattle.tensor_runner.proofs.Histories.{IsCaughtUp-more}
 use Rattle.tensor_runner.proofs.Parts.{lines_of-with_feeds, lines_of-feed, lines_of-last, whole_lines-with_feeds, whole_lines-open}
 use Rattle.tensor_runner.proofs.Parts.{with_feeds-push, AreAnswersTo-append, lines_answering-push, answers_of}
-use Rattle.tensor_runner.proofs.Streams.{Consumes-trans, Consumes-none, Appends-trans, Appends-Some}
+use Rattle.tensor_runner.proofs.Streams.{kept-len, Consumes-trans, Consumes-none, Appends-trans, Appends-Some}
 
 -- what was consumed of what is known
 pub Consumes-Some : (text : List ℕ) (b : Option (List ℕ)) (xs : List ℕ) → Consumes (Some text) b xs
@@ -42,17 +41,12 @@ Appends-none None = tt
 Appends-none (Some all) = sym (append-nil all)
 
 -- what is kept of a line tells whether it is empty
-pub nothing_kept : (line : List ℕ) (kept : KeptLine) → IsKept line kept → KeepsNone kept → line ≡ []
+pub nothing_kept : (line : List ℕ) (kept : KeptText) → IsKept line kept → kept_len kept ≡ 0 → line ≡ []
 nothing_kept [] kept is none = refl
-nothing_kept (b ∷ line) (Text text) is none =
-    let no : 0 ≡ min most_reads (length (b ∷ line)) = ap length (sym none ∙ is) ∙ length-take most_reads (b ∷ line) in
-    absurd (omega arith)
-nothing_kept (b ∷ line) NoMemory is none = absurd none
+nothing_kept (b ∷ line) kept is none = absurd (omega (arith, kept-len (b ∷ line) kept is, none))
 
-pub some_kept : (line : List ℕ) (kept : KeptLine) → IsKept line kept → ¬ KeepsNone kept → 0 < length line
-some_kept [] (Text text) is some = absurd (some (is ∙ take_all most_reads [] (omega arith)))
-some_kept [] NoMemory is some = is
-some_kept (b ∷ line) kept is some = omega arith
+pub some_kept : (line : List ℕ) (kept : KeptText) → IsKept line kept → 0 < kept_len kept → 0 < length line
+some_kept line kept is some = omega (arith, kept-len line kept is, some)
 
 -- before the first line
 pub Serves-start : (r c : Option (List ℕ)) (pending : List ℕ) → pending ≡ [] → Serves r r c c pending

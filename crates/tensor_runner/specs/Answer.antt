@@ -1,10 +1,11 @@
 -- The answer of a text, and its line.
-use Rattle.std.specs.Prelude.{◌≡◌, ◌⊎◌, ℕ, ℤ, pos, List, [], ◌∷◌, ◌++◌, map, codes, decimal}
-use Rattle.std.specs.Prelude.{Result, Ok, Err}
+use Rattle.std.specs.Prelude.{◌≡◌, ◌⊎◌, ◌≤◌, ℕ, ℤ, pos, List, [], ◌∷◌, ◌++◌, length, map, codes}
+use Rattle.std.specs.Prelude.{decimal, Result, Ok, Err}
 use Rattle.std.specs.Fmt.{signed_decimal}
 use Rattle.std.specs.List.{join_with_byte}
 use Rattle.expr_reader.specs.Contents.{Contents}
 use Rattle.expr_reader.specs.Faults.{fault_number, fault_name}
+use Rattle.expr_reader.specs.Limits.{most_bytes}
 use Rattle.expr_reader.specs.Request.{Asked, request_of}
 use Rattle.expr_reader.specs.Value.{tensor_of}
 use Rattle.expr_reader.specs.declared.fault.Fault.{Fault}
@@ -50,6 +51,7 @@ abbrev pub status_of : Answer → Status
 status_of (tensor t) = status.Tensor
 status_of (fault f) = status.Fault
 
--- the answer of the text, or want of memory
+-- the answer of the text, or want of memory; but never that of a text that is too long
 abbrev pub IsAnswerTo : List ℕ → Answer → Type 0
-IsAnswerTo text a = (a ≡ answer_of text) ⊎ (a ≡ fault NoMemory)
+IsAnswerTo text a =
+    (a ≡ answer_of text) ⊎ ((a ≡ fault NoMemory) × (length text ≤ most_bytes))

@@ -1,6 +1,7 @@
 pub use Rattle.expr_reader.specs.Asked
 pub use Rattle.expr_reader.specs.Contents
 pub use Rattle.expr_reader.specs.Faults
+pub use Rattle.expr_reader.specs.Limits
 pub use Rattle.expr_reader.specs.Request
 pub use Rattle.expr_reader.specs.Value
 pub mod Answer
@@ -8,8 +9,10 @@ pub mod Ending
 pub mod History
 pub mod Lines
 pub mod Run
+pub mod Status
 pub mod Streams
 -- for private clauses alone
+pub mod Kept
 pub mod Taking
 pub mod Line
 pub mod Pieces

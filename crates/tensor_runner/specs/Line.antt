@@ -43,4 +43,4 @@ pub record IsLineFor (text : List ℕ) (line : Line) : Type 0 where
 -- the line of an answer to a text that was read so far
 pub record IsLineOfRead (text : List ℕ) (remaining : Option (List ℕ)) (line : Line) : Type 0 where
   pub answer : IsLineFor text line
-  pub left : IsLeft text answer.answer remaining
+  pub left : IsLeft text remaining

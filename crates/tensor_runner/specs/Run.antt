@@ -1,8 +1,7 @@
 -- What a run reads and writes.
-use Rattle.std.specs.Prelude.{◌≡◌, ◌⊎◌, ◌<◌, ◌≤◌, ℕ, List, ◌++◌, length, take, drop, Option, Some}
+use Rattle.std.specs.Prelude.{◌≡◌, ◌<◌, ◌≤◌, ℕ, List, ◌++◌, length, take, drop, Option, Some}
 use Rattle.std.specs.Io.KnownBytes.{Consumes}
-use Rattle.expr_reader.specs.declared.fault.Fault.TheVariants.{NoMemory}
-use Rattle.tensor_runner.specs.Answer.{Answer, fault, IsAnswerTo, line_of, status_of}
+use Rattle.tensor_runner.specs.Answer.{Answer, IsAnswerTo, line_of, status_of}
 use Rattle.tensor_runner.specs.declared.status.Status.{Status}
 
 -- the most reads, of a byte or more each: one byte more than a text may have tells that it is too
@@ -16,17 +15,16 @@ pub record TakesAtMost (most : ℕ) (before after : Option (List ℕ)) : Type 0 
   pub within : length bytes ≤ most
   pub consumed : Consumes before after bytes
 
--- what is left where this answers the text: what stands behind the bytes that are read of a text;
--- where there was no memory for them, it may be more
-abbrev pub IsLeft : List ℕ → Answer → Option (List ℕ) → Type 0
-IsLeft text a remaining = (remaining ≡ Some (drop most_reads text)) ⊎ (a ≡ fault NoMemory)
+-- what is left of the text: what stands behind the bytes that are read of one
+abbrev pub IsLeft : List ℕ → Option (List ℕ) → Type 0
+IsLeft text remaining = remaining ≡ Some (drop most_reads text)
 
 -- what was held, and behind it the whole line of an answer to the text
 pub record Answers (text held : List ℕ) (remaining contents : Option (List ℕ)) (status : Status)
     : Type 0 where
   pub answer : Answer
   pub answers : IsAnswerTo text answer
-  pub left : IsLeft text answer remaining
+  pub left : IsLeft text remaining
   pub written : contents ≡ Some (held ++ line_of answer)
   pub told : status ≡ status_of answer
 
@@ -34,7 +32,7 @@ pub record Answers (text held : List ℕ) (remaining contents : Option (List ℕ
 pub record CutsShort (text held : List ℕ) (remaining contents : Option (List ℕ)) : Type 0 where
   pub answer : Answer
   pub answers : IsAnswerTo text answer
-  pub left : IsLeft text answer remaining
+  pub left : IsLeft text remaining
   pub taken : ℕ
   pub short : taken < length (line_of answer)
   pub written : contents ≡ Some (held ++ take taken (line_of answer))

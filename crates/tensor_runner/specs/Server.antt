@@ -1,27 +1,21 @@
 -- One line more, for the private clauses of the server.
-use Rattle.std.specs.Prelude.{◌≡◌, ℕ, Bool, true, false, List, [], ◌++◌, All, Option}
+use Rattle.std.specs.Prelude.{◌≡◌, ◌<◌, ℕ, Bool, true, false, List, [], ◌++◌, All, Option}
 use Rattle.std.specs.Io.KnownBytes.{Appends, Consumes}
 use Rattle.tensor_runner.specs.Answer.{Answer}
 use Rattle.tensor_runner.specs.Lines.{AreAnswersTo, lines_answering}
+use Rattle.tensor_runner.specs.Kept.{kept_len}
 use Rattle.tensor_runner.specs.Taking.{HasNoFeed, with_feeds}
-use Rattle.tensor_runner.specs.declared.buffer.KeptLine.{KeptLine}
-use Rattle.tensor_runner.specs.declared.buffer.KeptLine.TheVariants.{Text, NoMemory}
 use Rattle.tensor_runner.specs.declared.buffer.NextLine.{NextLine}
 
--- nothing is kept, of no byte
-abbrev pub KeepsNone : KeptLine → Type 0
-KeepsNone (Text text) = text.items ≡ []
-KeepsNone NoMemory = ⊥
-
--- no line feed ended it, and nothing is kept of it
+-- no line feed ended it, and it has no byte
 pub record HasNothing (next : NextLine) : Type 0 where
   pub open_end : next.ended ≡ false
-  pub empty : KeepsNone next.kept
+  pub empty : kept_len next.kept ≡ 0
 
 -- the answer to whether there is nothing; where a line feed ended it, there is something
 abbrev pub IsNothing : NextLine → Bool → Type 0
 IsNothing next true = HasNothing next
-IsNothing next false = (next.ended ≡ false → ¬ KeepsNone next.kept)
+IsNothing next false = (next.ended ≡ false → 0 < kept_len next.kept)
 
 -- each line before what is pending was answered
 pub record Serves (before after had contents : Option (List ℕ)) (pending : List ℕ) : Type 0 where

@@ -1,15 +1,14 @@
 -- Bytes on the way from a client to a line, for the private clauses of the server.
-use Rattle.std.specs.Prelude.{◌≡◌, ◌<◌, ◌-◌, ◌==◌, ℕ, List, [], ◌∷◌, ◌++◌, length, take, drop, All}
+use Rattle.std.specs.Prelude.{◌≡◌, ◌-◌, ◌==◌, ℕ, List, [], ◌∷◌, ◌++◌, take, drop, All}
 use Rattle.std.specs.Prelude.{Bool, false, if◌then◌else◌, Option, option_map}
 use Rattle.std.specs.List.{flat_map}
 use Rattle.std.specs.Io.KnownBytes.{Consumes, IsAtEnd}
 use Rattle.tensor_runner.specs.Answer.{Answer}
 use Rattle.tensor_runner.specs.History.{History, reading}
 use Rattle.tensor_runner.specs.Lines.{AreAnswersTo, lines_answering}
-use Rattle.tensor_runner.specs.Run.{most_reads}
+use Rattle.tensor_runner.specs.Kept.{IsKept}
 use Rattle.tensor_runner.specs.declared.buffer.InputBuffer.{InputBuffer}
-use Rattle.tensor_runner.specs.declared.buffer.KeptLine.{KeptLine}
-use Rattle.tensor_runner.specs.declared.buffer.KeptLine.TheVariants.{Text, NoMemory}
+use Rattle.tensor_runner.specs.declared.kept.KeptText.{KeptText}
 use Rattle.tensor_runner.specs.declared.buffer.NextLine.{NextLine}
 
 -- what was read and belongs to no line yet
@@ -24,17 +23,12 @@ HasNoFeed line = All (λ b. (b == 10) ≡ false) line
 abbrev pub with_feeds : List (List ℕ) → List ℕ
 with_feeds lines = flat_map (λ line. line ++ 10 ∷ []) lines
 
--- the front of a line, or nothing of a line that isn't empty
-abbrev pub IsKept : List ℕ → KeptLine → Type 0
-IsKept line (Text text) = text.items ≡ take most_reads line
-IsKept line NoMemory = 0 < length line
-
 -- what follows a piece: the line feed, where that ended it, and what is left
 abbrev pub behind : Bool → List ℕ → List ℕ
 behind ended left = if ended then 10 ∷ left else left
 
 -- a piece up to the first line feed was taken, or all where there is none
-pub record TakesPiece (old new : List ℕ) (ended : Bool) (before after : KeptLine) : Type 0 where
+pub record TakesPiece (old new : List ℕ) (ended : Bool) (before after : KeptText) : Type 0 where
   pub piece : List ℕ
   pub no_feed : HasNoFeed piece
   pub parted : old ≡ piece ++ behind ended new
@@ -49,7 +43,7 @@ pub record Reads (before after : Option (List ℕ)) (h k : Option History) (byte
 
 -- a line of which these bytes were taken, with no line feed yet
 pub record InLine (before after : Option (List ℕ)) (h k : Option History) (old now : List ℕ)
-    (kept : KeptLine) : Type 0 where
+    (kept : KeptText) : Type 0 where
   pub line : List ℕ
   pub bytes : List ℕ
   pub read : Reads before after h k bytes

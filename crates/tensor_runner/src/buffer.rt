@@ -1,7 +1,8 @@
-//! Holds what was read of a client, and what is kept of a line.
+//! Holds what was read of a client, and the next line.
 
 ghost use Rattle.std.specs.Prelude.{◌≤◌};
 
+use crate::kept::KeptText;
 use crate::reading::CHUNK;
 
 /// Bytes that were read and belong to no line yet.
@@ -14,19 +15,10 @@ pub(crate) struct InputBuffer {
     ghost in_room: { end ≤ 65536 },
 }
 
-/// What is kept of a line.
-#[derive(Drop)]
-pub(crate) enum KeptLine {
-    /// Its first [`MOST_READ`](crate::MOST_READ) bytes, which are all, or tell that it is too long.
-    Text(Vec<u8>),
-    /// Nothing, since a growth of memory was refused.
-    NoMemory,
-}
-
 /// A line, or what stands behind the last line feed.
 #[derive(Drop)]
 pub(crate) struct NextLine {
-    pub(crate) kept: KeptLine,
+    pub(crate) kept: KeptText,
     /// Whether a line feed ended it.
     pub(crate) ended: bool,
 }

@@ -5,8 +5,8 @@ ghost use Rattle.tensor_runner.specs.Line.{IsLineOfRead};
 ghost use Rattle.tensor_runner.specs.Run.{most_reads, TakesAtMost, Answers, CutsShort};
 ghost use Rattle.tensor_runner.specs.Streams.{HasFailed};
 
-use crate::answer::{Line, answer, no_memory};
-use crate::reading::{Unread, read_text};
+use crate::answer::{Line, answer};
+use crate::reading::read_text;
 use crate::sink::Sink;
 use crate::source::Source;
 use crate::status::{Status, StreamFault};
@@ -71,9 +71,6 @@ fn prepare<RT: Threads + Wait + Sync, R: Source>(
         × HasFailed (R.failures reader.old) (R.failures reader.new)) }
     ensures calls { R.calls reader.new ≤ R.calls reader.old + most_reads }
 {
-    match read_text(alloc, reader) {
-        Ok(text) => Ok(answer(rt, alloc, text)),
-        Err(Unread::NoMemory) => Ok(no_memory()),
-        Err(Unread::Failed) => Err(StreamFault::ReadFault),
-    }
+    let kept = read_text(alloc, reader)?;
+    Ok(answer(rt, alloc, kept))
 }

@@ -32,7 +32,7 @@ pub fn eval<RT: Threads + Wait + Sync>(
     rt: &RT,
     alloc: Global,
     request: &Request,
-) -> Result<Tensor, RunFault>
+) -> Result<Tensor<'static>, RunFault>
     ensures tensor { IfOk result (λ t. t ≡ asked_tensor (asked_under request.now)) }
 {
     let plan = Plan::of(alloc, &request.expr, &request.inputs)?;

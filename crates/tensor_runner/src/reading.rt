@@ -1,42 +1,41 @@
 //! Reading a text.
 
-ghost use Rattle.std.specs.Prelude.{◌≡◌, ◌+◌, ◌-◌, ◌≤◌, ◌<◌, length, IfOk, IfSome};
-ghost use Rattle.tensor_runner.specs.Pieces.{IsUnread, IsFrontOf, Takes};
+ghost use Rattle.std.specs.Prelude.{◌≡◌, ◌+◌, ◌-◌, ◌≤◌, ◌<◌, IfOk, IfErr, IfSome, MatchResult};
+ghost use Rattle.tensor_runner.specs.Kept.{kept_len};
+ghost use Rattle.tensor_runner.specs.Pieces.{IsFrontOf, Takes};
 ghost use Rattle.tensor_runner.specs.Run.{most_reads, TakesAtMost};
+ghost use Rattle.tensor_runner.specs.Streams.{HasFailed};
 
 use crate::engine::MOST_READ;
+use crate::kept::KeptText;
 use crate::source::Source;
+use crate::status::StreamFault;
 use std::alloc::Global;
 
 /// How many bytes a read asks for.
 pub(crate) const CHUNK: usize = 65_536;
 
-/// Why there is no text.
-#[derive(Clone, Copy, Debug, Drop, Eq, PartialEq)]
-pub(crate) enum Unread {
-    /// A read failed.
-    Failed,
-    /// A growth of memory was refused.
-    NoMemory,
-}
-
-/// The bytes of a stream to its end, or its first [`MOST_READ`].
-pub(crate) fn read_text<R: Source>(alloc: Global, reader: &mut R) -> Result<Vec<u8>, Unread>
-    ensures text { IfOk result (λ text. IfSome (R.remaining reader.old)
-        (λ all. IsFrontOf all text.items (R.remaining reader.new))) }
+/// What is kept of a stream's bytes, read to their end or to the first [`MOST_READ`]. Where a
+/// growth of memory is refused the rest is read all the same: it tells whether the text is too
+/// long.
+pub(crate) fn read_text<R: Source>(alloc: Global, reader: &mut R) -> Result<KeptText, StreamFault>
+    ensures text { IfOk result (λ kept. IfSome (R.remaining reader.old)
+        (λ all. IsFrontOf all kept (R.remaining reader.new))) }
     ensures taken { TakesAtMost most_reads (R.remaining reader.old) (R.remaining reader.new) }
     ensures calls { R.calls reader.new ≤ R.calls reader.old + most_reads }
-    ensures failures { IsUnread result (R.failures reader.old) (R.failures reader.new) }
+    ensures err { IfErr result (λ fault. fault ≡ StreamFault.ReadFault) }
+    ensures failures { MatchResult result (λ _. R.failures reader.new ≡ R.failures reader.old)
+        (λ _. HasFailed (R.failures reader.old) (R.failures reader.new)) }
 {
-    let mut text = Vec::new(alloc);
+    let mut kept = KeptText::new(alloc);
     let mut buffer = [0u8; CHUNK];
     for _ in 0..MOST_READ {
-        let count = read_some(reader, &mut buffer, &mut text)?;
+        let count = read_some(reader, &mut buffer, &mut kept)?;
         if count == 0 {
-            return Ok(text);
+            return Ok(kept);
         }
-        if text.len() == MOST_READ {
-            return Ok(text);
+        if kept.len() == MOST_READ {
+            return Ok(kept);
         }
     }
     unreachable!()
@@ -46,23 +45,22 @@ pub(crate) fn read_text<R: Source>(alloc: Global, reader: &mut R) -> Result<Vec<
 fn read_some<R: Source>(
     reader: &mut R,
     buffer: &mut [u8; CHUNK],
-    text: &mut Vec<u8>,
-) -> Result<usize, Unread>
-    requires { length text.old.items < most_reads }
+    kept: &mut KeptText,
+) -> Result<usize, StreamFault>
+    requires { kept_len kept.old < most_reads }
     ensures taken { IfOk result (λ count.
-        Takes (R.remaining reader.old) (R.remaining reader.new)
-        text.old.items text.new.items count) }
-    ensures at_most { TakesAtMost (most_reads - length text.old.items)
+        Takes (R.remaining reader.old) (R.remaining reader.new) kept.old kept.new count) }
+    ensures at_most { TakesAtMost (most_reads - kept_len kept.old)
         (R.remaining reader.old) (R.remaining reader.new) }
     ensures calls { R.calls reader.new ≤ R.calls reader.old + 1 }
-    ensures failures { IsUnread result (R.failures reader.old) (R.failures reader.new) }
+    ensures err { IfErr result (λ fault. fault ≡ StreamFault.ReadFault) }
+    ensures failures { MatchResult result (λ _. R.failures reader.new ≡ R.failures reader.old)
+        (λ _. HasFailed (R.failures reader.old) (R.failures reader.new)) }
 {
-    let room = (MOST_READ - text.len()).min(CHUNK);
+    let room = (MOST_READ - kept.len()).min(CHUNK);
     let Ok(count) = reader.read(&mut buffer[..room]) else {
-        return Err(Unread::Failed);
+        return Err(StreamFault::ReadFault);
     };
-    let Ok(()) = text.extend_from_slice(&buffer[..count]) else {
-        return Err(Unread::NoMemory);
-    };
+    kept.keep(&buffer[..count]);
     Ok(count)
 }

@@ -4,15 +4,13 @@ ghost use Rattle.std.specs.Prelude.{◌≡◌, ◌<◌, ℕ, List, Some, Err, If
 ghost use Rattle.std.specs.Prelude.{MatchResult, option_map};
 ghost use Rattle.std.specs.Io.KnownBytes.{Appends};
 ghost use Rattle.tensor_runner.specs.History.{IsNew, GoesByLines, writing};
-ghost use Rattle.tensor_runner.specs.Line.{IsLineFor};
 ghost use Rattle.tensor_runner.specs.Lines.{lines_of, AnswersLines, BreaksOff, CutsLinesShort};
 ghost use Rattle.tensor_runner.specs.Pieces.{AppendsFront};
 ghost use Rattle.tensor_runner.specs.Server.{IsNothing};
 ghost use Rattle.tensor_runner.specs.Streams.{HasFailed};
-ghost use Rattle.tensor_runner.specs.Taking.{IsKept};
 
-use crate::answer::{Line, answer, no_memory};
-use crate::buffer::{InputBuffer, KeptLine, NextLine};
+use crate::answer::answer;
+use crate::buffer::{InputBuffer, NextLine};
 use crate::client::Client;
 use crate::status::StreamFault;
 use crate::taking::next_line;
@@ -64,7 +62,7 @@ pub fn answer_lines<RT: Threads + Wait + Sync, C: Client>(
         if is_nothing(&next) {
             return Ok(());
         }
-        let line = answer_kept(rt, alloc, next.kept);
+        let line = answer(rt, alloc, next.kept);
         write_answer(client, line.bytes.as_slice())?;
         if !next.ended {
             return Ok(());
@@ -77,20 +75,7 @@ pub fn answer_lines<RT: Threads + Wait + Sync, C: Client>(
 fn is_nothing(next: &NextLine) -> bool
     ensures { IsNothing next.now result }
 {
-    match &next.kept {
-        KeptLine::Text(text) => !next.ended && text.is_empty(),
-        KeptLine::NoMemory => false,
-    }
-}
-
-/// The line that answers a line of which this is kept.
-fn answer_kept<RT: Threads + Wait + Sync>(rt: &RT, alloc: Global, kept: KeptLine) -> Line
-    ensures { (text : List ℕ) → IsKept text kept → IsLineFor text result }
-{
-    match kept {
-        KeptLine::Text(text) => answer(rt, alloc, text),
-        KeptLine::NoMemory => no_memory(),
-    }
+    !next.ended && next.kept.len() == 0
 }
 
 /// Writes all these bytes of an answer, by as many writes as it takes. Stops at the first that fails

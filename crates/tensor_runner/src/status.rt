@@ -21,6 +21,17 @@ pub enum RunFault {
     NoMemory = 15,
 }
 
+impl RunFault {
+    ghost use Rattle.tensor_runner.specs.Status.{run_fault_number};
+
+    /// The number, which want of memory has as a fault of a text too.
+    pub fn number(self) -> u32
+        ensures { result ≡ run_fault_number self }
+    {
+        self as u32
+    }
+}
+
 /// Why an answer isn't written, or not whole.
 #[derive(Clone, Copy, Debug, Drop, Eq, PartialEq, Error)]
 pub enum StreamFault {
@@ -30,4 +41,15 @@ pub enum StreamFault {
     /// A write failed, or took nothing. What was written is a front of what was to be.
     #[error("a write failed")]
     WriteFault = 17,
+}
+
+impl StreamFault {
+    ghost use Rattle.tensor_runner.specs.Status.{stream_fault_number};
+
+    /// The number, 16 or 17.
+    pub fn number(self) -> u32
+        ensures { result ≡ stream_fault_number self }
+    {
+        self as u32
+    }
 }

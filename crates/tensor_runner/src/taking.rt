@@ -1,16 +1,16 @@
 //! Takes a client's bytes, line by line.
 
-ghost use Rattle.std.specs.Prelude.{◌≡◌, ℕ, List, [], ◌++◌, IfOk, IfSome, IfErr, OnOk, OnErr};
+ghost use Rattle.std.specs.Prelude.{◌≡◌, [], IfOk, IfSome, IfErr, OnOk, OnErr};
 ghost use Rattle.std.specs.Prelude.{MatchResult, false};
 ghost use Rattle.std.specs.Io.KnownBytes.{Keeps, IsAtEnd};
-ghost use Rattle.tensor_runner.specs.Taking.{pending_bytes, HasNoFeed, IsKept, IsCaughtUp};
+ghost use Rattle.tensor_runner.specs.Taking.{pending_bytes, HasNoFeed, IsCaughtUp};
 ghost use Rattle.tensor_runner.specs.Taking.{TakesPiece, Reads, TakesLine, StopsInLine};
 ghost use Rattle.tensor_runner.specs.History.{GoesByLines};
 ghost use Rattle.tensor_runner.specs.Streams.{HasFailed};
 
-use crate::buffer::{InputBuffer, KeptLine, NextLine};
+use crate::buffer::{InputBuffer, NextLine};
 use crate::client::Client;
-use crate::engine::MOST_READ;
+use crate::kept::KeptText;
 use crate::reading::CHUNK;
 use crate::status::StreamFault;
 use memchr::memchr;
@@ -31,7 +31,7 @@ impl InputBuffer {
 
     /// Takes the bytes up to the first line feed, and that with them, or all where there is none.
     /// Answers whether there was one.
-    fn take_piece(&mut self, kept: &mut KeptLine) -> bool
+    fn take_piece(&mut self, kept: &mut KeptText) -> bool
         ensures { TakesPiece (pending_bytes self.old) (pending_bytes self.new) result
             kept.old kept.new }
     {
@@ -77,24 +77,6 @@ impl InputBuffer {
     }
 }
 
-impl KeptLine {
-    /// Keeps the piece behind the line's bytes, as far as there is room.
-    fn keep(&mut self, piece: &[u8])
-        ensures { (line : List ℕ) → IsKept line self.old → IsKept (line ++ piece.now) self.new }
-    {
-        if piece.is_empty() {
-            return;
-        }
-        if let KeptLine::Text(text) = self {
-            let room = MOST_READ.saturating_sub(text.len()).min(piece.len());
-            if text.extend_from_slice(&piece[..room]).is_ok() {
-                return;
-            }
-        }
-        *self = KeptLine::NoMemory;
-    }
-}
-
 /// Takes the next line, or what stands behind the last line feed where the client's bytes are at
 /// their end. Of a line that is longer than a text may be, the rest is passed over.
 ///
@@ -121,7 +103,7 @@ pub(crate) fn next_line<RT: Wait, C: Client>(
         (λ _. HasFailed (C.read_failures client.old) (C.read_failures client.new)) }
     ensures write_failures { C.write_failures client.new ≡ C.write_failures client.old }
 {
-    let mut kept = KeptLine::Text(Vec::new(alloc));
+    let mut kept = KeptText::new(alloc);
     for turn in rt.forever() {
         if buffer.take_piece(&mut kept) {
             return Ok(NextLine { kept, ended: true });

@@ -53,3 +53,15 @@ loop-turn-preserved-in_ok-write_frame g c =
       c.write_frame.ensures.read_failures ∙ c.in_ok-next.ensures.read_failures ∙ c.loop-turn.invariant.3,
       w.ok_failures ∙ c.next_frame.ensures.write_failures ∙ c.loop-turn.invariant.4,
     )
+
+pub loop-turn-preserved-in_ok-write_frame-2 : goal.loop-turn-preserved-in_ok-write_frame-2
+loop-turn-preserved-in_ok-write_frame-2 g c =
+    let t = at_some _ c.in-Some-2.next _ _ c.in-Some-2.is c.in_ok-next.ensures.frame in
+    let w = c.in_ok-write_frame.ensures in (
+      tt,
+      tt,
+      Serves-turn _ _ _ _ _ _ _ _ _ _ _ _ _ c.in-Some-2.next c.answer-frame.result c.loop-turn.invariant.2 t c.next_frame.ensures.contents
+          c.answer-frame.ensures w.ok w.noted c.write_frame.ensures.remaining,
+      c.write_frame.ensures.read_failures ∙ c.in_ok-next.ensures.read_failures ∙ c.loop-turn.invariant.3,
+      w.ok_failures ∙ c.next_frame.ensures.write_failures ∙ c.loop-turn.invariant.4,
+    )

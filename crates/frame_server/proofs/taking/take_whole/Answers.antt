@@ -37,4 +37,4 @@ pub returns-clause-rest : goal.returns-clause-rest
 returns-clause-rest g c =
     let t = c.in_ok-take_header.ensures in
     let v = c.in_ok-take_values.ensures in
-    TakesRest-whole _ _ _ _ _ _ _ _ _ _ _ _ _ t.taken t.counted v.taken v.counted (λ bytes same. same)
+    TakesRest-whole _ _ _ _ _ _ _ _ _ _ _ _ _ t.taken t.counted v.taken v.counted (λ bytes same. (same, c.requires.room.short))

@@ -28,19 +28,19 @@ returns-then-is_nothing-clause-answered g c = λ text held knows holds.
 
 pub returns-in_err-write_answer-clause-cut_short : goal.returns-in_err-write_answer-clause-cut_short
 returns-in_err-write_answer-clause-cut_short g c = λ text held knows holds failed.
-    let turn = Turn-of _ _ _ _ _ _ _ _ _ _ _ _ c.in_ok-next.ensures.line c.next_line.ensures.contents c.answer_kept-line.ensures
+    let turn = Turn-of _ _ _ _ _ _ _ _ _ _ _ _ c.in_ok-next.ensures.line c.next_line.ensures.contents c.answer-line.ensures
     c.as_slice.ensures.value c.is_nothing.ensures c.if-is_nothing.false in
     Turn-cut _ _ _ _ _ _ _ _ _ _ _ text held _ _ _ c.loop-turn.invariant.2 turn c.in_err-write_answer.ensures.err.1 knows holds
 
 pub returns-then-not-next-clause-answered : goal.returns-then-not-next-clause-answered
 returns-then-not-next-clause-answered g c = λ text held knows holds.
-    let turn = Turn-of _ _ _ _ _ _ _ _ _ _ _ _ c.in_ok-next.ensures.line c.next_line.ensures.contents c.answer_kept-line.ensures
+    let turn = Turn-of _ _ _ _ _ _ _ _ _ _ _ _ c.in_ok-next.ensures.line c.next_line.ensures.contents c.answer-line.ensures
     c.as_slice.ensures.value c.is_nothing.ensures c.if-is_nothing.false in
     Turn-last _ _ _ _ _ _ _ _ _ _ _ text held _ _ _ c.loop-turn.invariant.2 turn c.in_ok-write_answer.ensures.ok c.if-not-next.true knows holds
 
 pub loop-turn-preserved-else-not-next : goal.loop-turn-preserved-else-not-next
 loop-turn-preserved-else-not-next g c =
-    let turn = Turn-of _ _ _ _ _ _ _ _ _ _ _ _ c.in_ok-next.ensures.line c.next_line.ensures.contents c.answer_kept-line.ensures
+    let turn = Turn-of _ _ _ _ _ _ _ _ _ _ _ _ c.in_ok-next.ensures.line c.next_line.ensures.contents c.answer-line.ensures
     c.as_slice.ensures.value c.is_nothing.ensures c.if-is_nothing.false in (
       tt,
       tt,
@@ -53,7 +53,7 @@ loop-turn-preserved-else-not-next g c =
 
 pub loop-turn-preserved : goal.loop-turn-preserved
 loop-turn-preserved g c =
-    let turn = Turn-of _ _ _ _ _ _ _ _ _ _ _ _ c.in_ok-next.ensures.line c.next_line.ensures.contents c.answer_kept-line.ensures
+    let turn = Turn-of _ _ _ _ _ _ _ _ _ _ _ _ c.in_ok-next.ensures.line c.next_line.ensures.contents c.answer-line.ensures
     c.as_slice.ensures.value c.is_nothing.ensures c.if-is_nothing.false in (
       tt,
       tt,

@@ -1,5 +1,5 @@
-use Rattle.std.proofs.Common.{◌∙◌}
-use Rattle.tensor_runner.proofs.InLines.{TakesLine-ended, InLine-open, InLine-owes, InLine-more, TakesLine-last, InLine-stops, IfSome-follows, OnErr-any}
+use Rattle.std.proofs.Common.{◌∙◌, refl}
+use Rattle.tensor_runner.proofs.InLines.{InLine-start, TakesLine-ended, InLine-open, InLine-owes, InLine-more, TakesLine-last, InLine-stops, IfSome-follows, OnErr-any}
 use Rattle.tensor_runner.specs.History.{OwesNothing}
 use Rattle.tensor_runner.proofs.taking.next_line.Goals as goal
 
@@ -35,3 +35,6 @@ loop-turn-preserved g c =
       c.in_ok-more.ensures.read_failures ∙ c.loop-turn.invariant.4,
       c.refill.ensures.write_failures ∙ c.loop-turn.invariant.5,
     )
+
+pub loop-turn-init : goal.loop-turn-init
+loop-turn-init g c = (tt, tt, InLine-start _ _ _ _ c.new-kept.ensures, refl, refl, refl)

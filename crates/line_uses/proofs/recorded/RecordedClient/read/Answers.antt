@@ -1,14 +1,14 @@
 use Rattle.std.proofs.Common.{◌≡◌, ◌≤◌, ◌+◌, ◌-◌, ◌∙◌, ℕ, List, take, drop, length, Some, ap, arith, length-append}
 use Rattle.std.proofs.lemmas.List.{length-drop, length-take}
 use Rattle.line_uses.proofs.Taken.{drop-given, take-given, none_left}
-use Rattle.line_uses.proofs.RecordedClient.read.Goals as goal
+use Rattle.line_uses.proofs.recorded.RecordedClient.read.Goals as goal
 
 pub returns-clause-bytes : goal.returns-clause-bytes
-returns-clause-bytes c =
-    let xs = c.args.self.now.lines.items in
+returns-clause-bytes g c =
+    let xs = c.args.self.now.asked.items in
     let start = c.args.self.now.taken in
     let count = c.min-count.result in
-    let len : c.len.result ≡ length xs = omega (arith, c.len.ensures, c.args.self.now.lines.ok.0) in
+    let len : c.len.result ≡ length xs = omega (arith, c.len.ensures, c.args.self.now.asked.ok.0) in
     let within : start + count ≤ length xs = omega (arith, len, c.min-count.ensures, c.args.self.now.in_range) in
     let some : (start + count) - start ≡ count = omega arith in
     let same : c.copy_from_slice.new.self ≡ take count (drop start xs) =
@@ -30,11 +30,11 @@ returns-clause-bytes c =
     )
 
 pub returns-clause-history : goal.returns-clause-history
-returns-clause-history c =
-    let xs = c.args.self.now.lines.items in
+returns-clause-history g c =
+    let xs = c.args.self.now.asked.items in
     let start = c.args.self.now.taken in
     let count = c.min-count.result in
-    let len : c.len.result ≡ length xs = omega (arith, c.len.ensures, c.args.self.now.lines.ok.0) in
+    let len : c.len.result ≡ length xs = omega (arith, c.len.ensures, c.args.self.now.asked.ok.0) in
     let within : start + count ≤ length xs = omega (arith, len, c.min-count.ensures, c.args.self.now.in_range) in
     let some : (start + count) - start ≡ count = omega arith in
     let same : c.copy_from_slice.new.self ≡ take count (drop start xs) =
