@@ -2,6 +2,7 @@
 refuses memory and threads."""
 
 import os
+import resource
 import signal
 import shutil
 import struct
@@ -16,9 +17,10 @@ from usage import fail, words  # noqa: E402,F401
 PROGRAM = os.path.join(TOP, "crates", "tensor_run", "out", "tensor_run")
 PLAIN = os.path.join(TOP, "crates", "plain_run", "out", "plain_run")
 LINES_PROGRAM = os.path.join(TOP, "crates", "tensor_lines", "out", "tensor_lines")
+FRAMES_PROGRAM = os.path.join(TOP, "crates", "tensor_frames", "out", "tensor_frames")
 REFUSALS = os.path.join(TOP, "tests", "refusals.c")
 COMPILERS = ("cc", "gcc", "clang")
-COUNTS = struct.Struct("4Q")
+COUNTS = struct.Struct("5Q")
 SECONDS = 20
 # No script here takes longer.
 MOST_SECONDS = 900
@@ -46,6 +48,17 @@ def need_program(program=PROGRAM):
     if not os.access(program, os.X_OK):
         name = os.path.basename(program)
         fail(f"{sys.argv[0]}: {name} isn't built: ./run --check-all builds all programs")
+
+
+# An operation over an operation, as deep as a text may be: 126 lists in an object.
+DEEPEST = '["neg",' * 126 + '"a"' + "]" * 126
+# How few bytes of stack are enough for any request.
+LITTLE_STACK = 1_048_576
+
+
+def little_stack():
+    """Limits the stack of a process before it begins."""
+    resource.setrlimit(resource.RLIMIT_STACK, (LITTLE_STACK, LITTLE_STACK))
 
 
 def status_of(line):
@@ -88,5 +101,5 @@ class Refusals:
         ran = run(text, env, program=program)
         with open(self.counts, "rb") as file:
             counts = COUNTS.unpack(file.read())
-        self.requests, self.refused, self.starts, self.starts_refused = counts
+        self.requests, self.refused, self.starts, self.starts_refused, self.interrupted = counts
         return ran

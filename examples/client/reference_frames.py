@@ -69,27 +69,30 @@ class Functions:
     def __init__(self):
         pointer, length, number = ctypes.c_void_p, ctypes.c_size_t, ctypes.c_int64
         evaluate = ctypes.CFUNCTYPE(number, *[pointer, length] * 4)
-        dims = ctypes.CFUNCTYPE(number, pointer, length, ctypes.c_uint64, pointer, length)
+        place = ctypes.c_uint64
+        arrays = ctypes.CFUNCTYPE(number, *[pointer, length] * 2, place, pointer, length)
+        dims = ctypes.CFUNCTYPE(number, pointer, length, place, pointer, length)
         name = ctypes.CFUNCTYPE(number, ctypes.c_uint32, pointer, length)
         self.tensor_evaluate = evaluate(self.evaluate)
+        self.tensor_evaluate_arrays = arrays(self.evaluate_arrays)
         self.tensor_dims = dims(self.dims)
         self.tensor_fault_name = name(self.fault_name)
         # What was owed, and how often dims alone were asked for.
         self.owed, self.asked_dims = [], 0
 
-    def owe(self, *places):
-        """Notes what a caller owes: pointers, aligned, to memory that overlaps nothing."""
-        for place, count, width in places:
+    def owe(self, read, written):
+        """Notes what a caller owes: pointers, aligned; what is written overlaps nothing."""
+        for place, count, width in (*read, *written):
             if not place or place % width:
                 self.owed.append(f"a pointer {place} to {count} of {width} bytes")
-        spans = [range(place, place + count * width) for place, count, width in places if place]
-        for at, it in enumerate(spans):
+        spans = [range(place, place + count * width) for place, count, width in (*written, *read)]
+        for at, it in enumerate(spans[: len(written)]):
             for other in spans[at + 1 :]:
                 if max(it.start, other.start) < min(it.stop, other.stop):
                     self.owed.append(f"{it} overlaps {other}")
 
     def evaluate(self, header, length, values, count, out, room, dims, dims_room):
-        self.owe((header, length, 1), (values, count, 8), (out, room, 8), (dims, dims_room, 8))
+        self.owe([(header, length, 1), (values, count, 8)], [(out, room, 8), (dims, dims_room, 8)])
         given = numbers_of(ctypes.string_at(values, 8 * count))
         text, found = answered(ctypes.string_at(header, length), given)
         if fault_number(text):
@@ -101,9 +104,21 @@ class Functions:
         self.write_dims(dims, sizes)
         return len(found)
 
+    def evaluate_arrays(self, header, length, arrays, count, first, out, room):
+        held = list(struct.iter_unpack("<QQ", ctypes.string_at(arrays, 16 * count)))
+        read = [(header, length, 1), (arrays, 2 * count, 8), *((*it, 8) for it in held)]
+        self.owe(read, [(out, room, 8)])
+        given = [numbers_of(ctypes.string_at(place, 8 * size)) for place, size in held]
+        text, found = answered(ctypes.string_at(header, length), sum(given, []))
+        if fault_number(text):
+            return -fault_number(text)
+        part = found[first : first + room]
+        ctypes.memmove(out, struct.pack(f"<{len(part)}q", *part), 8 * len(part))
+        return len(part)
+
     def dims(self, header, length, count, dims, dims_room):
         self.asked_dims += 1
-        self.owe((header, length, 1), (dims, dims_room, 8))
+        self.owe([(header, length, 1)], [(dims, dims_room, 8)])
         text, found = answered(ctypes.string_at(header, length), [0] * count)
         if fault_number(text):
             return -fault_number(text)
@@ -115,7 +130,7 @@ class Functions:
         ctypes.memmove(dims, ranked, len(ranked))
 
     def fault_name(self, number, name, room):
-        self.owe((name, room, 1))
+        self.owe([], [(name, room, 1)])
         text = FAULTS.get(number, "").encode()
         ctypes.memmove(name, text + b"\0", len(text) + 1)
         return len(text)

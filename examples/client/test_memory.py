@@ -1,16 +1,18 @@
-"""Tests of memory: which of numpy's arrays are copied, and which refused, skipped where numpy isn't
-installed; and what the C library is asked to keep."""
+"""Tests of memory: which of numpy's arrays are copied, and which refused, where answers are
+written, and by how many threads. Skipped where numpy isn't installed."""
 
+import os
 import pickle
+import threading
 import unittest
 import unittest.mock
 
-import reference_frames
 import tensor_client as client
-from tensor_client import tensor
-from tensor_client.library import Library
-from tensor_client.memory import KEPT, MOST_KEPT, Room, as_one, keep, lie_in_a_row
+from tensor_client import tensor, where
+from tensor_client import threads
+from tensor_client.memory import overlap
 from tensor_client.requests import Settings, framed
+from tensor_client.threads import LEAST, are_independent, shares
 from asking import WAYS
 
 try:
@@ -31,7 +33,7 @@ class Memory(unittest.TestCase):
         for array in (flat, flat.reshape(2, 3, order="F"), flat.reshape(2, 3).T, flat[2:4]):
             x = tensor(array)
             self.assertTrue(self.shares(x, array))
-            self.assertTrue(numpy.shares_memory(framed(x, Settings()).parts[0], array))
+            self.assertTrue(numpy.shares_memory(framed(x, Settings()).held[0], array))
             self.assertEqual(x.nested(), array.tolist())
             # What is written into the array is written into the tensor.
             array[...] = 7
@@ -57,49 +59,71 @@ class Memory(unittest.TestCase):
             self.assertEqual(x.nested(), array.astype(int).tolist())
         self.assertEqual(tensor(read_only).values, [0, 1, 2])
 
-    def test_arrays_that_lie_one_behind_another(self):
-        rows = numpy.arange(15_000).reshape(3, 5_000)
-        read_only = rows[1:]
-        read_only.flags.writeable = False
-        apart = numpy.arange(5_000), numpy.arange(5_000)
-        for arrays, is_row in (
-            (rows, True),
-            (read_only, True),
-            (rows[::2], False),
-            (rows[::-1], False),
-            (apart, False),
-        ):
-            parts = [tensor(it).held for it in arrays]
-            self.assertEqual(lie_in_a_row(parts), is_row)
-            one = numpy.frombuffer(as_one(parts), dtype=numpy.int64)
-            self.assertEqual(numpy.shares_memory(one, arrays[0]), is_row)
-            for way in ("library", "reference library"):
-                _, is_there, opened = WAYS[way]
-                if is_there:
-                    with opened() as ask:
-                        expr = tensor(arrays[0]) - tensor(arrays[1]) * 3
-                        wanted = arrays[0] - arrays[1] * 3
-                        numpy.testing.assert_array_equal(ask(expr).array(), wanted)
-            numpy.testing.assert_array_equal(one, numpy.concatenate(arrays)[: one.size])
-        self.assertFalse(lie_in_a_row([rows[0].data, rows[1][:0].data]))
-        self.assertFalse(lie_in_a_row([rows[0].data, rows[1].tobytes()]))
+    def test_arrays_in_the_common_order(self):
+        rows = numpy.arange(5_000).reshape(50, 100)
+        blocks = numpy.arange(6_000).reshape(10, 20, 30)
+        for array in (rows, blocks, blocks[::2], rows.T):
+            x = tensor(array)
+            is_kept = array.flags.c_contiguous or array.flags.f_contiguous
+            self.assertEqual(numpy.shares_memory(numpy.asarray(x.own), array), is_kept)
+            numpy.testing.assert_array_equal(x.array(), array)
+            self.assertEqual(x.nested(), array.tolist())
+            self.assertEqual(x.values, array.ravel(order="F").tolist())
+            numpy.testing.assert_array_equal(pickle.loads(pickle.dumps(x)).array(), array)
+        column = numpy.arange(100)
+        for ask in self.ways():
+            for expr, wanted in (
+                (tensor(rows) * 2 + column, rows * 2 + column),
+                (tensor(rows) @ tensor(rows).T, rows @ rows.T),
+                (tensor(rows).sum(axis=1), rows.sum(axis=1)),
+                (tensor(rows)[3:, ::-2], rows[3:, ::-2]),
+                (tensor(blocks) - tensor(blocks[::-1].copy()), blocks - blocks[::-1]),
+                (tensor(blocks).sum(axis=(0, 2)), blocks.sum(axis=(0, 2))),
+                (tensor(rows) + tensor(numpy.asfortranarray(rows)), rows + rows),
+                (where(tensor(rows) > 50, tensor(rows), 0), numpy.where(rows > 50, rows, 0)),
+            ):
+                found = ask(expr)
+                numpy.testing.assert_array_equal(found.array(), wanted)
+                self.assertEqual(found.nested(), wanted.tolist())
 
-    def test_the_room_that_a_thread_keeps(self):
-        parts = [numpy.arange(9_000), numpy.arange(100), numpy.arange(0)]
-        first = as_one([it.data for it in parts])
-        self.assertIsInstance(first.obj, Room)
-        # While one is used, another is taken.
-        self.assertIsNot(as_one([it.data for it in parts]).obj, first.obj)
-        keep(first)
-        keep(parts[0].data)
-        again = as_one([it.data for it in parts[::-1]])
-        self.assertIs(again.obj, first.obj)
-        wanted = numpy.concatenate(parts[::-1])
-        numpy.testing.assert_array_equal(numpy.frombuffer(again, dtype=numpy.int64), wanted)
-        keep(Room(MOST_KEPT + 1))
-        self.assertIsNone(KEPT.room)
-        few = as_one([parts[1].data, parts[1].data])
-        self.assertEqual(few, parts[1].tobytes() * 2)
+    def ways(self):
+        """The ways that hand values over as they lie and are there."""
+        for way, (_, is_there, opened) in WAYS.items():
+            if is_there and way in ("library", "frames", "reference library"):
+                with self.subTest(way=way), opened() as ask:
+                    yield ask
+
+    def test_what_others_lend(self):
+        flat = numpy.arange(5_000)
+
+        class Lent:
+            __array_interface__ = flat.__array_interface__
+            of = flat
+
+        class Packed:
+            def __dlpack__(self, **more):
+                return flat.__dlpack__(**more)
+
+            def __dlpack_device__(self):
+                return flat.__dlpack_device__()
+
+        for lent in (Lent(), Packed(), flat.data, flat.reshape(50, 100).data):
+            x = tensor(lent)
+            self.assertTrue(numpy.shares_memory(numpy.asarray(x.own), flat))
+            self.assertEqual(sorted(x.values), flat.tolist())
+        self.assertRaises(TypeError, tensor, numpy.ones(2).data)
+
+    def test_memories_that_overlap(self):
+        flat = numpy.arange(10)
+        for one, other, wanted in (
+            (flat, flat, True),
+            (flat[:5], flat[4:], True),
+            (flat[:5], flat[5:], False),
+            (flat[2:3], flat, True),
+            (flat[:0], flat, False),
+        ):
+            self.assertEqual(overlap(one.data, other.data), wanted)
+            self.assertEqual(overlap(other.data, one.data), wanted)
 
     def test_the_array_of_an_answer(self):
         for way, (_, is_there, opened) in WAYS.items():
@@ -154,22 +178,106 @@ class Memory(unittest.TestCase):
             numpy.asarray(tensor([1, 2]) + 1)
 
 
-class Kept(unittest.TestCase):
-    """What the C library is asked for, and when."""
+@unittest.skipIf(numpy is None, "numpy isn't installed")
+class Out(unittest.TestCase):
+    """Answers that are written into arrays that are there."""
 
-    def test_memory_is_kept_where_that_is_asked_for(self):
-        functions = reference_frames.Functions()
-        functions.mallopt = unittest.mock.Mock(return_value=1)
-        with unittest.mock.patch("ctypes.CDLL", return_value=functions):
-            Library("reference").run(tensor([1, 2]) + 1, Settings())
-            functions.mallopt.assert_not_called()
-            self.assertTrue(client.keep_memory(64))
-            self.assertIn(unittest.mock.call(-1, 64 << 20), functions.mallopt.mock_calls)
-            functions.mallopt.return_value = 0
-            self.assertFalse(client.keep_memory())
-            del functions.mallopt
-            self.assertFalse(client.keep_memory())
-            self.assertRaises(TypeError, client.keep_memory, "64")
+    def test_arrays_that_take_an_answer(self):
+        flat, rows = numpy.arange(5_000), numpy.arange(5_000).reshape(50, 100)
+        for ask in Memory.ways(self):
+            for array in (flat, rows, numpy.asfortranarray(rows), flat[:3], rows[:2]):
+                wanted = array * 2 + 1
+                for out in (numpy.zeros(array.shape, dtype=int), numpy.zeros_like(array)):
+                    found = ask(tensor(array) * 2 + 1, out=out)
+                    numpy.testing.assert_array_equal(out, wanted)
+                    numpy.testing.assert_array_equal(found.array(), wanted)
+
+    def test_an_array_that_is_an_input_too(self):
+        for ask in Memory.ways(self):
+            for array in (numpy.arange(5_000), numpy.arange(5_000).reshape(50, 100)):
+                wanted = array[::-1] - array * 3
+                ask(tensor(array)[::-1] - tensor(array) * 3, out=array)
+                numpy.testing.assert_array_equal(array, wanted)
+
+    def test_arrays_that_take_none(self):
+        x = tensor(numpy.arange(6_000))
+        read_only = numpy.arange(6_000)
+        read_only.flags.writeable = False
+        for ask in Memory.ways(self):
+            for out in ([0] * 6_000, numpy.zeros(6_000), numpy.zeros(6_000, ">i8"), read_only):
+                self.assertRaises(TypeError, ask, x + 1, out=out)
+            gaps, few = numpy.zeros(12_000, int)[::2], numpy.zeros(5_999, int)
+            for out in (gaps, few, few[:6_000].reshape(7, 857)):
+                before = out.copy()
+                self.assertRaises(ValueError, ask, x + 1, out=out)
+                numpy.testing.assert_array_equal(out, before)
+            wrong = client.Expr("add", [x, tensor(1)])
+            self.assertRaises(client.ShapeMismatch, ask, wrong, out=numpy.zeros(1, int))
+
+
+class Threads(unittest.TestCase):
+    """Parts of an answer, on threads."""
+
+    def test_shares(self):
+        x = tensor(range(5))
+        for size, workers, count in (
+            (0, 4, 1),
+            (5, 4, 1),
+            (LEAST * 3, 8, 3),
+            (LEAST * 9, 4, 4),
+            (10**6, 1, 1),
+        ):
+            found = shares(x + 1, size, workers)
+            self.assertEqual(len(found), count)
+            self.assertEqual([it for part in found for it in part], list(range(size)))
+        self.assertEqual(len(shares(x.sum() + 1, 10**6, 4)), 1)
+        for expr, wanted in (
+            (x, True),
+            (x.sum(), True),
+            (x + x.sum(), False),
+            ((x * 2).reverse(True), True),
+            (client.contract(x, x, []), True),
+            (client.contract(x, client.contract(x, x, [(0, 0)]), []), False),
+        ):
+            self.assertEqual(are_independent(expr), wanted)
+
+    @unittest.skipIf(numpy is None, "numpy isn't installed")
+    def test_parts_of_answers(self):
+        large = numpy.arange(5_003) * 7
+        rows = large[:5_000].reshape(50, 100)
+        seen = set()
+        for ask in Memory.ways(self):
+            with unittest.mock.patch.object(threads, "LEAST", 1_000):
+                for workers in (1, 3, 8):
+                    for array in (large, rows):
+                        out = numpy.zeros_like(array)
+                        ask(tensor(array) * 3 - 1, workers=workers, out=out)
+                        numpy.testing.assert_array_equal(out, array * 3 - 1)
+                found = ask(tensor(rows).sum(axis=1) * 2, workers=4)
+                numpy.testing.assert_array_equal(found.array(), rows.sum(axis=1) * 2)
+        with unittest.mock.patch.object(threads, "POOL", None):
+            threads.each(lambda it: seen.add(threading.get_ident()) or it, [range(1)] * 3)
+        self.assertIn(threading.get_ident(), seen)
+
+    def test_a_part_that_fails(self):
+        done = []
+
+        def work(part):
+            done.append(part.start)
+            if part.start:
+                raise client.NoMemory()
+
+        parts = [range(it, it + 1) for it in range(3)]
+        self.assertRaises(client.NoMemory, threads.each, work, parts)
+        self.assertEqual(sorted(done), [0, 1, 2])
+
+    @unittest.skipUnless(hasattr(os, "fork"), "there is no fork")
+    def test_a_child(self):
+        threads.each(lambda it: None, [range(1)] * 3)
+        child = os.fork()
+        if not child:
+            os._exit(0 if threads.POOL is None else 1)
+        self.assertEqual(os.waitpid(child, 0)[1], 0)
 
 
 if __name__ == "__main__":

@@ -57,9 +57,9 @@ class Found(Shell):
         with self.here(TENSOR_FRAMES=REFERENCE, TENSOR_PROGRAM="/no/such/program"):
             with unittest.mock.patch("tensor_client.running.library_of", return_value=library):
                 self.assertEqual(client.run(-tensor(5)).item(), -5)
-                # By a process, which more workers and a limit of time ask for.
+                self.assertEqual(client.run(-tensor(5), workers=2).item(), -5)
+                # By a process, which a limit of time asks for.
                 with unittest.mock.patch.object(library, "run", side_effect=AssertionError):
-                    self.assertEqual(client.run(-tensor(5), workers=2).item(), -5)
                     self.assertEqual(client.run(-tensor(5), timeout=SECONDS).item(), -5)
             with unittest.mock.patch("tensor_client.running.library_of", return_value=None):
                 self.assertEqual(client.run(-tensor(5)).item(), -5)

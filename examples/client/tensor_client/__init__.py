@@ -59,19 +59,18 @@ from .functions import (
     transpose,
     zeros,
 )
-from .library import keep_memory
 from .requests import answer, request
 from .running import Session, run
 from .tensors import Tensor, full, tensor, where
 from .values import GREATEST, LEAST
 
-__version__ = "1.0.0"
+__version__ = "2.0.0"
 __all__ = [
     "BadArgument", "BadArity", "BadBlock", "BadField", "BadTensor", "BadVersion", "BadWorkers",
     "Expr", "Fault", "GREATEST", "LEAST", "NoMemory", "NotJson", "OutOfRange", "ProgramFailed",
     "ReadFault", "Session", "ShapeMismatch", "Tensor", "TimedOut", "TooLarge", "TooLong",
     "UnknownInput", "UnknownOp", "WriteFault", "all", "answer", "any", "clip", "concat",
-    "concatenate", "contract", "dot", "einsum", "full", "keep_memory", "matmul", "max", "maximum",
+    "concatenate", "contract", "dot", "einsum", "full", "matmul", "max", "maximum",
     "min", "minimum", "ones", "pad", "prod", "request", "reshape", "run", "stack", "sum", "tensor",
     "tensordot", "transpose", "where", "zeros", "__version__",
 ]

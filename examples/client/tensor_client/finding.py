@@ -70,8 +70,14 @@ def built(program: Program) -> Optional[str]:
 
 
 def libraries() -> Iterator[str]:
-    """Where the library may be: beside this package, where the loader looks, in the repository."""
+    """Where the library may be: beside this package, in the folder lib/ that this package is
+    installed below, where the loader looks, in the repository."""
     yield os.path.join(HERE, LIBRARY)
+    above = HERE
+    while os.path.basename(above) and os.path.basename(above) != "lib":
+        above = os.path.dirname(above)
+    if os.path.basename(above):
+        yield os.path.join(above, LIBRARY)
     yield LIBRARY
     if IS_IN_REPOSITORY:
         yield os.path.join(TOP, "out", LIBRARY)

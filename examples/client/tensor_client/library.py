@@ -1,109 +1,115 @@
-"""Has expressions answered in this process, by the library, on the thread that calls. Arrays are
-handed over where they lie."""
+"""Has expressions answered in this process, by the library: on the thread that calls, or in parts,
+on several threads. Arrays are handed over where they lie, and answers written where they are
+wanted."""
 
 from __future__ import annotations
 
 import ctypes
 import os
-from typing import Any, Dict, Optional
+from typing import Any, Dict, List, Optional
 
 from . import finding
 from .expressions import Expr
 from .faults import Fault, ProgramFailed, fault_made
-from .memory import FEW, as_one, keep, memory_for, place_of
+from .memory import LARGE, VALUE, Bytes, as_memory, joined, place_of
 from .requests import Framed, Settings, framed
-from .rules import MOST_ELEMENTS, product
+from .results import Result
+from .rules import Dims, product
 from .tensors import Tensor
-from .values import whole
+from .threads import each, shares
 
-# The C library's settings of memory, by their numbers: from how much at its end on the heap is cut,
-# and from how much on memory is asked of the system alone; and the most that this may be.
-TRIM_FROM, MAP_FROM, MOST_MAP_FROM = -1, -3, 32 << 20
 # As include/tensor.h has them.
 NO_ROOM, DIMS_ROOM, NAME_ROOM = -100, 9, 16
-POINTER, SIZE = ctypes.c_void_p, ctypes.c_size_t
-DIMS, NAME = ctypes.c_uint64 * DIMS_ROOM, ctypes.c_uint8 * NAME_ROOM
+POINTER, SIZE, NUMBER = ctypes.c_void_p, ctypes.c_size_t, ctypes.c_uint64
+DIMS, NAME = NUMBER * DIMS_ROOM, ctypes.c_uint8 * NAME_ROOM
+
+
+class Array(ctypes.Structure):
+    """Where an array's values lie, and how many there are."""
+
+    _fields_ = [("values", POINTER), ("length", SIZE)]
 
 
 class Library:
-    """The library, opened, with the three functions that it has."""
+    """The library, opened, with the functions of it that are called."""
 
     def __init__(self, path: str, by: str = "") -> None:
         self.path = path
         try:
             opened = ctypes.CDLL(path)
             self.evaluate: Any = opened.tensor_evaluate
+            self.evaluate_arrays: Any = opened.tensor_evaluate_arrays
             self.dims: Any = opened.tensor_dims
             self.fault_name: Any = opened.tensor_fault_name
         except (OSError, AttributeError) as fault:
             raise ProgramFailed(f"no library: {by}{path}: {fault}") from fault
         self.evaluate.argtypes = [POINTER, SIZE] * 4
-        self.dims.argtypes = [POINTER, SIZE, ctypes.c_uint64, POINTER, SIZE]
+        self.evaluate_arrays.argtypes = [POINTER, SIZE, POINTER, SIZE, NUMBER, POINTER, SIZE]
+        self.dims.argtypes = [POINTER, SIZE, NUMBER, POINTER, SIZE]
         self.fault_name.argtypes = [ctypes.c_uint32, POINTER, SIZE]
-        for it in (self.evaluate, self.dims, self.fault_name):
+        for it in (self.evaluate, self.evaluate_arrays, self.dims, self.fault_name):
             it.restype = ctypes.c_int64
 
-    def run(self, expr: Expr, settings: Settings) -> Tensor:
+    def run(self, expr: Expr, settings: Settings, out: Any = None) -> Tensor:
         """The tensor of an expression's values, or its fault."""
-        asked, found = framed(expr, settings), None
-        if expr.dims is not None:
-            found = self.evaluated(asked, min(product(expr.dims), MOST_ELEMENTS))
-        if found is None:
-            found = self.evaluated(asked, self.size(asked))
-        if found is None:
-            raise ProgramFailed(f"{self.path}: a tensor has more room than it asks for")
-        return found
+        if out is None and expr.dims is not None and product(expr.dims) < LARGE:
+            asked = framed(expr, settings)
+            found = self.answered_at_once(asked, product(expr.dims)) if asked.size < LARGE else None
+            if found is not None:
+                return found
+        result = Result(expr, out)
+        expr = result.asked(expr)
+        asked = framed(expr, settings)
+        parts, dims = [as_memory(it) for it in asked.held], self.dims_of(asked)
+        values = result.place(dims, parts)
+        self.fill(asked.header, parts, values, shares(expr, len(values), settings.workers))
+        return result.tensor(values, dims)
 
-    def evaluated(self, asked: Framed, room: int) -> Optional[Tensor]:
-        """The tensor of a frame, if it has no more values than there is room for."""
-        header, values, dims = asked.header, as_one(asked.parts), DIMS()
-        # An array of ctypes, which a slice makes a list of, or memory.
-        out: Any = (ctypes.c_int64 * room)() if room <= FEW else memory_for(room)
+    def answered_at_once(self, asked: Framed, room: int) -> Optional[Tensor]:
+        """The tensor of a frame of few values, if it has no more values than there is room for."""
+        header, values, dims = asked.header, joined(asked.held), DIMS()
+        # An array of ctypes, which a slice makes a list of.
+        out: Any = (ctypes.c_int64 * room)()
+        place = values if isinstance(values, bytes) else place_of(values)
         count = self.evaluate(
-            header,
-            len(header),
-            place_of(values),
-            asked.size,
-            out if room <= FEW else place_of(out),
-            room,
-            dims,
-            DIMS_ROOM,
+            header, len(header), place, asked.size, out, room, dims, DIMS_ROOM
         )
-        keep(values)
         if count == NO_ROOM:
             return None
         if count < 0:
             raise self.fault(-count)
         return Tensor(out[:count], dims[1 : 1 + dims[0]])
 
-    def size(self, asked: Framed) -> int:
-        """How many values the tensor of a frame has; none of them is worked out."""
+    def dims_of(self, asked: Framed) -> Dims:
+        """The dims of the tensor of a frame; none of its values is worked out."""
         header, dims = asked.header, DIMS()
         size: int = self.dims(header, len(header), asked.size, dims, DIMS_ROOM)
         if size < 0:
             raise self.fault(-size)
-        return size
+        return tuple(dims[1 : 1 + dims[0]])
+
+    def fill(self, header: bytes, parts: List[Bytes], out: memoryview, places: List[range]) -> None:
+        """Writes the values of a frame, each of these shares of its places on a thread."""
+        arrays = (Array * len(parts))()
+        for array, it in zip(arrays, parts):
+            array.values, array.length = place_of(it), memoryview(it).nbytes // VALUE
+
+        def write(share: range) -> None:
+            part = out[share.start : share.stop]
+            count = self.evaluate_arrays(
+                header, len(header), arrays, len(arrays), share.start, place_of(part), len(part)
+            )
+            if count < 0:
+                raise self.fault(-count)
+            if count != len(part):
+                raise ProgramFailed(f"{self.path}: {count} values in the place of {len(part)}")
+
+        each(write, places)
 
     def fault(self, number: int) -> Fault:
         name = NAME()
         length = self.fault_name(number, name, NAME_ROOM)
         return fault_made(number, bytes(name[:length]).decode())
-
-
-def keep_memory(megabytes: int = 128) -> bool:
-    """Has the C library of this process keep so much of the memory that is freed, whoever frees it,
-    and not give it back to the system: large requests take less time, since memory that is new from
-    the system costs more than the work on it. Tells whether the C library has such a setting.
-
-    It is asked for here, and else left as it is. GLIBC_TUNABLES of the environment sets the same.
-
-    >>> keep_memory(64) in (True, False)
-    True
-    """
-    most, mallopt = whole(megabytes) << 20, getattr(ctypes.CDLL(None), "mallopt", None)
-    if mallopt is None:
-        return False
-    return bool(mallopt(TRIM_FROM, most) and mallopt(MAP_FROM, MOST_MAP_FROM))
 
 
 OPENED: Dict[str, Library] = {}

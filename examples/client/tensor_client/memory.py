@@ -8,10 +8,9 @@ from __future__ import annotations
 
 import ctypes
 import struct
-import threading
 from array import array as packed
 from functools import lru_cache
-from typing import Any, List, Optional, Union
+from typing import Any, List, Sequence, Tuple, Union
 
 from .values import GREATEST, LEAST, numpy, whole
 
@@ -50,13 +49,22 @@ def few_of(values: bytes) -> List[int]:
     return list(numbers(len(values) // VALUE).unpack(values))
 
 
-def memory_of_array(array: Any) -> memoryview:
-    """The memory of an array: its own where its values stand there column-major and 8 bytes each,
-    and else that of a copy."""
+def memory_of_array(array: Any) -> Tuple[memoryview, bool]:
+    """The memory of an array, and whether its values stand there in numpy's common order, the last
+    axis fastest: its own where they stand in either order, 8 bytes each, without gaps, and else
+    that of a copy, column-major. Few values are copied where they don't stand column-major."""
     flags = array.flags
-    if array.dtype != INT64 or not (flags.f_contiguous and flags.aligned):
+    lies = array.dtype == INT64 and flags.aligned
+    if lies and flags.c_contiguous and not flags.f_contiguous and array.size >= LARGE:
+        return array.reshape(-1).data, True
+    if not (lies and flags.f_contiguous):
         array = numpy.array(array, dtype=INT64, order="F")
-    found: memoryview = (array if array.ndim == 1 else array.reshape(-1, order="F")).data
+    return (array if array.ndim == 1 else array.reshape(-1, order="F")).data, False
+
+
+def columns_of(memory: memoryview, dims: Sequence[int]) -> memoryview:
+    """New memory with values column-major that stand in numpy's common order."""
+    found: memoryview = numpy.asarray(memory).reshape(dims).reshape(-1, order="F").data
     return found
 
 
@@ -78,10 +86,15 @@ def bytes_of(held: Held) -> bytes:
     return packed_bytes(held) if isinstance(held, list) else held.tobytes()
 
 
+def as_memory(held: Held) -> Bytes:
+    """The memory of values: where they lie, but for those in a list."""
+    return packed_bytes(held) if isinstance(held, list) else held
+
+
 def parts_of(held: List[Held], size: int) -> List[Bytes]:
     """The memory of all values, of which there are so many, one part behind another: where they
     lie, but for those in lists, and for those of several tensors that aren't many."""
-    parts = [packed_bytes(it) if isinstance(it, list) else it for it in held]
+    parts = [as_memory(it) for it in held]
     return [b"".join(parts)] if size < LARGE and len(parts) > 1 else parts
 
 
@@ -95,63 +108,26 @@ def packed_bytes(values: List[int]) -> bytes:
     return numbers(len(values)).pack(*values)
 
 
-class Room(bytearray):
-    """Memory into which the parts of a large request are copied, one behind another."""
+def joined(held: List[Held]) -> Bytes:
+    """The memory of all values, one tensor's behind another's."""
+    parts = [as_memory(it) for it in held]
+    return parts[0] if len(parts) == 1 else b"".join(parts)
 
 
-class Kept(threading.local):
-    """A thread's room, which is kept for its next request: new memory costs more than the copy."""
-
-    room: Optional[Room] = None
-
-
-KEPT, MOST_KEPT = Kept(), 32 << 20
-
-
-def as_one(parts: List[Bytes]) -> Bytes:
-    """A memory in which all parts lie, one behind another: the first's, where they lie so, and else
-    that of a copy. It is used as long as the parts are, and then given to `keep`."""
-    if len(parts) == 1 or lie_in_a_row(parts):
-        return parts[0]
-    views = [memoryview(it).cast("B") for it in parts if it]
-    size = sum(map(len, views))
-    if size < VALUE * LARGE:
-        return b"".join(views)
-    # Taken from its place meanwhile, as no other request of this thread may use it.
-    room, KEPT.room = KEPT.room, None
-    if room is None or len(room) < size:
-        room = Room(size)
-    found, end = memoryview(room)[:size], 0
-    for it in views:
-        begin, end = end, end + len(it)
-        found[begin:end] = it
-    return found
+def place_of(memory: Bytes) -> int:
+    """Where a memory begins, which has to be kept as long as that is used. A pointer to nothing may
+    not be null."""
+    if isinstance(memory, memoryview) and memory:
+        if memory.readonly:
+            place: int = numpy.asarray(memory).__array_interface__["data"][0]
+            return place
+        return ctypes.addressof(ctypes.c_char.from_buffer(memory))
+    begin = ctypes.c_char_p(memory if isinstance(memory, bytes) else b"")
+    return ctypes.cast(begin, ctypes.c_void_p).value or 0
 
 
-def keep(values: Bytes) -> None:
-    """Keeps the room in which these values were put together, if it is one, and not too large."""
-    room = values.obj if isinstance(values, memoryview) else None
-    if isinstance(room, Room) and len(room) <= MOST_KEPT:
-        KEPT.room = room
-
-
-def lie_in_a_row(parts: List[Bytes]) -> bool:
-    """Whether several parts lie one behind another, as rows of an array do."""
-    views = [it for it in parts if isinstance(it, memoryview)]
-    if not views or len(views) < len(parts) or not all(views):
-        return False
-    places = list(map(place_of, views))
-    ends = [place + it.nbytes for place, it in zip(places, views)]
-    return places[1:] == ends[:-1]
-
-
-def place_of(memory: Bytes) -> Any:
-    """What ctypes passes as a pointer to a memory, which has to be kept as long as that is used."""
-    if isinstance(memory, bytes):
-        return memory
-    if not memory:
-        # A pointer to nothing may not be null.
-        return b""
-    if memory.readonly:
-        return numpy.asarray(memory).__array_interface__["data"][0]
-    return ctypes.addressof(ctypes.c_char.from_buffer(memory))
+def overlap(one: memoryview, other: Bytes) -> bool:
+    """Whether two memories have a place in common."""
+    views = [memoryview(it) for it in (one, other)]
+    places = [range(place_of(it), place_of(it) + it.nbytes) for it in views if it.nbytes]
+    return len(places) == 2 and max(it.start for it in places) < min(it.stop for it in places)

@@ -12,7 +12,7 @@ from typing import Any, List, Optional, Tuple
 
 from .faults import ProgramFailed, TimedOut
 from .finding import environment
-from .memory import FEW, VALUE, Bytes, Held, few_of, memory_for, memory_of
+from .memory import FEW, VALUE, Bytes, Held, few_of, memory_for, memory_of, parts_of
 from .requests import MAX_TEXT, MAX_VALUES, Framed, fault_of
 
 SIZES = struct.Struct("<QQ")
@@ -156,7 +156,7 @@ def line_asked(process: Process, text: str, deadline: Deadline) -> str:
 def frame_asked(process: Process, asked: Framed, deadline: Deadline) -> Tuple[bytes, Held]:
     """The header and the values of the frame that answers a frame, by a program of frames."""
     sizes = SIZES.pack(len(asked.header), asked.size)
-    process.write([sizes + asked.header, *asked.parts], deadline)
+    process.write([sizes + asked.header, *parts_of(asked.held, asked.size)], deadline)
     found = b""
     while len(found) < SIZES.size:
         found += process.read(deadline)

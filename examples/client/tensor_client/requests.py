@@ -9,7 +9,7 @@ from typing import Any, Callable, Dict, Iterable, List, NamedTuple, Optional, Tu
 
 from .expressions import Expr
 from .faults import Fault, TooLong, fault_made
-from .memory import Bytes, Held, parts_of
+from .memory import Held
 from .rules import Dims
 from .tensors import Tensor, an_expr
 from .values import whole
@@ -22,6 +22,8 @@ FIRST_RANK, FIRST_WORKERS = 6, 64
 VERSIONS = dict.fromkeys("stride pad concat convolve".split(), 2)
 # So many arrays in one another a text may have, its own object and an argument's two left out.
 DEEPEST = 120
+# So many nodes an expression may have.
+MOST_NODES = 1_000
 # So many bytes a node of an expression has in a text at least: a name, and a comma behind it.
 LEAST_NODE = 5
 SUMS = frozenset(("add", "sub"))
@@ -94,9 +96,11 @@ class Text:
     they stand, and its version is the least that has all its operations. It goes down a tree by a
     list of what is left, so that no depth is too great for it."""
 
-    def __init__(self, expr: Expr) -> None:
+    def __init__(self, expr: Expr, as_they_lie: bool = False) -> None:
         self.names: Dict[int, Tuple[str, Tensor]] = {}
         self.version, self.balance = 1, expr.depth > DEEPEST
+        # Each input that is turned back is a node more.
+        self.as_they_lie = as_they_lie and 2 * expr.nodes <= MOST_NODES
         pieces: List[str] = []
         left: List[Union[Expr, str]] = [expr]
         while left:
@@ -117,7 +121,15 @@ class Text:
             if len(it.dims or ()) > FIRST_RANK:
                 self.ask_for(2)
             found = self.names[id(it)] = f',"x{len(self.names)}"', it
+        if self.as_they_lie and it.turned:
+            axes = commas(reversed(range(len(it.dims or ()))))
+            return f',["shuffle"{found[0]},[{axes}]]'
         return found[0]
+
+    def lying(self, it: Tensor) -> Tuple[Dims, Held]:
+        """An input's dims and values as they are handed over."""
+        dims = it.dims or ()
+        return (dims[::-1], it.own) if self.as_they_lie and it.turned else (dims, it.held)
 
     def begun(self, it: Expr, left: List[Union[Expr, str]]) -> str:
         """The text that an operation begins with; what stands behind that is put on the list."""
@@ -144,11 +156,12 @@ class Settings(NamedTuple):
     version: Optional[int] = None
 
 
-def text_of(expr: Expr) -> Text:
-    """An expression's text, if it isn't too long already."""
+def text_of(expr: Expr, as_they_lie: bool = False) -> Text:
+    """An expression's text, if it isn't too long already; over inputs as they lie in memory, or
+    over their values column-major."""
     if expr.nodes > MAX_TEXT // LEAST_NODE:
         raise TooLong("it was not sent")
-    return Text(expr)
+    return Text(expr, as_they_lie)
 
 
 def whole_text(found: Text, settings: Settings, inputs: Iterable[str]) -> str:
@@ -180,12 +193,12 @@ def request(expr: Any, workers: int = 1, block: int = 4096, version: Optional[in
 
 
 class Framed(NamedTuple):
-    """A request as a frame: the header, how many values stand behind it, and these, one part behind
-    another, where they lie."""
+    """A request as a frame: the header, how many values stand behind it, and these, a tensor's
+    behind another's, where they lie."""
 
     header: bytes
     size: int
-    parts: List[Bytes]
+    held: List[Held]
 
 
 def framed(expr: Expr, settings: Settings) -> Framed:
@@ -194,17 +207,18 @@ def framed(expr: Expr, settings: Settings) -> Framed:
     >>> framed(tensor([5, 7]), Settings()).header
     b'{"version":1,"workers":1,"block":4096,"inputs":{"x0":{"dims":[2]}},"expr":"x0"}'
     """
-    found = text_of(expr)
+    found = text_of(expr, as_they_lie=True)
     named = list(found.names.values())
     if len(named) > 10:
         # Behind "x1" stands "x10".
         named.sort(key=itemgetter(0))
-    held = [it.held for _, it in named]
+    lying = [found.lying(it) for _, it in named]
+    held = [it for _, it in lying]
     size = sum(map(len, held))
     if size > MAX_VALUES:
         raise TooLong("it was not sent")
-    inputs = [f"{name[1:]}:{{{dims_text(it.dims or ())}}}" for name, it in named]
-    return Framed(whole_text(found, settings, inputs).encode(), size, parts_of(held, size))
+    inputs = [f"{name[1:]}:{{{dims_text(dims)}}}" for (name, _), (dims, _) in zip(named, lying)]
+    return Framed(whole_text(found, settings, inputs).encode(), size, held)
 
 
 def fault_of(line: str, why: str = "") -> Optional[Fault]:

@@ -13,6 +13,7 @@ from .finding import FRAMES, LINES, ONE, built, found, no_library, program_of
 from .library import Library, library_named, library_of
 from .processes import Deadline, Process, answered_once, frame_asked, line_asked
 from .requests import Settings, answer, framed, header_answer, request
+from .results import written
 from .tensors import Tensor, an_expr
 
 WAYS, SESSIONS = ("library", "frames", "process"), ("frames", "lines")
@@ -26,39 +27,53 @@ def run(
     program: Any = None,
     timeout: Optional[float] = None,
     way: Optional[str] = None,
+    out: Any = None,
 ) -> Tensor:
     """The tensor of an expression's values, by so many workers, which take so many places at a
     time; neither changes a value. Raises the program's fault, by its class, and TimedOut where
     there is no answer within so many seconds.
 
-    The way is "library", on the thread that calls, or a process for this request, asked by
-    "frames" or, as "process", by a text. `program` is the path of what answers. Where no way is
-    said it is the first that is found; the library is for one worker without a limit of time.
+    The way is "library", on so many threads of this process, or a process for this request, asked
+    by "frames" or, as "process", by a text. `program` is the path of what answers. Where no way is
+    said it is the first that is found; the library has no limit of time. `out` is an array of
+    numpy, of int64 and without gaps, into which the values are written; where there is a fault it
+    may have any values.
 
     >>> run(tensor([1, 2]) + 10).nested()
     [11, 12]
     """
     asked, settings, library = an_expr(expr), Settings(workers, block, version), None
-    if way is None and program is None and timeout is None and workers == 1:
+    if way is None and program is None and timeout is None:
         library = library_of()
     elif way == "library":
         library = library_asked(program, timeout)
     try:
         if library is not None:
-            return library.run(asked, settings)
-        if way == "frames" or (way is None and program is None and built(FRAMES)):
-            with Session(program=program, timeout=timeout, way="frames") as session:
-                return session._answered(asked, settings, timeout)
-        if way not in (None, "process"):
-            raise ValueError(f"a way is one of {WAYS}, and not {way!r}")
-        if way is None and program is None and found(ONE) is None:
-            tried = "; ".join((no_library(), FRAMES.tried(), ONE.tried()))
-            raise ProgramFailed(f"nothing is found that answers: {tried}")
-        text = request(asked, *settings)
-        return answer(answered_once(program_of(program, ONE), text, timeout))
+            return library.run(asked, settings, out)
+        return written(answered(asked, settings, program, timeout, way), out)
     except Fault as fault:
         explain(fault, asked, settings)
         raise
+
+
+def answered(
+    asked: Expr,
+    settings: Settings,
+    program: Any,
+    timeout: Optional[float],
+    way: Optional[str],
+) -> Tensor:
+    """The tensor of an expression's values, by a process for this request."""
+    if way == "frames" or (way is None and program is None and built(FRAMES)):
+        with Session(program=program, timeout=timeout, way="frames") as session:
+            return session._answered(asked, settings, timeout)
+    if way not in (None, "process"):
+        raise ValueError(f"a way is one of {WAYS}, and not {way!r}")
+    if way is None and program is None and found(ONE) is None:
+        tried = "; ".join((no_library(), FRAMES.tried(), ONE.tried()))
+        raise ProgramFailed(f"nothing is found that answers: {tried}")
+    text = request(asked, *settings)
+    return answer(answered_once(program_of(program, ONE), text, timeout))
 
 
 def library_asked(named: Any, timeout: Optional[float]) -> Library:
@@ -120,6 +135,7 @@ class Session:
         block: Optional[int] = None,
         version: Optional[int] = None,
         timeout: Optional[float] = None,
+        out: Any = None,
     ) -> Tensor:
         """The tensor of an expression's values, as `run` gives it.
 
@@ -134,7 +150,8 @@ class Session:
             version,
         )
         try:
-            return self._answered(asked, settings, self.timeout if timeout is None else timeout)
+            seconds = self.timeout if timeout is None else timeout
+            return written(self._answered(asked, settings, seconds), out)
         except Fault as fault:
             explain(fault, asked, settings)
             raise

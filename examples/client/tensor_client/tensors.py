@@ -3,12 +3,21 @@ a number becomes one."""
 
 from __future__ import annotations
 
+from array import array as packed
 from typing import Any, List, NoReturn, Optional, Sequence, Union
 
 from . import rules
 from .expressions import Expr
 from .faults import BadTensor
-from .memory import Held, bytes_of, memory_of, memory_of_array, memory_of_range
+from .memory import (
+    LARGE,
+    Held,
+    bytes_of,
+    columns_of,
+    memory_of,
+    memory_of_array,
+    memory_of_range,
+)
 from .values import (
     LISTS,
     are_bools,
@@ -28,25 +37,51 @@ SHOWN = 8
 class Tensor(Expr):
     """Dims and values, column-major: an input of an expression, or what one was answered with.
 
-    The values are `held` as a list or in memory, which is `shared` where others may write into it.
+    The values are `held` as a list or in memory, which is `shared` where others may write into it,
+    and `turned` where they stand there in numpy's common order, the last axis fastest.
 
     >>> tensor([[1, 2], [3, 4]]).values
     [1, 3, 2, 4]
     """
 
-    __slots__ = ("held", "shared", "listed")
+    __slots__ = ("own", "shared", "turned", "listed")
 
     def __init__(
-        self, values: Held, dims: Sequence[int], truth: bool = False, shared: bool = False
+        self,
+        values: Held,
+        dims: Sequence[int],
+        truth: bool = False,
+        shared: bool = False,
+        turned: bool = False,
     ) -> None:
         # What Expr's own would do, in less time: an answer is made at each call.
         self.operation, self.operands, self.arguments = "tensor", (), ()
         self.dims, self.truth, self.depth, self.nodes = tuple(dims), truth, 1, 1
-        self.held, self.shared = values, shared
+        self.own, self.shared, self.turned = values, shared, turned
         self.listed: Optional[List[int]] = None
 
+    @property
+    def held(self) -> Held:
+        """The values column-major, which is a copy of those that stand otherwise.
+
+        >>> tensor([[1, 2], [3, 4]]).held
+        [1, 3, 2, 4]
+        """
+        if isinstance(self.own, memoryview) and self.turned:
+            return columns_of(self.own, self.dims or ())
+        return self.own
+
+    @property
+    def is_large(self) -> bool:
+        """Whether the values are many.
+
+        >>> tensor([1, 2]).is_large
+        False
+        """
+        return len(self.own) >= LARGE
+
     def __repr__(self) -> str:
-        more = f" ({len(self.held):,})" if len(self.held) > SHOWN else ""
+        more = f" ({len(self.own):,})" if len(self.own) > SHOWN else ""
         shown = " ".join(map(str, self.held[:SHOWN])) + (more and " ..")
         return f"<tensor, dims {self.dims}, values {shown}{more}>"
 
@@ -61,9 +96,10 @@ class Tensor(Expr):
         >>> tensor([[1, 2], [3, 4]]).values
         [1, 3, 2, 4]
         """
-        if isinstance(self.held, list):
-            return self.held
-        found = self.listed or self.held.tolist()
+        if isinstance(self.own, list):
+            return self.own
+        held = self.held
+        found = self.listed or (held if isinstance(held, list) else held.tolist())
         self.listed = None if self.shared else found
         return found
 
@@ -86,16 +122,16 @@ class Tensor(Expr):
         >>> run(tensor([1, 2]).sum()).item()
         3
         """
-        if len(self.held) != 1:
-            raise ValueError(f"{len(self.held)} values and not one")
-        return self.held[0]
+        if len(self.own) != 1:
+            raise ValueError(f"{len(self.own)} values and not one")
+        return self.own[0]
 
     __int__ = __index__ = item
 
     def __bool__(self) -> bool:
-        if len(self.held) != 1:
+        if len(self.own) != 1:
             raise TypeError("a tensor of other than one value is neither true nor false: all, any")
-        return self.held[0] != 0
+        return self.own[0] != 0
 
     def array(self) -> Any:
         """The values as an array of numpy, x[i, j] at the index list (i, j): the tensor's own
@@ -109,15 +145,18 @@ class Tensor(Expr):
         if numpy is None:
             raise ImportError("numpy isn't installed: Tensor.nested() gives lists")
         if self.truth:
-            flat = numpy.array(self.held, dtype=numpy.int64)
-        elif isinstance(self.held, list):
+            flat = numpy.array(self.own, dtype=numpy.int64)
+        elif isinstance(self.own, list):
             # From here on the values stand in the array's memory.
-            flat = numpy.array(self.held, dtype=numpy.int64)
-            self.held, self.shared = flat.data, True
+            flat = numpy.array(self.own, dtype=numpy.int64)
+            self.own, self.shared = flat.data, True
         else:
-            flat = numpy.asarray(self.held).view(numpy.int64)
+            flat = numpy.asarray(self.own).view(numpy.int64)
             self.shared, self.listed = True, None
-        return flat if flat.shape == self.dims else flat.reshape(self.dims or (), order="F")
+        dims = self.dims or ()
+        if self.turned:
+            return flat.reshape(dims)
+        return flat if flat.shape == dims else flat.reshape(dims, order="F")
 
     def __array__(self, dtype: Any = None, copy: Any = None) -> Any:
         return self.array().astype(dtype or numpy.int64, copy=bool(copy))
@@ -132,8 +171,10 @@ def tensor(values: Any, dims: Optional[Sequence[int]] = None) -> Tensor:
     """A tensor of an array, of nested lists, or of a number; or, where dims are given, of a list
     of values that stands column-major.
 
-    An array of int64 that is column-major (order="F", or of one axis) isn't copied: the tensor, and
-    each expression with it, has the values that stand in the array when it is run.
+    An array of int64 without gaps isn't copied, whatever the order of its axes, but for one of few
+    values that isn't column-major: the tensor, and each expression with it, has the values that
+    stand in the array when it is run. Nor is what lies in a buffer, or is lent by another library
+    (`__array_interface__`, `__dlpack__`).
 
     >>> tensor([1, 4, 2, 5, 3, 6], dims=(2, 3)).nested()
     [[1, 2, 3], [4, 5, 6]]
@@ -147,14 +188,29 @@ def tensor(values: Any, dims: Optional[Sequence[int]] = None) -> Tensor:
         return values
     if isinstance(values, Expr):
         raise TypeError("an expression has no values yet: run(it) gives its tensor")
-    if numpy is not None and isinstance(values, (numpy.ndarray, numpy.generic)):
-        array = checked_array(numpy.asanyarray(values))
+    array = array_of(values)
+    if array is not None:
         dims, is_truth = rules.legal(array.shape), array.dtype.kind == "b"
-        return Tensor(memory_of_array(array), dims, is_truth, shared=True)
+        memory, turned = memory_of_array(array)
+        return Tensor(memory, dims, is_truth, shared=True, turned=turned)
     if isinstance(values, range):
         return Tensor(memory_of_range(values), rules.legal([len(values)]))
     lengths, level = unnested(values)
     return Tensor(checked(level), rules.legal(lengths), are_bools(level))
+
+
+def array_of(values: Any) -> Any:
+    """An array of numpy over what lies in memory, where it lies: an array, a buffer, or what
+    another library lends. None where that is nothing of the kind."""
+    if numpy is None:
+        return None
+    if isinstance(values, (numpy.ndarray, numpy.generic)):
+        return checked_array(numpy.asanyarray(values))
+    if hasattr(values, "__dlpack__"):
+        return checked_array(numpy.from_dlpack(values))
+    if hasattr(values, "__array_interface__") or isinstance(values, (memoryview, packed)):
+        return checked_array(numpy.asarray(values))
+    return None
 
 
 def an_expr(value: Any) -> Expr:

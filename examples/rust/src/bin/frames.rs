@@ -2,7 +2,7 @@
 //! of 64 bits, h and v, then h bytes of header, then v values.
 
 use std::{env, fs};
-use tensor::{evaluate, Header};
+use tensor::{evaluate_joined, Header};
 
 /// The next so many bytes.
 fn taken<'b>(bytes: &mut &'b [u8], count: usize) -> &'b [u8] {
@@ -23,9 +23,7 @@ fn main() {
         let (header, count) = (number(&mut bytes) as usize, number(&mut bytes));
         let text = String::from_utf8(taken(&mut bytes, header).to_vec()).expect("UTF-8");
         let values: Vec<i64> = (0..count).map(|_| number(&mut bytes) as i64).collect();
-        // Two slices, as if they were two tensors.
-        let (first, second) = values.split_at(values.len() / 2);
-        match evaluate(&Header { text }, &[first, second]) {
+        match evaluate_joined(&Header { text }, &values, 3) {
             Ok(it) => println!(r#"{{"data":{:?},"dims":{:?}}}"#, it.values, it.dims),
             Err(fault) => println!("error {fault}"),
         }

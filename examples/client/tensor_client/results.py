@@ -1,0 +1,97 @@
+"""Where an answer's values go, and in which order: into new memory, or into an array that is
+there."""
+
+from __future__ import annotations
+
+from typing import Any, Optional, Sequence
+
+from .expressions import Expr
+from .memory import INT64, Bytes, memory_for, overlap
+from .requests import MOST_NODES
+from .rules import Dims, product
+from .tensors import Tensor
+from .values import numpy
+
+
+class Result:
+    """The place of an answer's values. They are `turned` where they stand in numpy's common order,
+    the last axis fastest: then the expression is asked for with its axes in reverse order, which
+    gives them so."""
+
+    def __init__(self, expr: Expr, out: Any = None) -> None:
+        self.out = None if out is None else checked_out(out)
+        # Its axes in reverse order are a node more, as is each input that is turned back.
+        can_be_turned = expr.dims is not None and 2 * (expr.nodes + 1) <= MOST_NODES
+        is_wanted = are_turned(expr) if self.out is None else not self.out.flags.f_contiguous
+        self.turned = can_be_turned and is_wanted
+
+    def asked(self, expr: Expr) -> Expr:
+        """What is asked for."""
+        if not self.turned:
+            return expr
+        dims = (expr.dims or ())[::-1]
+        return Expr("shuffle", [expr], [list(range(len(dims)))[::-1]], dims)
+
+    def place(self, dims: Dims, inputs: Sequence[Bytes]) -> memoryview:
+        """Memory for an answer of these dims, which overlaps no input: the array's own, if it can
+        be."""
+        if self.out is not None:
+            wanted = dims[::-1] if self.turned else dims
+            if self.out.shape != wanted:
+                raise ValueError(f"out has dims {self.out.shape}, and the answer {wanted}")
+            if self.turned or self.out.flags.f_contiguous:
+                own = memory_of_out(self.out)
+                if not any(overlap(own, it) for it in inputs):
+                    return own
+        return memory_for(product(dims))
+
+    def tensor(self, values: memoryview, dims: Dims) -> Tensor:
+        """The tensor of an answer, whose values and dims are as they were asked for."""
+        found = Tensor(values, dims[::-1] if self.turned else dims, turned=self.turned)
+        if self.out is not None and not overlap(memory_of_out(self.out), values):
+            self.out[...] = found.array()
+        return found
+
+
+def are_turned(expr: Expr) -> bool:
+    """Whether an answer is best given in numpy's common order: some inputs stand so, and none of
+    several axes and many values stands otherwise."""
+    found, left = False, [expr]
+    while left:
+        it = left.pop()
+        left += it.operands
+        if isinstance(it, Tensor):
+            if it.turned:
+                found = True
+            elif len(it.dims or ()) > 1 and it.is_large:
+                return False
+    return found and expr.dims is not None and len(expr.dims) > 1
+
+
+def written(found: Tensor, out: Any) -> Tensor:
+    """The tensor of an answer that came into memory of its own, written into the array too."""
+    if out is None:
+        return found
+    if checked_out(out).shape != found.dims:
+        raise ValueError(f"out has dims {out.shape}, and the answer {found.dims}")
+    out[...] = found.array()
+    return found
+
+
+def checked_out(out: Any) -> Any:
+    """An array into which an answer can be written as it is."""
+    if numpy is None or not isinstance(out, numpy.ndarray):
+        raise TypeError(f"out is no array of numpy: {type(out).__name__}")
+    flags = out.flags
+    if out.dtype != INT64 or not flags.writeable or not flags.aligned:
+        raise TypeError(f"out is no array of int64 that can be written: {out.dtype}")
+    if not flags.f_contiguous and not flags.c_contiguous:
+        raise ValueError("out has gaps: an array without gaps takes an answer")
+    return out
+
+
+def memory_of_out(out: Any) -> memoryview:
+    """The memory of an array without gaps."""
+    flat = out.reshape(-1, order="F" if out.flags.f_contiguous else "C")
+    memory: memoryview = flat.data
+    return memory
