@@ -7,6 +7,7 @@ ghost use Rattle.worker_pool.specs.Starts.{joined_of};
 
 mod home;
 
+use core::thread::Stack;
 pub(crate) use home::Home;
 use std::alloc::Allocator;
 use std::snapshot::Snapshot;
@@ -60,6 +61,11 @@ impl<X, S: Workplace<X>> Promise<X> for ComeHome<S, X> {
 
 /// The number of no worker.
 const NOBODY: u64 = u64::MAX;
+
+/// How many bytes of stack a worker has, as many as Rust gives a thread. The C library's own are
+/// those of `ulimit -s`, commonly four times as many, which under a limit of memory leave room for
+/// few workers.
+const STACK: usize = 2 << 20;
 
 /// Starts a worker for each of the first `starts` states, calls the opening with how many were
 /// started, and brings all states home, by number. A worker that wasn't started does nothing. Those
@@ -140,7 +146,8 @@ where
         return (ended, opening.run(workplace, started));
     };
     let number = states.len() as u64;
-    match scope.spawn_with(
+    match Stack::new().stack_size(STACK).spawn_scoped_with(
+        scope,
         ComeHome(Snapshot::of(workplace), Snapshot::of(&next)),
         move || -> X
             requires { S.is_at_work workplace.now next }
