@@ -15,8 +15,8 @@
    What a caller owes:
    - Each pointer is to as many elements as its length says, aligned as its type is; it may not be
      null, even where the length is 0. No list takes 2^63 bytes or more: so the lengths of
-     `values`, `out` and `dims` are below 2^60, and that of `arrays` is below 2^59.
-   - What is written to, `out`, `dims` and `name`, overlaps nothing else that the call is given, and
+     `values`, `out`, `dims` and `plan` are below 2^60, and that of `arrays` is below 2^59.
+   - What is written to, `out`, `dims`, `name` and `plan` of tensor_prepare, overlaps nothing else that the call is given, and
      nobody else reads or writes it during the call. What is read, nobody writes during the call.
    - Calls may be made from any number of threads at once, but not from a signal handler, and not
      from the forked child of a process with threads.
@@ -48,8 +48,14 @@ extern "C" {
 /* The most bytes of a fault's name, with the 0 behind it. */
 #define TENSOR_NAME_ROOM 16
 
-/* What is returned where `out`, `dims` or `name` has too little room. */
+/* The most numbers of a plan over so many tensors. */
+#define TENSOR_PLAN_ROOM(tensors) (19003 + 9 * (size_t)(tensors))
+
+/* What is returned where `out`, `dims`, `name` or `plan` has too little room. */
 #define TENSOR_NO_ROOM (-100)
+
+/* What is returned where the numbers of `plan` are no plan. */
+#define TENSOR_NO_PLAN (-101)
 
 /* The values of one tensor, where they lie. */
 struct tensor_array {
@@ -94,6 +100,28 @@ int64_t tensor_evaluate_part(const uint8_t *header, size_t header_length,
 int64_t tensor_evaluate_arrays(const uint8_t *header, size_t header_length,
                                const struct tensor_array *arrays, size_t count,
                                uint64_t first, int64_t *out, size_t out_length);
+
+/* Writes the plan of a header whose tensors have `count` values together, whatever these are, and
+   returns how many numbers it has: 15 for `add` of two tensors of one axis. Faults, and too little room, as of
+   tensor_evaluate; then nothing is written.
+
+   A plan is what the header asks for, once it is read and checked: the tensors' dims and the
+   expression, as numbers in the caller's memory. It is no handle, nothing belongs to it, and there
+   is nothing to free. It may be copied, and threads run one plan at once, as long as nobody writes
+   it. It is for this version of the library, and for this kind of machine. */
+int64_t tensor_prepare(const uint8_t *header, size_t header_length, uint64_t count,
+                       uint64_t *plan, size_t plan_length);
+
+/* Does as tensor_evaluate_arrays with a plan in the place of the header: an array a tensor, in the
+   order of the names. No text is read. `plan_length` is what tensor_prepare returned. Arrays that
+   are not as many, or not as long, as the header says are fault 7, want of memory is fault 15 (-15),
+   and the plan has no other fault, since its header had none. Numbers that are no plan are
+   TENSOR_NO_PLAN, or fault 7; of each fault but want of memory nothing is written. Whatever the
+   numbers are, nothing is read or written but the lists of this call: where they are the plan of
+   another header, it is answered. */
+int64_t tensor_run(const uint64_t *plan, size_t plan_length,
+                   const struct tensor_array *arrays, size_t count,
+                   uint64_t first, int64_t *out, size_t out_length);
 
 /* Writes the rank and the dims of the tensor of a frame with this header and `count` values,
    whatever these are, and returns how many values the tensor has. None is worked out. Faults, and

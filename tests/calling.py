@@ -4,8 +4,8 @@ import ctypes
 
 MOST = 16_777_216
 LEAST, GREATEST = -(2**63), 2**63 - 1
-DIMS_ROOM, NO_ROOM, SPARE, SENTINEL = 9, -100, 3, 77
-CALLS = ("evaluate", "evaluate_part", "evaluate_arrays", "dims", "fault_name")
+DIMS_ROOM, NO_ROOM, NO_PLAN, SPARE, SENTINEL = 9, -100, -101, 3, 77
+CALLS = ("evaluate", "evaluate_part", "evaluate_arrays", "prepare", "run", "dims", "fault_name")
 TWO = '"a":{"dims":[2]},"b":{"dims":[2]}'
 ENDS = [LEAST, GREATEST, -1, 1]
 
@@ -96,6 +96,43 @@ def part_calls(library):
         result = library.call("tensor_evaluate_part", *asked, first, out)
         left = [SENTINEL] * (3 - len(wanted[1]))
         yield f"a part {name}", (result, list(out)), (wanted[0], wanted[1] + left)
+
+
+def plan_calls(library):
+    """Calls that prepare a header, and that run a plan and what is none."""
+    two, long = bytes_of(header(TWO, '["sub","a","b"]')), (ctypes.c_uint8 * (MOST + 1))()
+    plan = (ctypes.c_uint64 * 16)(*[SENTINEL] * 16)
+    count = library.call("tensor_prepare", two, 4, plan)
+    yield "a plan", (count, plan[count:]), (15, [SENTINEL])
+    for name, text, values, wanted in (
+        ("of a fault", bytes_of(header(TWO, '["div"]')), 4, -9),
+        ("of too few values", two, 3, -7),
+        ("of too long a header", long, 4, -1),
+        ("of too many values", two, MOST + 1, -1),
+        ("of as many as can be said", two, 2**64 - 1, -1),
+    ):
+        left = (ctypes.c_uint64 * 16)(*[SENTINEL] * 16)
+        got = (library.call("tensor_prepare", text, values, left), list(left))
+        yield f"a plan {name}", got, (wanted, [SENTINEL] * 16)
+    little = (ctypes.c_uint64 * 14)(*[SENTINEL] * 14)
+    got = (library.call("tensor_prepare", two, 4, little), list(little))
+    yield "a plan with little room", got, (NO_ROOM, [SENTINEL] * 14)
+    whole = (ctypes.c_uint64 * 15)(*plan[:15])
+    for name, numbers, arrays, first, wanted in (
+        ("of two", whole, arrays_of([5, 7], [2, 3]), 0, (2, [3, 4])),
+        ("of two from the second value on", whole, arrays_of([5, 7], [2, 3]), 1, (1, [4])),
+        ("of two past the end", whole, arrays_of([5, 7], [2, 3]), 2**64 - 1, (0, [])),
+        ("whose lengths fit together alone", whole, arrays_of([5], [7, 2, 3]), 0, (-7, [])),
+        ("one too few", whole, arrays_of([5, 7]), 0, (-7, [])),
+        ("one too many", whole, arrays_of([5, 7], [2, 3], []), 0, (-7, [])),
+        ("with a number behind it", plan, arrays_of([5, 7], [2, 3]), 0, (NO_PLAN, [])),
+        ("of no numbers", (ctypes.c_uint64 * 0)(), arrays_of(), 0, (NO_PLAN, [])),
+        ("of zeroes", (ctypes.c_uint64 * 15)(), arrays_of([5, 7], [2, 3]), 0, (NO_PLAN, [])),
+    ):
+        out = (ctypes.c_int64 * 3)(*[SENTINEL] * 3)
+        result = library.call("tensor_run", numbers, arrays, first, out)
+        left = [SENTINEL] * (3 - len(wanted[1]))
+        yield f"a plan's run {name}", (result, list(out)), (wanted[0], wanted[1] + left)
 
 
 def array_calls(library):

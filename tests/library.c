@@ -3,8 +3,8 @@
      library FILE THREADS SECONDS  answers each of them by a part a thread, on so many threads; then
                                    each whole and by a part on each thread, and again for so long
      library FILE refuse           refuses each request for memory of each call in turn
-   Before that each is answered whole, and by parts of drawn sizes, with the values joined and with
-   an array a tensor. FILE has frames: two numbers of 64 bits, h and v, then h bytes of header, then
+   Before that each is answered whole, and by parts of drawn sizes, with the values joined, with an
+   array a tensor, and by its plan; and plans are spoilt, cut, and run over arrays of others. FILE has frames: two numbers of 64 bits, h and v, then h bytes of header, then
    v values; FILE.arrays how many arrays each has, and how long each is, or 2^64 - 1. The
    memory that the library takes is counted, and refused, by --wrap=malloc,realloc,free. The status
    is 0 where all is well, and else 1, with a line on standard error. */
@@ -23,6 +23,8 @@
 #include "tensor.h"
 
 enum { SPARE = 3, SENTINEL = 77, MOST_RUNS = 10000, MOST_THREADS = 64, FROM_SYSTEM = 1 << 17 };
+/* How many numbers of a plan are spoilt at most, and how many frames' arrays a plan is run over. */
+enum { MOST_SPOILT = 400, MOST_MIXED = 50 };
 
 struct frame {
     const uint8_t *header;
@@ -36,7 +38,13 @@ struct frame {
     int64_t result;
     int64_t *out;
     uint64_t dims[TENSOR_DIMS_ROOM];
+    /* The plan of the header, in a block of its own, where there is one and arrays to run it over. */
+    uint64_t *plan;
+    size_t plan_length;
 };
+
+/* How a frame is given to the library: its values joined, an array a tensor, or these and a plan. */
+enum way { JOINED, APART, PLANNED, WAYS };
 
 static struct frame *frames;
 static size_t frame_count;
@@ -221,12 +229,28 @@ static size_t part_size(const struct frame *it, uint64_t first, size_t room)
     return left < room ? (size_t)left : room;
 }
 
-/* Answers a part of a frame, its values from a place on: with the values joined, or by arrays. */
-static int64_t answer_part(const struct frame *it, bool by_arrays, uint64_t first, int64_t *out,
+/* Whether a frame may be given in this way. */
+static bool has_way(const struct frame *it, enum way way)
+{
+    return way == JOINED || (way == APART ? it->has_arrays : it->plan != NULL);
+}
+
+/* The way of this number, or the first where the frame hasn't that one. */
+static enum way way_of(const struct frame *it, uint64_t number)
+{
+    enum way way = (enum way)(number % WAYS);
+    return has_way(it, way) ? way : JOINED;
+}
+
+/* Answers a part of a frame, its values from a place on. */
+static int64_t answer_part(const struct frame *it, enum way way, uint64_t first, int64_t *out,
                            size_t room)
 {
     int64_t before = held, result;
-    if (by_arrays)
+    if (way == PLANNED)
+        result = tensor_run(it->plan, it->plan_length, it->arrays, it->array_count, first, out,
+                            room);
+    else if (way == APART)
         result = tensor_evaluate_arrays(it->header, it->header_length, it->arrays,
                                         it->array_count, first, out, room);
     else
@@ -239,11 +263,11 @@ static int64_t answer_part(const struct frame *it, bool by_arrays, uint64_t firs
 
 /* Answers a part, and sees that it is that of the first answer, and that the rest of its room is as
    it was; or else that there is no memory, where it is refused. */
-static void check_part_by(const struct frame *it, bool by_arrays, uint64_t first, size_t room)
+static void check_part_by(const struct frame *it, enum way way, uint64_t first, size_t room)
 {
     int64_t *out = guarded(room);
     size_t count = part_size(it, first, room);
-    int64_t result = answer_part(it, by_arrays, first, out, room);
+    int64_t result = answer_part(it, way, first, out, room);
     if (result != -15 || !was_refused) {
         if (result != (it->result < 0 ? it->result : (int64_t)count))
             fail("another number of values in a part");
@@ -258,9 +282,9 @@ static void check_part_by(const struct frame *it, bool by_arrays, uint64_t first
 
 static void check_part(const struct frame *it, uint64_t first, size_t room)
 {
-    check_part_by(it, false, first, room);
-    if (it->has_arrays)
-        check_part_by(it, true, first, room);
+    for (enum way way = JOINED; way < WAYS; way++)
+        if (has_way(it, way))
+            check_part_by(it, way, first, room);
 }
 
 /* The next of numbers that are drawn, below this one. */
@@ -287,6 +311,116 @@ static void check_parts(const struct frame *it, uint64_t *state)
         check_part(it, first, room);
         first += room;
     }
+}
+
+/* Prepares a frame's header into a list with others before and behind it, which have to stay. */
+static int64_t prepare(const struct frame *it, uint64_t *plan, size_t room)
+{
+    int64_t before = held;
+    int64_t count = tensor_prepare(it->header, it->header_length, it->values_length, plan, room);
+    if (held != before)
+        fail("a call that prepares keeps memory");
+    for (size_t place = count < 0 ? 0 : (size_t)count; place < room; place++)
+        if (plan[place] != SENTINEL)
+            fail("written behind the numbers of a plan");
+    return count;
+}
+
+/* Prepares a frame again, where memory may be refused. */
+static void check_plan(const struct frame *it)
+{
+    size_t room = it->plan_length + 1;
+    uint64_t *plan = (uint64_t *)guarded(room);
+    int64_t count = prepare(it, plan, room);
+    if (count != -15 || !was_refused) {
+        if (count != (it->result < 0 ? it->result : (int64_t)it->plan_length))
+            fail("another number of numbers in a plan");
+        if (count > 0 && memcmp(plan, it->plan, (size_t)count * sizeof *plan))
+            fail("another plan");
+    }
+    free_guarded((int64_t *)plan, room);
+}
+
+/* The plan of a frame that has been answered: its numbers in a block of just as many. */
+static void first_plan(struct frame *it)
+{
+    if (it->result >= 0 && !it->has_arrays)
+        fail("an answer to arrays whose lengths are not known");
+    size_t most = TENSOR_PLAN_ROOM(it->array_count);
+    uint64_t *plan = (uint64_t *)guarded(most);
+    int64_t count = prepare(it, plan, most);
+    if (it->result < 0 ? count != it->result : count <= 0)
+        fail("another fault of a header that is prepared");
+    if (count > 0) {
+        it->plan_length = (size_t)count;
+        it->plan = copied((const uint8_t *)plan, it->plan_length * sizeof *plan);
+    }
+    free_guarded((int64_t *)plan, most);
+    check_plan(it);
+    for (size_t room = 0; room < it->plan_length; room += 1 + room / 2) {
+        plan = (uint64_t *)guarded(room);
+        if (prepare(it, plan, room) != TENSOR_NO_ROOM)
+            fail("too little room for a plan is not told");
+        free_guarded((int64_t *)plan, room);
+    }
+}
+
+/* Runs numbers over a frame's arrays: a fault, by which nothing is written, or values within the
+   room. What is returned. */
+static int64_t run_numbers(const struct frame *it, const uint64_t *plan, size_t length, size_t room)
+{
+    int64_t *out = guarded(room), before = held;
+    int64_t result = tensor_run(plan, length, it->arrays, it->array_count, 0, out, room);
+    if (held != before)
+        fail("a call that runs numbers keeps memory");
+    if (result > (int64_t)room)
+        fail("more values than there is room for");
+    if (result < 0 && result != TENSOR_NO_PLAN && result != -7 && result != -15)
+        fail("numbers with another fault");
+    size_t written = result == -15 ? room : result < 0 ? 0 : (size_t)result;
+    for (size_t place = written; place < room; place++)
+        if (out[place] != SENTINEL)
+            fail("numbers that write behind their values");
+    free_guarded(out, room);
+    return result;
+}
+
+/* Runs the numbers of a plan of which each in turn is another, and the plan cut at each length, which
+   is none. How many were spoilt. */
+static size_t spoil_plan(const struct frame *it, uint64_t *state)
+{
+    size_t room = part_size(it, 0, SIZE_MAX) + 2, length = it->plan_length, runs = 0;
+    uint64_t *plan = copied((const uint8_t *)it->plan, length * sizeof *plan);
+    for (size_t at = 0; at < length; at += 1 + length / MOST_SPOILT) {
+        uint64_t right = plan[at];
+        uint64_t wrong[] = {right + 1, 0, right - 1, UINT64_C(1) << 63, drawn(state, 40), ~right};
+        for (size_t i = 0; i < sizeof wrong / sizeof *wrong; i++, runs++) {
+            plan[at] = wrong[i];
+            run_numbers(it, plan, length, room);
+        }
+        plan[at] = right;
+        uint64_t *part = copied((const uint8_t *)plan, at * sizeof *plan);
+        int64_t result = run_numbers(it, part, at, room);
+        if (result != TENSOR_NO_PLAN && result != -7)
+            fail("a plan that is cut short is run");
+        __real_free(part);
+    }
+    __real_free(plan);
+    return runs;
+}
+
+/* Runs a frame's plan over the arrays of all others. A plan with a number behind it is none. */
+static void mix_plans(const struct frame *it)
+{
+    for (size_t at = 0; at < frame_count; at += 1 + frame_count / MOST_MIXED)
+        if (frames[at].has_arrays)
+            run_numbers(&frames[at], it->plan, it->plan_length, SPARE);
+    uint64_t *longer = __real_malloc((it->plan_length + 1) * sizeof *longer);
+    memcpy(longer, it->plan, it->plan_length * sizeof *longer);
+    longer[it->plan_length] = 0;
+    if (run_numbers(it, longer, it->plan_length + 1, SPARE) != TENSOR_NO_PLAN)
+        fail("a plan with a number behind it is run");
+    __real_free(longer);
 }
 
 /* The first answer of a frame, whose dims were asked for before it. */
@@ -354,8 +488,7 @@ static void answer_together(const struct frame *it, uint64_t thread)
         shared = guarded(size);
     pthread_barrier_wait(&turn);
     size_t first = size * thread / thread_count, end = size * (thread + 1) / thread_count;
-    bool by_arrays = it->has_arrays && thread % 2 == 1;
-    int64_t result = answer_part(it, by_arrays, first, shared + first, end - first);
+    int64_t result = answer_part(it, way_of(it, thread), first, shared + first, end - first);
     if (result != (it->result < 0 ? it->result : (int64_t)(end - first)))
         fail("another number of values in a thread's part");
     pthread_barrier_wait(&turn);
@@ -375,8 +508,7 @@ static void answer_both(size_t at, uint64_t *state)
     if (!is_same)
         fail("another answer on another thread");
     size_t size = part_size(it, 0, SIZE_MAX);
-    check_part_by(it, it->has_arrays && at % 2 == 1, drawn(state, size + 1),
-                  (size_t)drawn(state, size + 2));
+    check_part_by(it, way_of(it, at), drawn(state, size + 1), (size_t)drawn(state, size + 2));
     calls += 2;
 }
 
@@ -457,16 +589,25 @@ static void call_whole(const struct frame *it)
         fail("another answer where memory is refused");
 }
 
-static void call_part(const struct frame *it)
+static void call_part_by(const struct frame *it, enum way way)
 {
     size_t size = part_size(it, 0, SIZE_MAX);
-    check_part_by(it, false, size / 3, size / 3 + 1);
+    check_part_by(it, way, size / 3, size / 3 + 1);
+}
+
+static void call_part(const struct frame *it)
+{
+    call_part_by(it, JOINED);
 }
 
 static void call_arrays(const struct frame *it)
 {
-    size_t size = part_size(it, 0, SIZE_MAX);
-    check_part_by(it, true, size / 3, size / 3 + 1);
+    call_part_by(it, APART);
+}
+
+static void call_run(const struct frame *it)
+{
+    call_part_by(it, PLANNED);
 }
 
 /* Refuses the first request for memory of a call, then the second, and so on. How many were. */
@@ -490,10 +631,26 @@ static void refuse_all(void)
     for (size_t at = 0; at < frame_count; at++) {
         const struct frame *it = &frames[at];
         refusals += refuse_each(it, call_whole) + refuse_each(it, call_part);
+        refusals += refuse_each(it, check_plan);
         if (it->has_arrays)
             refusals += refuse_each(it, call_arrays);
+        if (it->plan)
+            refusals += refuse_each(it, call_run);
     }
     printf("%zu requests for memory refused\n", refusals);
+}
+
+/* Spoils and mixes the plans of all frames. */
+static void spoil_plans(uint64_t *state)
+{
+    size_t runs = 0;
+    for (size_t at = 0; at < frame_count; at++)
+        if (frames[at].plan) {
+            runs += spoil_plan(&frames[at], state);
+            mix_plans(&frames[at]);
+        }
+    if (runs == 0)
+        fail("no plan was spoilt");
 }
 
 int main(int count, char **words)
@@ -505,8 +662,10 @@ int main(int count, char **words)
     uint64_t state = 1;
     for (size_t at = 0; at < frame_count; at++) {
         first_answer(&frames[at]);
+        first_plan(&frames[at]);
         check_parts(&frames[at], &state);
     }
+    spoil_plans(&state);
     if (count == 4)
         answer_on_threads(atoi(words[2]), atof(words[3]));
     else if (count == 3)

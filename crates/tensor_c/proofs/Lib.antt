@@ -1,2 +1,4 @@
 pub mod Dims
 pub mod Parts
+pub mod Plans
+pub mod Planned

@@ -1,10 +1,10 @@
 -- Parts of an answer's values.
-use Rattle.std.proofs.Common.{◌≡◌, ℕ, zero, suc, ℤ, pos, ◌+◌, ◌<◌, ◌≤◌, List, [], ◌∷◌, ◌++◌, length, take, drop}
+use Rattle.std.proofs.Common.{◌≡◌, ℕ, zero, suc, ℤ, pos, ◌+◌, ◌-◌, min, ◌≤◌, List, [], ◌∷◌, ◌++◌, length, take, drop}
 use Rattle.std.proofs.Common.{get_or, refl, ap, sym, ◌∙◌, arith, ◌⊎◌, inl, inr, Result, Ok, Err}
 use Rattle.std.proofs.Common.{append_assoc, length-append, length-take}
 use Rattle.std.proofs.Math.Seq.{take-add, take-nil, drop-append-add}
 use Rattle.std.proofs.lemmas.Bool.{cases_lt}
-use Rattle.std.proofs.lemmas.List.{append-nil, drop_all, drop-append-le, drop-drop}
+use Rattle.std.proofs.lemmas.List.{append-nil, length-drop, drop_all, drop-append-le, drop-drop}
 use Rattle.std.proofs.lemmas.List.FromFn.{length-map-range_with_len, get_or-map-range_with_len}
 use Rattle.expr_reader.specs.Contents.{Contents}
 use Rattle.expr_reader.specs.Index.{size_of}
@@ -41,10 +41,28 @@ take-length zero xs = refl
 take-length (suc k) [] = refl
 take-length (suc k) (x ∷ xs) = ap (λ l. x ∷ l) (take-length k xs)
 
--- where nothing is written the list is as it was
-pub none-begun : (part xs : List ℤ) → length part ≡ 0 → xs ≡ begun part xs
-none-begun [] xs none = refl
-none-begun (x ∷ part) xs none = absurd (omega arith)
+-- how many values a part has, and that it is those
+pub length-part : (t : Term) (inputs : List Contents) (first room : ℕ)
+    → length (part_of (values_from t inputs 0 (size_of (shape_of t inputs))) first room)
+    ≡ min (size_of (shape_of t inputs) - first) room
+length-part t inputs first room =
+    let size = size_of (shape_of t inputs) in
+    let vs = values_from t inputs 0 size in
+    omega (arith, length-take room (drop first vs), length-drop first vs, length-map-range_with_len (value_of_place t inputs) 0 size)
+
+pub part-many : (t : Term) (inputs : List Contents) (first room count : ℕ) → count ≡ min (size_of (shape_of t inputs) - first) room
+    → part_of (values_from t inputs 0 (size_of (shape_of t inputs))) first room ≡ values_from t inputs first count
+part-many t inputs first room zero many =
+    let part = part_of (values_from t inputs 0 (size_of (shape_of t inputs))) first room in
+    nothing part (length-part t inputs first room ∙ sym many)
+  where
+    nothing : (xs : List ℤ) → length xs ≡ 0 → xs ≡ []
+    nothing [] none = refl
+    nothing (x ∷ xs) none = absurd (omega arith)
+part-many t inputs first room (suc n) many =
+    let rest = drop first (values_from t inputs 0 (size_of (shape_of t inputs))) in
+    take-length room rest ∙ ap (λ m. take m rest) (length-part t inputs first room ∙ sym many)
+    ∙ part-from t inputs first (suc n) (omega (arith, many))
 
 -- a part, and the one behind it
 pub part-joined : (values : List ℤ) (first n m : ℕ)

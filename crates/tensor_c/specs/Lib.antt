@@ -1,3 +1,4 @@
 pub mod Answer
 pub mod Call
 pub mod Part
+pub mod Plan

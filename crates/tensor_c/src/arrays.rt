@@ -26,7 +26,7 @@ pub(crate) fn put_part_over(
         ≡ called_for_part (Err Fault.TooLong) first out.old }
 {
     match read_arrays(alloc, header, arrays) {
-        Ok(request) => put_part_of(alloc, &request, first, out),
+        Ok(request) => put_part_of(alloc, request, first, out),
         Err(fault) => result_of(fault),
     }
 }

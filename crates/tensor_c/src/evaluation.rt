@@ -1,8 +1,9 @@
 //! What a frame asks for, worked out on the thread that asks.
 
 ghost use Rattle.std.specs.Prelude.{◌≡◌, ◌⊎◌, ℤ, List, Ok, Err, length, false};
-ghost use Rattle.std.specs.Prelude.{MatchResult, IsErrOf};
+ghost use Rattle.std.specs.Prelude.{MatchResult, IfOk, IfErr, IsErrOf, pos, replicate};
 ghost use Rattle.expr_reader.specs.Asked.{asked_under};
+ghost use Rattle.expr_reader.specs.Frame.{request_of_frame};
 ghost use Rattle.tensor_c.specs.Answer.{answer_of_frame, answer_dims, asked_tensor};
 ghost use Rattle.tensor_c.specs.Call.{IsCall, IsTooLong, called, has_room, no_room};
 
@@ -61,15 +62,27 @@ pub(crate) fn dims_of(alloc: Global, header: &[u8], count: u64) -> Result<Dims, 
         (λ fault. (fault ≡ Fault.NoMemory) ⊎ (answer_dims header.now values ≡ Err fault)) }
     ensures too_long { IsTooLong header.now count → IsErrOf result Fault.TooLong }
 {
-    if header.len() > MAX_TEXT || count > MAX_VALUES as u64 {
-        return Err(Fault::TooLong);
-    }
-    let Ok(zeroes) = Vec::from_elem(alloc, 0i64, count as usize) else {
-        return Err(Fault::NoMemory);
-    };
+    let zeroes = zeroes_for(alloc, header, count)?;
     let request = read_frame(alloc, header, zeroes.as_slice())?;
     match request.expr.dims(&request.inputs) {
         Ok(dims) => Ok(dims),
         Err(_) => unreachable!(),
+    }
+}
+
+/// Zeroes in the place of so many values behind a header, where neither is too long.
+pub(crate) fn zeroes_for(alloc: Global, header: &[u8], count: u64) -> Result<Vec<i64>, Fault>
+    ensures zeroes { IfOk result (λ zeroes. zeroes.items ≡ replicate count (pos 0)) }
+    ensures fault { IfErr result (λ fault. (fault ≡ Fault.NoMemory)
+        ⊎ ((values : List ℤ) → length values ≡ count
+        → request_of_frame header.now values ≡ Err fault)) }
+    ensures too_long { IsTooLong header.now count → IsErrOf result Fault.TooLong }
+{
+    if header.len() > MAX_TEXT || count > MAX_VALUES as u64 {
+        return Err(Fault::TooLong);
+    }
+    match Vec::from_elem(alloc, 0i64, count as usize) {
+        Ok(zeroes) => Ok(zeroes),
+        Err(_) => Err(Fault::NoMemory),
     }
 }

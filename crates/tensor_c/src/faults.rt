@@ -4,14 +4,30 @@ ghost use Rattle.std.specs.Prelude.{◌≡◌, ◌≢◌, IfSome, IfNone};
 ghost use Rattle.expr_reader.specs.Faults.{fault_number};
 ghost use Rattle.expr_reader.specs.declared.fault.Fault.{Fault};
 ghost use Rattle.tensor_c.specs.Call.{fault_result};
+ghost use Rattle.tensor_c.specs.Plan.{refusal_result};
 
 use expr_reader::Fault;
+use prepared_expressions::Refusal;
+
+/// What is returned for numbers that are no plan.
+const NO_PLAN: i64 = -101;
 
 /// What is returned for a fault.
 pub(crate) fn result_of(fault: Fault) -> i64
     ensures { result ≡ fault_result fault }
 {
     -i64::from(fault.number())
+}
+
+/// What is returned for what is refused.
+pub(crate) fn result_of_refusal(refusal: Refusal) -> i64
+    ensures { result ≡ refusal_result refusal }
+{
+    match refusal {
+        Refusal::NoMemory => result_of(Fault::NoMemory),
+        Refusal::OtherArrays => result_of(Fault::BadTensor),
+        Refusal::NoRecord | Refusal::TooLarge | Refusal::NoDims => NO_PLAN,
+    }
 }
 
 /// The fault of a number.

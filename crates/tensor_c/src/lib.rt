@@ -8,24 +8,30 @@ mod evaluation;
 mod faults;
 mod laws;
 mod part;
+mod plan;
 mod room;
 
-ghost use Rattle.std.specs.Prelude.{◌≡◌, ◌≢◌, ℤ, pos, List, length, Err};
+ghost use Rattle.std.specs.Prelude.{◌≡◌, ◌≢◌, ◌≤ℤ◌, ℤ, pos, List, length, Ok, Err};
 ghost use Rattle.expr_reader.specs.Arrays.{arrays_under, joined};
 ghost use Rattle.expr_reader.specs.Faults.{fault_number, fault_name};
+ghost use Rattle.expr_reader.specs.Request.{Asked};
 ghost use Rattle.expr_reader.specs.declared.fault.Fault.{Fault};
+ghost use Rattle.prepared_expressions.specs.Prepared.{Prepared, record_of};
 ghost use Rattle.tensor_c.specs.Answer.{answer_of_arrays, answer_of_frame, answer_dims};
 ghost use Rattle.tensor_c.specs.Call.{IsCall, IsDimsCall, IsTooLong};
 ghost use Rattle.tensor_c.specs.Call.{called, called_for_dims, called_for_name};
 ghost use Rattle.tensor_c.specs.Part.{IsPartCall, called_for_part};
+ghost use Rattle.tensor_c.specs.Plan.{asked_over, plan_over, prepared_of, called_for_plan};
+ghost use Rattle.tensor_c.specs.Plan.{IsPlan, IsPlanCall, answer_of_plan, IsRefused};
 
 use crate::arrays::put_part_over;
 use crate::evaluation::{dims_of, put_answer};
 use crate::faults::{fault_of, result_of};
 use crate::part::put_part;
+use crate::plan::{put_plan, put_planned};
 use crate::room::{put_dims, put_text};
 use expr_reader::Array;
-pub use laws::{calls_for_parts_are_one, parts_make_the_whole};
+pub use laws::{calls_for_parts_are_one, parts_make_the_whole, plans_answer_for_headers};
 use std::alloc::Global;
 
 /// Writes the tensor of a frame, its values into `out`, its rank and then its dims into `dims`, and
@@ -103,6 +109,41 @@ pub extern "C" fn tensor_dims(alloc: Global, header: &[u8], count: u64, dims: &m
         Ok(found) => put_dims(&found, dims),
         Err(fault) => result_of(fault),
     }
+}
+
+/// Writes the plan of a header over so many values, whatever they are: numbers that [`tensor_run`]
+/// answers with, over any arrays of the header's dims. Returns how many numbers there are. Faults
+/// and too little room are answered as by [`tensor_evaluate`].
+#[unsafe(no_mangle)]
+pub extern "C" fn tensor_prepare(alloc: Global, header: &[u8], count: u64, plan: &mut [u64]) -> i64
+    ensures call { IsPlanCall (plan_over header.now count) plan.old
+        (record { result = result; plan = plan.new }) }
+    ensures ready { (a : Asked) → asked_over header.now count ≡ Ok a → pos 0 ≤ℤ result
+        → IsPlan (prepared_of a) }
+    ensures too_long { IsTooLong header.now count → record { result = result; plan = plan.new }
+        ≡ called_for_plan (Err Fault.TooLong) plan.old }
+{
+    put_plan(alloc, header, count, plan)
+}
+
+/// Does as [`tensor_evaluate_arrays`] with a plan in the place of the header, which was read once.
+/// Numbers that are no plan are -101, or the fault of arrays that don't fit, and nothing is written.
+#[unsafe(no_mangle)]
+pub extern "C" fn tensor_run(
+    alloc: Global,
+    plan: &[u64],
+    arrays: &[Array<'_>],
+    first: u64,
+    out: &mut [i64],
+) -> i64
+    ensures call { (p : Prepared) → IsPlan p → plan.now ≡ record_of p
+        → IsPartCall (answer_of_plan p (arrays_under arrays.now)) first out.old
+        (record { result = result; out = out.new }) }
+    ensures no_plan { ((p : Prepared) → plan.now ≢ record_of p)
+        → IsRefused out.old (record { result = result; out = out.new }) }
+    ensures len { length out.new ≡ length out.old }
+{
+    put_planned(alloc, plan, arrays, first, out)
 }
 
 /// Writes the name of the fault of a number, with a 0 behind it as C ends a text, and returns how

@@ -1,17 +1,19 @@
-//! A part of a frame's answer, written where the caller wants it.
+//! A part of an answer, written where the caller wants it.
 
-ghost use Rattle.std.specs.Prelude.{◌≡◌, ◌<◌, ◌≤◌, ◌+◌, ℤ, List, length, IfOk, Ok, Err};
+ghost use Rattle.std.specs.Prelude.{◌≡◌, length, IsTrue, IsOk, Ok, Err};
 ghost use Rattle.expr_reader.specs.Asked.{asked_under};
+ghost use Rattle.expr_reader.specs.Result.{dims_of};
+ghost use Rattle.expr_reader.specs.Term.{has_inputs};
 ghost use Rattle.expr_reader.specs.Tree.{term_of};
 ghost use Rattle.expr_reader.specs.Value.{tensor_of};
 ghost use Rattle.tensor_c.specs.Answer.{answer_of_frame, asked_tensor};
 ghost use Rattle.tensor_c.specs.Call.{IsTooLong};
-ghost use Rattle.tensor_c.specs.Part.{part_of, called_for_part, IsPartIn, IsPartCall};
+ghost use Rattle.tensor_c.specs.Part.{called_for_part, IsPartCall};
 
-use crate::faults::result_of;
+use crate::faults::{result_of, result_of_refusal};
 use expr_reader::{Fault, Request, read_frame};
-use std::alloc::{AllocError, Global};
-use tensor_ops::TensorEvaluator;
+use prepared_expressions::{Filled, fill_from};
+use std::alloc::Global;
 
 /// Writes the values of the tensor of a frame from a place on, as many as there are and as there is
 /// room for, and answers how many, or a fault's number, negated. Want of memory leaves anything in
@@ -30,49 +32,34 @@ pub(crate) fn put_part(
         ≡ called_for_part (Err Fault.TooLong) first out.old }
 {
     match read_frame(alloc, header, values) {
-        Ok(request) => put_part_of(alloc, &request, first, out),
+        Ok(request) => put_part_of(alloc, request, first, out),
         Err(fault) => result_of(fault),
     }
 }
 
 /// Writes the same of what a request asks for.
-pub(crate) fn put_part_of(alloc: Global, request: &Request<'_>, first: u64, out: &mut [i64]) -> i64
-    ensures { IsPartCall (Ok (asked_tensor (asked_under request.now))) first out.old
+pub(crate) fn put_part_of(alloc: Global, request: Request<'_>, first: u64, out: &mut [i64]) -> i64
+    ensures { IsPartCall (Ok (asked_tensor (asked_under request.entry))) first out.old
         (record { result = result; out = out.new }) }
 {
-    match fill_from(alloc, request, first, out) {
-        Ok(count) => count as i64,
-        Err(_) => result_of(Fault::NoMemory),
-    }
+    let filled = Filled {
+        inputs: request.inputs,
+        expr: request.expr,
+    };
+    put_filled(alloc, &filled, first, out)
 }
 
-/// Writes the values of a request's tensor from a place on, and answers how many.
-fn fill_from(
-    alloc: Global,
-    request: &Request<'_>,
-    first: u64,
-    out: &mut [i64],
-) -> Result<usize, AllocError>
+/// Writes the same of an expression over its inputs.
+pub(crate) fn put_filled(alloc: Global, filled: &Filled<'_>, first: u64, out: &mut [i64]) -> i64
+    requires { IsTrue (has_inputs (term_of filled.now.expr) (length filled.now.inputs.tensors)) }
+    ensures call { IsOk (dims_of filled.now.inputs.rank (term_of filled.now.expr)
+        filled.now.inputs.tensors)
+        → IsPartCall (Ok (tensor_of (term_of filled.now.expr) filled.now.inputs.tensors)) first
+        out.old (record { result = result; out = out.new }) }
     ensures len { length out.new ≡ length out.old }
-    ensures part { IfOk result (λ count. IsPartIn
-        (tensor_of (term_of request.now.expr) request.now.inputs.tensors).values first out.old
-        count out.new) }
 {
-    let evaluator = TensorEvaluator::of(alloc, &request.expr, &request.inputs)?;
-    let count = count_from(evaluator.dims().size(), first, out.len());
-    if count == 0 {
-        return Ok(0);
+    match fill_from(alloc, filled, first, out) {
+        Ok(count) => count as i64,
+        Err(refusal) => result_of_refusal(refusal),
     }
-    evaluator.fill(first, &mut out[..count])?;
-    Ok(count)
-}
-
-/// How many of so many values stand from a place on, where there is room for so many.
-fn count_from(size: u64, first: u64, room: usize) -> usize
-    ensures part { (values : List ℤ) → length values ≡ size
-        → result ≡ length (part_of values first room) }
-    ensures room { result ≤ room }
-    ensures inside { 0 < result → first + result ≤ size }
-{
-    size.saturating_sub(first).min(room as u64) as usize
 }

@@ -1,0 +1,221 @@
+-- Arrays dealt to inputs, one after another.
+use Rattle.std.proofs.Common.{◌≡◌, ◌<◌, ◌≤◌, ◌≢◌, ◌&&◌, ◌==◌, ℕ, zero, suc, ℤ, Bool, true, false, List, [], ◌∷◌, ◌++◌, length, take, drop, nat_le}
+use Rattle.std.proofs.Common.{Result, Ok, Err, if◌then◌else◌, refl, ap, sym, ◌∙◌, subst, arith, append_assoc}
+use Rattle.std.proofs.lemmas.Bool.{and_parts, and_from, le-leb, leb-true}
+use Rattle.std.proofs.lemmas.List.{take-append-drop, length-append, length-take}
+use Rattle.std.proofs.Math.Seq.{take-append_seam, drop-append_seam}
+use Rattle.tensor_shape.specs.Index.{size_of}
+use Rattle.tensor_shape.specs.Legal.{are_legal, bulk_of, most_elements}
+use Rattle.tensor_terms.specs.Contents.{Contents, HaveRank, input_of}
+use Rattle.prepared_expressions.specs.Dealing.{Dealing, One, one_from, after, next_from, all_from}
+use Rattle.prepared_expressions.specs.Prepared.{recorded_dims, all_legal, dims_of_all, values_of_all, before, dealt, Prepared, IsPrepared, record_of}
+use Rattle.tensor_terms.specs.Term.{Term}
+use Rattle.prepared_expressions.specs.Recorded.{recorded}
+use Rattle.expr_reader.specs.Arrays.{arrays_under}
+use Rattle.expr_reader.specs.declared.array.Array.{Array}
+use Rattle.prepared_expressions.specs.declared.refusal.Refusal.{Refusal}
+use Rattle.prepared_expressions.specs.declared.refusal.Refusal.TheVariants.{NoRecord, OtherArrays}
+
+pub after-nothing : (r : Result Dealing Refusal) → after [] r ≡ r
+after-nothing (Ok d) = refl
+after-nothing (Err f) = refl
+
+pub after-after : (xs ys : List Contents) (r : Result Dealing Refusal) → after xs (after ys r) ≡ after (xs ++ ys) r
+after-after xs ys (Ok d) = simp append_assoc
+after-after xs ys (Err f) = refl
+
+-- what was read of a tensor's dims is recorded, and is legal
+pub record IsOne (rank : ℕ) (vs : List ℤ) (ns : List ℕ) (one : One) : Type 0 where
+  pub numbers : ns ≡ length one.tensor.dims ∷ one.tensor.dims ++ one.rest
+  pub values : one.tensor.values ≡ vs
+  pub legal : are_legal rank one.tensor.dims ≡ true
+
+one_from-back : (rank : ℕ) (vs : List ℤ) (ns : List ℕ) (one : One) → one_from rank vs ns ≡ Ok one → IsOne rank vs ns one
+one_from-back rank vs [] one is = absurd (cc)
+one_from-back rank vs (n ∷ ns) one is =
+    by_test (nat_le n (length ns) && are_legal rank (take n ns)) (length vs == size_of (take n ns)) refl is
+  where
+    by_test : (b c : Bool) → (nat_le n (length ns) && are_legal rank (take n ns)) ≡ b
+        → (if b then (if c
+        then Ok (record { tensor = record { dims = take n ns; values = vs }; rest = drop n ns }) else Err OtherArrays) else Err NoRecord) ≡ Ok one
+        → IsOne rank vs (n ∷ ns) one
+    by_test false c test is = absurd (cc)
+    by_test true false test is = absurd (cc)
+    by_test true true test is =
+        let both = and_parts (nat_le n (length ns)) (are_legal rank (take n ns)) test in
+        let few : n ≤ length ns = leb-true n (length ns) both.0 in
+        let long : length (take n ns) ≡ n = omega (arith, length-take n ns) in
+        let made : One = record { tensor = record { dims = take n ns; values = vs }; rest = drop n ns } in
+        let same : made ≡ one = cc in
+        subst (IsOne rank vs (n ∷ ns)) same
+        (record { numbers = rw (long, take-append-drop n ns) refl; values = refl; legal = both.1 })
+
+-- the same of all tensors
+pub record IsAll (rank : ℕ) (arrays : List (List ℤ)) (ns : List ℕ) (d : Dealing) : Type 0 where
+  pub numbers : ns ≡ recorded_dims (dims_of_all d.tensors) d.rest
+  pub values : values_of_all d.tensors ≡ arrays
+  pub legal : all_legal rank (dims_of_all d.tensors) ≡ true
+
+pub all_from-back : (rank : ℕ) (arrays : List (List ℤ)) (ns : List ℕ) (d : Dealing) → all_from rank arrays ns ≡ Ok d → IsAll rank arrays ns d
+all_from-back rank [] ns d is =
+    let made : Dealing = record { tensors = []; rest = ns } in
+    let same : made ≡ d = cc in subst (IsAll rank [] ns) same (record { numbers = refl; values = refl; legal = refl })
+all_from-back rank (vs ∷ arrays) ns d is = by_one (λ ms e found. all_from-back rank arrays ms e found) (one_from rank vs ns) refl is
+  where
+    by_rest : ((ms : List ℕ) (e : Dealing) → all_from rank arrays ms ≡ Ok e → IsAll rank arrays ms e)
+        → (one : One) → IsOne rank vs ns one → (r : Result Dealing Refusal) → all_from rank arrays one.rest ≡ r
+        → after (one.tensor ∷ []) r ≡ Ok d → IsAll rank (vs ∷ arrays) ns d
+    by_rest back one first (Err f) others is = absurd (cc)
+    by_rest back one first (Ok e) others is =
+        let more = back one.rest e others in
+        let made : Dealing = record { tensors = one.tensor ∷ e.tensors; rest = e.rest } in
+        let same : made ≡ d = cc in
+        subst (IsAll rank (vs ∷ arrays) ns) same
+        (record {
+          numbers = first.numbers ∙ ap (λ l. (length one.tensor.dims ∷ one.tensor.dims) ++ l) more.numbers;
+          values = ap (λ v. v ∷ values_of_all e.tensors) first.values ∙ ap (λ l. vs ∷ l) more.values;
+          legal = and_from (are_legal rank one.tensor.dims) (all_legal rank (dims_of_all e.tensors)) first.legal more.legal;
+        })
+
+    by_one : ((ms : List ℕ) (e : Dealing) → all_from rank arrays ms ≡ Ok e → IsAll rank arrays ms e)
+        → (r : Result One Refusal) → one_from rank vs ns ≡ r → next_from (all_from rank arrays) r ≡ Ok d → IsAll rank (vs ∷ arrays) ns d
+    by_one back (Err f) first is = absurd (cc)
+    by_one back (Ok one) first is = by_rest back one (one_from-back rank vs ns one first) (all_from rank arrays one.rest) refl is
+
+-- what is recorded is read again
+one_from-recorded : (rank : ℕ) (vs : List ℤ) (d rest : List ℕ) → are_legal rank d ≡ true
+    → one_from rank vs (length d ∷ d ++ rest)
+    ≡ (if length vs == size_of d then Ok (record { tensor = record { dims = d; values = vs }; rest = rest }) else Err OtherArrays)
+one_from-recorded rank vs d rest legal =
+    let within : nat_le (length d) (length (d ++ rest)) ≡ true = le-leb (length d) (length (d ++ rest)) (omega (arith, length-append d rest)) in
+    rw (within, take-append_seam d rest, drop-append_seam d rest, legal) refl
+
+-- tensors that were dealt, and the numbers behind their dims
+abbrev pub told : List ℕ → Result (List Contents) Refusal → Result Dealing Refusal
+told rest (Ok ts) = Ok (record { tensors = ts; rest = rest })
+told rest (Err f) = Err f
+
+pub all_from-recorded : (rank : ℕ) (arrays : List (List ℤ)) (ds : List (List ℕ)) (rest : List ℕ)
+    → length ds ≡ length arrays → all_legal rank ds ≡ true
+    → all_from rank arrays (recorded_dims ds rest) ≡ told rest (dealt ds arrays)
+all_from-recorded rank [] [] rest same legal = refl
+all_from-recorded rank [] (d ∷ ds) rest same legal = absurd (omega arith)
+all_from-recorded rank (vs ∷ arrays) [] rest same legal = absurd (omega arith)
+all_from-recorded rank (vs ∷ arrays) (d ∷ ds) rest same legal =
+    let parts = and_parts (are_legal rank d) (all_legal rank ds) legal in
+    ap (next_from (all_from rank arrays)) (one_from-recorded rank vs d (recorded_dims ds rest) parts.0)
+    ∙ by_size (length vs == size_of d) (by_dealt (dealt ds arrays) (all_from-recorded rank arrays ds rest (omega arith) parts.1))
+  where
+    by_dealt : (r : Result (List Contents) Refusal) → all_from rank arrays (recorded_dims ds rest) ≡ told rest r
+        → after (record { dims = d; values = vs } ∷ []) (all_from rank arrays (recorded_dims ds rest)) ≡ told rest (before (record { dims = d; values = vs }) r)
+    by_dealt (Ok ts) is = rw is refl
+    by_dealt (Err f) is = rw is refl
+
+    by_size : (b : Bool)
+        → after (record { dims = d; values = vs } ∷ []) (all_from rank arrays (recorded_dims ds rest)) ≡ told rest (before (record { dims = d; values = vs }) (dealt ds arrays))
+        → next_from (all_from rank arrays) (if b then Ok (record { tensor = record { dims = d; values = vs }; rest = recorded_dims ds rest }) else Err OtherArrays)
+        ≡ told rest (if b then before (record { dims = d; values = vs }) (dealt ds arrays) else Err OtherArrays)
+    by_size true more = more
+    by_size false more = refl
+
+-- arrays that are too few or too many are dealt to nobody
+pub dealt-other : (ds : List (List ℕ)) (arrays : List (List ℤ)) → length ds ≢ length arrays → dealt ds arrays ≡ Err OtherArrays
+dealt-other [] [] other = absurd (other refl)
+dealt-other [] (vs ∷ arrays) other = refl
+dealt-other (d ∷ ds) [] other = refl
+dealt-other (d ∷ ds) (vs ∷ arrays) other =
+    let rest = dealt-other ds arrays (λ same. other (omega arith)) in by_size (length vs == size_of d) rest
+  where
+    by_size : (b : Bool) → dealt ds arrays ≡ Err OtherArrays
+        → (if b then before (record { dims = d; values = vs }) (dealt ds arrays) else Err OtherArrays) ≡ Err OtherArrays
+    by_size true rest = rw rest refl
+    by_size false rest = refl
+
+-- legal dims have no higher rank
+pub all_legal-rank : (rank : ℕ) (ts : List Contents) → all_legal rank (dims_of_all ts) ≡ true → HaveRank rank ts
+all_legal-rank rank [] legal n within = absurd (omega arith)
+all_legal-rank rank (t ∷ ts) legal zero within =
+    let parts = and_parts (are_legal rank t.dims) (all_legal rank (dims_of_all ts)) legal in
+    let both = and_parts (nat_le (length t.dims) rank) (nat_le (bulk_of t.dims) most_elements) parts.0 in
+    leb-true (length t.dims) rank both.0
+all_legal-rank rank (t ∷ ts) legal (suc n) within =
+    let parts = and_parts (are_legal rank t.dims) (all_legal rank (dims_of_all ts)) legal in
+    all_legal-rank rank ts parts.1 n (omega arith)
+
+pub length-dims_of_all : (ts : List Contents) → length (dims_of_all ts) ≡ length ts
+length-dims_of_all [] = refl
+length-dims_of_all (t ∷ ts) = ap suc (length-dims_of_all ts)
+
+pub length-values_of_all : (ts : List Contents) → length (values_of_all ts) ≡ length ts
+length-values_of_all [] = refl
+length-values_of_all (t ∷ ts) = ap suc (length-values_of_all ts)
+
+pub length-arrays_under : (arrays : List Array) → length (arrays_under arrays) ≡ length arrays
+length-arrays_under [] = refl
+length-arrays_under (a ∷ arrays) = ap suc (length-arrays_under arrays)
+
+-- the dims of one tensor more
+pub recorded_dims-take : (ts : List Contents) (i : ℕ) (rest : List ℕ) → i < length ts
+    → recorded_dims (dims_of_all (take i ts)) (length (input_of ts i).dims ∷ (input_of ts i).dims ++ rest)
+    ≡ recorded_dims (dims_of_all (take (suc i) ts)) rest
+recorded_dims-take [] i rest within = absurd (omega arith)
+recorded_dims-take (t ∷ ts) zero rest within = refl
+recorded_dims-take (t ∷ ts) (suc i) rest within =
+    ap (λ l. length t.dims ∷ t.dims ++ l) (recorded_dims-take ts i rest (omega arith))
+
+pub all_legal-take : (rank : ℕ) (ts : List Contents) (i : ℕ) → i < length ts → all_legal rank (dims_of_all (take i ts)) ≡ true
+    → are_legal rank (input_of ts i).dims ≡ true → all_legal rank (dims_of_all (take (suc i) ts)) ≡ true
+all_legal-take rank [] i within before here = absurd (omega arith)
+all_legal-take rank (t ∷ ts) zero within before here = and_from (are_legal rank t.dims) true here refl
+all_legal-take rank (t ∷ ts) (suc i) within before here =
+    let parts = and_parts (are_legal rank t.dims) (all_legal rank (dims_of_all (take i ts))) before in
+    and_from (are_legal rank t.dims) (all_legal rank (dims_of_all (take (suc i) ts))) parts.0
+    (all_legal-take rank ts i (omega arith) parts.1 here)
+
+pub are_legal-from : (rank : ℕ) (d : List ℕ) → length d ≤ rank → bulk_of d ≤ most_elements → are_legal rank d ≡ true
+are_legal-from rank d low few =
+    and_from (nat_le (length d) rank) (nat_le (bulk_of d) most_elements) (le-leb (length d) rank low) (le-leb (bulk_of d) most_elements few)
+
+-- what was told of tensors that were dealt, or were not
+pub told-ok : (rest : List ℕ) (r : Result (List Contents) Refusal) (d : Dealing) → told rest r ≡ Ok d → (r ≡ Ok d.tensors) × (d.rest ≡ rest)
+told-ok rest (Err f) d is = absurd (cc)
+told-ok rest (Ok ts) d is =
+    let made : Dealing = record { tensors = ts; rest = rest } in
+    let same : made ≡ d = cc in (ap (λ e. Ok e.tensors) same, sym (ap (λ e. e.rest) same))
+
+pub told-err : (rest : List ℕ) (r : Result (List Contents) Refusal) (f : Refusal) → told rest r ≡ Err f → r ≡ Err f
+told-err rest (Err g) f is = let same : g ≡ f = cc in ap Err same
+told-err rest (Ok ts) f is = absurd (cc)
+
+-- a list was put behind others
+pub written-list : (new old list rest : List ℕ) → new ++ rest ≡ (old ++ list) ++ rest → new ++ rest ≡ old ++ (list ++ rest)
+written-list new old list rest is = rw append_assoc at is
+
+-- what the beginning of a record says
+pub record Begun (q : Prepared) (arrays : List (List ℤ)) (r n : ℕ) (rest : List ℕ) : Type 0 where
+  pub rank : r ≡ q.rank
+  pub count : n ≡ length q.dims
+  pub dealing : n ≡ length arrays → all_from r arrays rest ≡ told (recorded q.term []) (dealt q.dims arrays)
+
+pub begun : (q : Prepared) → IsPrepared q → (arrays : List (List ℤ)) (numbers rest : List ℕ) (r n : ℕ)
+    → numbers ≡ 1 ∷ r ∷ n ∷ rest → numbers ≡ record_of q → Begun q arrays r n rest
+begun q ok arrays numbers rest r n here is =
+    let both : 1 ∷ r ∷ n ∷ rest ≡ record_of q = sym here ∙ is in
+    let rank : r ≡ q.rank = cc in
+    let count : n ≡ length q.dims = cc in
+    let behind : rest ≡ recorded_dims q.dims (recorded q.term []) = cc in
+    record {
+      rank = rank;
+      count = count;
+      dealing = λ same. ap (λ s. all_from s arrays rest) rank ∙ ap (all_from q.rank arrays) behind
+          ∙ all_from-recorded q.rank arrays q.dims (recorded q.term []) (sym count ∙ same) ok.legal;
+    }
+
+-- the numbers of a record, from what was read of them
+pub filled-written : (numbers rest behind left : List ℕ) (r n rank : ℕ) (ts us : List Contents) (t : Term)
+    → numbers ≡ 1 ∷ r ∷ n ∷ rest → rest ≡ recorded_dims (dims_of_all ts) behind → behind ≡ recorded t left → left ≡ []
+    → n ≡ length ts → rank ≡ r → us ≡ ts
+    → numbers ≡ 1 ∷ rank ∷ length (dims_of_all us) ∷ recorded_dims (dims_of_all us) (recorded t [])
+filled-written numbers rest behind left r n rank ts us t here dims tree end count same all =
+    rw (all, same, length-dims_of_all ts, ← count)
+    (here ∙ ap (λ l. 1 ∷ r ∷ n ∷ l) (dims ∙ ap (recorded_dims (dims_of_all ts)) (tree ∙ ap (recorded t) end)))

@@ -1,0 +1,5 @@
+pub mod Dealing
+pub mod Lists
+pub mod Made
+pub mod Numbers
+pub mod Trees

@@ -1,0 +1,4 @@
+use Rattle.prepared_expressions.proofs.written.+write_tree.Given as goal
+
+abbrev pub decreases-write_tree : goal.decreases-write_tree
+decreases-write_tree l = l.height

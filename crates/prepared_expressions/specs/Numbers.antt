@@ -1,0 +1,78 @@
+-- The number of each operation, and how it stands with its arguments.
+use Rattle.std.specs.Prelude.{ℕ, List, ◌∷◌, ◌++◌, length}
+use Rattle.tensor_values.specs.declared.operations.UnaryScalar.{UnaryScalar}
+use Rattle.tensor_values.specs.declared.operations.UnaryScalar.TheVariants as one
+use Rattle.tensor_values.specs.declared.operations.BinaryScalar.{BinaryScalar}
+use Rattle.tensor_values.specs.declared.operations.BinaryScalar.TheVariants as two
+use Rattle.tensor_values.specs.declared.reducer.Reducer.{Reducer}
+use Rattle.tensor_values.specs.declared.reducer.Reducer.TheVariants.{Sum, Prod, Max, Min, All, Any}
+use Rattle.prepared_expressions.specs.declared.kind.UnaryKind.{UnaryKind}
+use Rattle.prepared_expressions.specs.declared.kind.UnaryKind.TheVariants.{Each, Constant}
+use Rattle.prepared_expressions.specs.declared.kind.UnaryKind.TheVariants.{Broadcast, Slice}
+use Rattle.prepared_expressions.specs.declared.kind.UnaryKind.TheVariants.{Shuffle}
+use Rattle.prepared_expressions.specs.declared.kind.UnaryKind.TheVariants.{Reshape, Chip, Reverse}
+use Rattle.prepared_expressions.specs.declared.kind.UnaryKind.TheVariants.{Stride, Pad, Reduce}
+use Rattle.prepared_expressions.specs.declared.kind.BinaryKind.{BinaryKind}
+use Rattle.prepared_expressions.specs.declared.kind.BinaryKind.TheVariants.{Pairwise, Concat}
+use Rattle.prepared_expressions.specs.declared.kind.BinaryKind.TheVariants.{Contract, Convolve}
+use Rattle.prepared_expressions.specs.declared.kind.Kind.{Kind}
+use Rattle.prepared_expressions.specs.declared.kind.Kind.TheVariants.{Input, One, Two, Select}
+
+abbrev pub each_number : UnaryScalar → ℕ
+each_number one.Neg = 1
+each_number one.Abs = 2
+each_number one.Square = 3
+each_number one.Not = 4
+
+abbrev pub pairwise_number : BinaryScalar → ℕ
+pairwise_number two.Add = 5
+pairwise_number two.Sub = 6
+pairwise_number two.Mul = 7
+pairwise_number two.CwiseMax = 8
+pairwise_number two.CwiseMin = 9
+pairwise_number two.Lt = 10
+pairwise_number two.Le = 11
+pairwise_number two.Eq = 12
+pairwise_number two.Ne = 13
+pairwise_number two.Gt = 14
+pairwise_number two.Ge = 15
+pairwise_number two.And = 16
+pairwise_number two.Or = 17
+
+abbrev pub reducer_number : Reducer → ℕ
+reducer_number Sum = 29
+reducer_number Prod = 30
+reducer_number Max = 31
+reducer_number Min = 32
+reducer_number All = 33
+reducer_number Any = 34
+
+abbrev pub unary_number : UnaryKind → ℕ
+unary_number (Each o) = each_number o
+unary_number Constant = 19
+unary_number Broadcast = 20
+unary_number Slice = 21
+unary_number Shuffle = 22
+unary_number Reshape = 23
+unary_number Chip = 24
+unary_number Reverse = 25
+unary_number Stride = 26
+unary_number Pad = 27
+unary_number (Reduce r) = reducer_number r
+
+abbrev pub binary_number : BinaryKind → ℕ
+binary_number (Pairwise o) = pairwise_number o
+binary_number Concat = 28
+binary_number Contract = 35
+binary_number Convolve = 36
+
+abbrev pub number_of : Kind → ℕ
+number_of Input = 0
+number_of (One o) = unary_number o
+number_of (Two o) = binary_number o
+number_of Select = 18
+
+-- an operation of a number and its arguments: the number, how many they are, and then they, before
+-- what stands behind
+abbrev pub headed : ℕ → List ℕ → List ℕ → List ℕ
+headed number arguments rest = number ∷ length arguments ∷ arguments ++ rest

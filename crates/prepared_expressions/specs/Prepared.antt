@@ -1,0 +1,74 @@
+-- A prepared expression, its record, and the arrays that are dealt to its inputs.
+use Rattle.std.specs.Prelude.{◌≡◌, ◌⊎◌, ◌<◌, ◌≤◌, ◌^◌, ◌&&◌, ◌==◌, ℕ, ℤ, Bool, true, List, []}
+use Rattle.std.specs.Prelude.{◌∷◌, ◌++◌, length}
+use Rattle.std.specs.Prelude.{IsTrue, Result, Ok, Err, if◌then◌else◌}
+use Rattle.tensor_shape.specs.Index.{size_of}
+use Rattle.tensor_shape.specs.Legal.{are_legal}
+use Rattle.tensor_terms.specs.Contents.{Contents, Given}
+use Rattle.tensor_terms.specs.Term.{Term, has_inputs}
+use Rattle.prepared_expressions.specs.Recorded.{recorded, height_of, HasRanges}
+use Rattle.prepared_expressions.specs.declared.refusal.Refusal.{Refusal}
+use Rattle.prepared_expressions.specs.declared.refusal.Refusal.TheVariants.{OtherArrays}
+
+-- a term, the dims of its inputs, and the highest rank of a result
+pub record Prepared : Type 0 where
+  pub rank : ℕ
+  pub dims : List (List ℕ)
+  pub term : Term
+
+-- the number that says how what stands behind it is written
+abbrev pub form : ℕ
+form = 1
+
+-- dims, each with their rank before them
+abbrev pub recorded_dims : List (List ℕ) → List ℕ → List ℕ
+recorded_dims [] rest = rest
+recorded_dims (d ∷ ds) rest = length d ∷ d ++ recorded_dims ds rest
+
+-- the record: all its numbers
+abbrev pub record_of : Prepared → List ℕ
+record_of p = form ∷ p.rank ∷ length p.dims ∷ recorded_dims p.dims (recorded p.term [])
+
+-- the most nodes one below the other
+abbrev pub greatest_height : ℕ
+greatest_height = 127
+
+abbrev pub all_legal : ℕ → List (List ℕ) → Bool
+all_legal rank [] = true
+all_legal rank (d ∷ ds) = are_legal rank d && all_legal rank ds
+
+-- what may be prepared
+pub record IsPrepared (p : Prepared) : Type 0 where
+  pub rank : (p.rank ≡ 6) ⊎ (p.rank ≡ 8)
+  pub few : length p.dims < 2 ^ 32
+  pub legal : IsTrue (all_legal p.rank p.dims)
+  pub inputs : IsTrue (has_inputs p.term (length p.dims))
+  pub ranges : HasRanges p.term
+  pub height : height_of p.term ≤ greatest_height
+
+-- the dims of tensors, and their values
+abbrev pub dims_of_all : List Contents → List (List ℕ)
+dims_of_all [] = []
+dims_of_all (t ∷ ts) = t.dims ∷ dims_of_all ts
+
+abbrev pub values_of_all : List Contents → List (List ℤ)
+values_of_all [] = []
+values_of_all (t ∷ ts) = t.values ∷ values_of_all ts
+
+-- what is prepared of a term over inputs
+abbrev pub prepared : Given → Term → Prepared
+prepared inputs t = record { rank = inputs.rank; dims = dims_of_all inputs.tensors; term = t }
+
+-- one tensor more before those that were dealt
+abbrev pub before : Contents → Result (List Contents) Refusal → Result (List Contents) Refusal
+before t (Ok ts) = Ok (t ∷ ts)
+before t (Err f) = Err f
+
+-- an array a dims, as long as these say
+abbrev pub dealt : List (List ℕ) → List (List ℤ) → Result (List Contents) Refusal
+dealt [] [] = Ok []
+dealt [] (vs ∷ arrays) = Err OtherArrays
+dealt (d ∷ ds) [] = Err OtherArrays
+dealt (d ∷ ds) (vs ∷ arrays) =
+    if length vs == size_of d then before (record { dims = d; values = vs }) (dealt ds arrays)
+    else Err OtherArrays

@@ -1,0 +1,84 @@
+//! The inputs of a record, over arrays.
+
+ghost use Rattle.std.specs.Prelude.{◌≡◌, ◌⊎◌, ◌≤◌, Ok, Err, IfOk, MatchResult, length};
+ghost use Rattle.expr_reader.specs.Arrays.{arrays_under};
+ghost use Rattle.tensor_shape.specs.Legal.{highest_rank};
+ghost use Rattle.tensor_terms.specs.Contents.{HaveRank};
+ghost use Rattle.prepared_expressions.specs.Dealing.{all_from, one_from};
+
+use crate::refusal::Refusal;
+use expr_reader::Array;
+use std::alloc::Global;
+use tensor_shape::Dims;
+use tensor_terms::Tensor;
+
+/// Tensors, and the numbers behind those that say their dims.
+#[derive(Drop)]
+pub(crate) struct Dealt<'n, 'a> {
+    pub(crate) tensors: Vec<Tensor<'a>>,
+    pub(crate) rest: &'n [u64],
+}
+
+/// A tensor, and the numbers behind those that say its dims.
+#[derive(Drop)]
+pub(crate) struct DealtOne<'n, 'a> {
+    pub(crate) tensor: Tensor<'a>,
+    pub(crate) rest: &'n [u64],
+}
+
+/// The tensor of each array. Their dims stand first among the numbers.
+pub(crate) fn read_tensors<'n, 'a>(
+    alloc: Global,
+    rank: usize,
+    numbers: &'n [u64],
+    arrays: &[Array<'a>],
+) -> Result<Dealt<'n, 'a>, Refusal>
+    requires { rank ≤ highest_rank }
+    ensures tensors { MatchResult result
+        (λ d. all_from rank (arrays_under arrays.now) numbers.now
+        ≡ Ok (record { tensors = d.tensors.items; rest = d.rest.now }))
+        (λ f. (f ≡ Refusal.NoMemory)
+        ⊎ (all_from rank (arrays_under arrays.now) numbers.now ≡ Err f)) }
+{
+    let mut tensors = Vec::with_capacity(alloc, arrays.len())?;
+    let mut rest = numbers;
+    for array in arrays {
+        let one = read_tensor(rank, rest, array.values)?;
+        rest = one.rest;
+        let Ok(()) = tensors.push(one.tensor) else {
+            return Err(Refusal::NoMemory);
+        };
+    }
+    Ok(Dealt { tensors, rest })
+}
+
+/// The tensor of these values. Its dims stand first among the numbers.
+fn read_tensor<'n, 'a>(
+    rank: usize,
+    numbers: &'n [u64],
+    values: &'a [i64],
+) -> Result<DealtOne<'n, 'a>, Refusal>
+    requires { rank ≤ highest_rank }
+    ensures { MatchResult result
+        (λ one. one_from rank values.now numbers.now
+        ≡ Ok (record { tensor = one.tensor; rest = one.rest.now }))
+        (λ f. one_from rank values.now numbers.now ≡ Err f) }
+{
+    let [count, behind @ ..] = numbers else {
+        return Err(Refusal::NoRecord);
+    };
+    if *count > behind.len() as u64 || *count > rank as u64 {
+        return Err(Refusal::NoRecord);
+    }
+    let (sizes, rest) = behind.split_at(*count as usize);
+    let Ok(dims) = Dims::new(sizes) else {
+        return Err(Refusal::NoRecord);
+    };
+    if values.len() as u64 != dims.size() {
+        return Err(Refusal::OtherArrays);
+    }
+    Ok(DealtOne {
+        tensor: Tensor::lent(dims, values),
+        rest,
+    })
+}

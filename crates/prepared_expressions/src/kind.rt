@@ -1,0 +1,161 @@
+//! The operations without their arguments, and their numbers.
+
+ghost use Rattle.std.specs.Prelude.{◌≡◌, ◌≢◌, IfSome, IfNone};
+ghost use Rattle.prepared_expressions.specs.declared.kind.Kind.{Kind};
+ghost use Rattle.prepared_expressions.specs.Numbers.{number_of};
+
+use tensor_values::{BinaryScalar, Reducer, UnaryScalar};
+
+/// An operation on one operand, without its arguments.
+#[derive(Clone, Copy)]
+pub(crate) enum UnaryKind {
+    Each(UnaryScalar),
+    Constant,
+    Broadcast,
+    Slice,
+    Shuffle,
+    Reshape,
+    Chip,
+    Reverse,
+    Stride,
+    Pad,
+    Reduce(Reducer),
+}
+
+/// An operation on two operands, without its arguments.
+#[derive(Clone, Copy)]
+pub(crate) enum BinaryKind {
+    Pairwise(BinaryScalar),
+    Concat,
+    Contract,
+    Convolve,
+}
+
+/// What stands at a node, by the number of its operands.
+#[derive(Clone, Copy)]
+pub(crate) enum Kind {
+    Input,
+    One(UnaryKind),
+    Two(BinaryKind),
+    Select,
+}
+
+impl Kind {
+    /// Its number in a record.
+    pub(crate) fn number(self) -> u64
+        ensures { result ≡ number_of self }
+    {
+        match self {
+            Kind::Input => 0,
+            Kind::One(kind) => kind.number(),
+            Kind::Two(kind) => kind.number(),
+            Kind::Select => 18,
+        }
+    }
+
+    /// The one of a number.
+    pub(crate) fn of(number: u64) -> Option<Kind>
+        ensures known { IfSome result (λ kind. number_of kind ≡ number) }
+        ensures unknown { IfNone result ((kind : Kind) → number_of kind ≢ number) }
+    {
+        Some(match number {
+            0 => Kind::Input,
+            1 => Kind::One(UnaryKind::Each(UnaryScalar::Neg)),
+            2 => Kind::One(UnaryKind::Each(UnaryScalar::Abs)),
+            3 => Kind::One(UnaryKind::Each(UnaryScalar::Square)),
+            4 => Kind::One(UnaryKind::Each(UnaryScalar::Not)),
+            5 => Kind::Two(BinaryKind::Pairwise(BinaryScalar::Add)),
+            6 => Kind::Two(BinaryKind::Pairwise(BinaryScalar::Sub)),
+            7 => Kind::Two(BinaryKind::Pairwise(BinaryScalar::Mul)),
+            8 => Kind::Two(BinaryKind::Pairwise(BinaryScalar::CwiseMax)),
+            9 => Kind::Two(BinaryKind::Pairwise(BinaryScalar::CwiseMin)),
+            10 => Kind::Two(BinaryKind::Pairwise(BinaryScalar::Lt)),
+            11 => Kind::Two(BinaryKind::Pairwise(BinaryScalar::Le)),
+            12 => Kind::Two(BinaryKind::Pairwise(BinaryScalar::Eq)),
+            13 => Kind::Two(BinaryKind::Pairwise(BinaryScalar::Ne)),
+            14 => Kind::Two(BinaryKind::Pairwise(BinaryScalar::Gt)),
+            15 => Kind::Two(BinaryKind::Pairwise(BinaryScalar::Ge)),
+            16 => Kind::Two(BinaryKind::Pairwise(BinaryScalar::And)),
+            17 => Kind::Two(BinaryKind::Pairwise(BinaryScalar::Or)),
+            18 => Kind::Select,
+            19 => Kind::One(UnaryKind::Constant),
+            20 => Kind::One(UnaryKind::Broadcast),
+            21 => Kind::One(UnaryKind::Slice),
+            22 => Kind::One(UnaryKind::Shuffle),
+            23 => Kind::One(UnaryKind::Reshape),
+            24 => Kind::One(UnaryKind::Chip),
+            25 => Kind::One(UnaryKind::Reverse),
+            26 => Kind::One(UnaryKind::Stride),
+            27 => Kind::One(UnaryKind::Pad),
+            28 => Kind::Two(BinaryKind::Concat),
+            29 => Kind::One(UnaryKind::Reduce(Reducer::Sum)),
+            30 => Kind::One(UnaryKind::Reduce(Reducer::Prod)),
+            31 => Kind::One(UnaryKind::Reduce(Reducer::Max)),
+            32 => Kind::One(UnaryKind::Reduce(Reducer::Min)),
+            33 => Kind::One(UnaryKind::Reduce(Reducer::All)),
+            34 => Kind::One(UnaryKind::Reduce(Reducer::Any)),
+            35 => Kind::Two(BinaryKind::Contract),
+            36 => Kind::Two(BinaryKind::Convolve),
+            _ => return None,
+        })
+    }
+}
+
+impl UnaryKind {
+    ghost use Rattle.prepared_expressions.specs.Numbers.{unary_number};
+
+    /// Its number in a record.
+    pub(crate) fn number(self) -> u64
+        ensures { result ≡ unary_number self }
+    {
+        match self {
+            UnaryKind::Each(UnaryScalar::Neg) => 1,
+            UnaryKind::Each(UnaryScalar::Abs) => 2,
+            UnaryKind::Each(UnaryScalar::Square) => 3,
+            UnaryKind::Each(UnaryScalar::Not) => 4,
+            UnaryKind::Constant => 19,
+            UnaryKind::Broadcast => 20,
+            UnaryKind::Slice => 21,
+            UnaryKind::Shuffle => 22,
+            UnaryKind::Reshape => 23,
+            UnaryKind::Chip => 24,
+            UnaryKind::Reverse => 25,
+            UnaryKind::Stride => 26,
+            UnaryKind::Pad => 27,
+            UnaryKind::Reduce(Reducer::Sum) => 29,
+            UnaryKind::Reduce(Reducer::Prod) => 30,
+            UnaryKind::Reduce(Reducer::Max) => 31,
+            UnaryKind::Reduce(Reducer::Min) => 32,
+            UnaryKind::Reduce(Reducer::All) => 33,
+            UnaryKind::Reduce(Reducer::Any) => 34,
+        }
+    }
+}
+
+impl BinaryKind {
+    ghost use Rattle.prepared_expressions.specs.Numbers.{binary_number};
+
+    /// Its number in a record.
+    pub(crate) fn number(self) -> u64
+        ensures { result ≡ binary_number self }
+    {
+        match self {
+            BinaryKind::Pairwise(BinaryScalar::Add) => 5,
+            BinaryKind::Pairwise(BinaryScalar::Sub) => 6,
+            BinaryKind::Pairwise(BinaryScalar::Mul) => 7,
+            BinaryKind::Pairwise(BinaryScalar::CwiseMax) => 8,
+            BinaryKind::Pairwise(BinaryScalar::CwiseMin) => 9,
+            BinaryKind::Pairwise(BinaryScalar::Lt) => 10,
+            BinaryKind::Pairwise(BinaryScalar::Le) => 11,
+            BinaryKind::Pairwise(BinaryScalar::Eq) => 12,
+            BinaryKind::Pairwise(BinaryScalar::Ne) => 13,
+            BinaryKind::Pairwise(BinaryScalar::Gt) => 14,
+            BinaryKind::Pairwise(BinaryScalar::Ge) => 15,
+            BinaryKind::Pairwise(BinaryScalar::And) => 16,
+            BinaryKind::Pairwise(BinaryScalar::Or) => 17,
+            BinaryKind::Concat => 28,
+            BinaryKind::Contract => 35,
+            BinaryKind::Convolve => 36,
+        }
+    }
+}

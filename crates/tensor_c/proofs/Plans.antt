@@ -1,0 +1,51 @@
+-- Arrays that are dealt to the inputs of a plan.
+use Rattle.std.proofs.Common.{◌≡◌, ◌==◌, ℕ, zero, suc, ℤ, Bool, true, false, List, [], ◌∷◌, length, Result, Ok, Err}
+use Rattle.std.proofs.Common.{if◌then◌else◌, refl, ap, sym, ◌∙◌}
+use Rattle.expr_reader.specs.Alike.{HaveSameDims}
+use Rattle.expr_reader.specs.Contents.{Contents}
+use Rattle.expr_reader.specs.Index.{size_of}
+use Rattle.prepared_expressions.specs.Prepared.{dims_of_all, before, dealt}
+use Rattle.prepared_expressions.specs.declared.refusal.Refusal.{Refusal}
+use Rattle.prepared_expressions.specs.declared.refusal.Refusal.TheVariants.{OtherArrays}
+
+-- they have the dims of the inputs
+pub dims_of_all-dealt : (ds : List (List ℕ)) (arrays : List (List ℤ)) (ts : List Contents) → dealt ds arrays ≡ Ok ts → dims_of_all ts ≡ ds
+dims_of_all-dealt [] [] [] is = refl
+dims_of_all-dealt [] [] (t ∷ ts) is = absurd (cc)
+dims_of_all-dealt [] (vs ∷ arrays) ts is = absurd (cc)
+dims_of_all-dealt (d ∷ ds) [] ts is = absurd (cc)
+dims_of_all-dealt (d ∷ ds) (vs ∷ arrays) ts is =
+    by_size (length vs == size_of d) (λ us rest. dims_of_all-dealt ds arrays us rest) (dealt ds arrays) refl is
+  where
+    by_size : (b : Bool) → ((us : List Contents) → dealt ds arrays ≡ Ok us → dims_of_all us ≡ ds)
+        → (r : Result (List Contents) Refusal) → dealt ds arrays ≡ r
+        → (if b then before (record { dims = d; values = vs }) r else Err OtherArrays) ≡ Ok ts → dims_of_all ts ≡ d ∷ ds
+    by_size false behind r rest is = absurd (cc)
+    by_size true behind (Err f) rest is = absurd (cc)
+    by_size true behind (Ok us) rest is =
+        let t : Contents = record { dims = d; values = vs } in
+        let same : t ∷ us ≡ ts = cc in
+        ap dims_of_all (sym same) ∙ ap (λ l. d ∷ l) (behind us rest)
+
+-- or they are others
+pub dealt-err : (ds : List (List ℕ)) (arrays : List (List ℤ)) (f : Refusal) → dealt ds arrays ≡ Err f → f ≡ OtherArrays
+dealt-err [] [] f is = absurd (cc)
+dealt-err [] (vs ∷ arrays) f is = cc
+dealt-err (d ∷ ds) [] f is = cc
+dealt-err (d ∷ ds) (vs ∷ arrays) f is = by_size (length vs == size_of d) (λ g rest. dealt-err ds arrays g rest) (dealt ds arrays) refl is
+  where
+    by_size : (b : Bool) → ((g : Refusal) → dealt ds arrays ≡ Err g → g ≡ OtherArrays)
+        → (r : Result (List Contents) Refusal) → dealt ds arrays ≡ r
+        → (if b then before (record { dims = d; values = vs }) r else Err OtherArrays) ≡ Err f → f ≡ OtherArrays
+    by_size false behind r rest is = cc
+    by_size true behind (Ok us) rest is = absurd (cc)
+    by_size true behind (Err g) rest is =
+        let same : g ≡ f = cc in sym same ∙ behind g rest
+
+-- tensors of these dims, one by one
+pub HaveSameDims-all : (ts us : List Contents) → dims_of_all ts ≡ dims_of_all us → HaveSameDims ts us
+HaveSameDims-all [] [] is n = refl
+HaveSameDims-all [] (u ∷ us) is n = absurd (cc)
+HaveSameDims-all (t ∷ ts) [] is n = absurd (cc)
+HaveSameDims-all (t ∷ ts) (u ∷ us) is zero = cc
+HaveSameDims-all (t ∷ ts) (u ∷ us) is (suc n) = HaveSameDims-all ts us (cc) n

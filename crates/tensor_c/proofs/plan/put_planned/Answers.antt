@@ -1,0 +1,18 @@
+use Rattle.std.proofs.Common.{inl, inr, refl}
+use Rattle.expr_reader.specs.Arrays.{arrays_under}
+use Rattle.expr_reader.specs.Tree.{term_of}
+use Rattle.prepared_expressions.specs.Prepared.{prepared}
+use Rattle.tensor_c.proofs.Plans.{dealt-err}
+use Rattle.tensor_c.proofs.plan.put_planned.Goals as goal
+
+pub returns-in-Ok-clause-no_plan : goal.returns-in-Ok-clause-no_plan
+returns-in-Ok-clause-no_plan c = λ none.
+    let filled = c.in-Ok.filled in
+    absurd (none (prepared filled.inputs (term_of filled.expr)) c.in-Ok.ensures.found.written)
+
+pub returns-in-Err-clause-call : goal.returns-in-Err-clause-call
+returns-in-Err-clause-call c = λ p plan is.
+    elim (c.in-Err.ensures.whole p plan.prepared is) [
+      | inl memory ↦ inr (rw (c.result_of_refusal.ensures, memory) refl, refl)
+      | inr other ↦ inl (rw (other, c.result_of_refusal.ensures, dealt-err p.dims (arrays_under c.args.arrays.now) c.in-Err.refusal other) refl)
+    ]
