@@ -15,7 +15,7 @@ use tensor_ops::{
 use tensor_reduce::{Plan, Step};
 
 /// The tensor of these sizes and values.
-fn tensor(alloc: Global, sizes: &[u64], values: &[i64]) -> Result<Tensor, Fail>
+fn tensor(alloc: Global, sizes: &[u64], values: &[i64]) -> Result<Tensor<'static>, Fail>
     ensures { IfOk result (λ t. t.dims ≡ sizes.now) }
 {
     let dims = Dims::new(sizes)?;
@@ -26,7 +26,7 @@ fn tensor(alloc: Global, sizes: &[u64], values: &[i64]) -> Result<Tensor, Fail>
 }
 
 /// Four inputs: of 2 by 3, of 3 by 2, of 2, and a scalar.
-pub(crate) fn four_inputs(alloc: Global) -> Result<Inputs, Fail>
+pub(crate) fn four_inputs(alloc: Global) -> Result<Inputs<'static>, Fail>
     ensures { IfOk result (λ inputs. (length inputs.tensors ≡ 4) × (inputs.rank ≡ 8)) }
 {
     let first = tensor(alloc, &[2, 3], &[1, 4, 2, 5, 3, 6])?;

@@ -9,7 +9,7 @@ use std::test::Fail;
 use tensor_ops::{Dims, Expr, ExprFault, Inputs, Movement, Tensor, Unary};
 
 // An input of 2 by 3.
-fn two_by_three(alloc: Global) -> Result<Inputs, Fail>
+fn two_by_three(alloc: Global) -> Result<Inputs<'static>, Fail>
     ensures { IfOk result (λ i. length i.tensors ≡ 1) }
 {
     let tensor = Tensor::new(Dims::new(&[2, 3])?, vec![in alloc; 1, 2, 3, 4, 5, 6]?);
@@ -65,7 +65,7 @@ fn dims_over_those_of_the_operands(rt: HostRuntime) -> Result<(), Fail> {
 }
 
 /// One number, in results of this rank at most.
-fn one_number(alloc: Global, limit: u32) -> Result<Inputs, Fail>
+fn one_number(alloc: Global, limit: u32) -> Result<Inputs<'static>, Fail>
     requires { (limit ≡ 6) ⊎ (limit ≡ 8) }
     ensures { IfOk result (λ i. length i.tensors ≡ 1) }
 {
