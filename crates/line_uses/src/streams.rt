@@ -1,4 +1,4 @@
-//! Tries frames over streams in memory, which end or are full at each place.
+//! Tries frames over streams in memory, which end at each place.
 
 use crate::frames_answering;
 use frame_server::serve_frames;
@@ -23,36 +23,25 @@ const ANSWERS: &[u8] = b"\x0c\0\0\0\0\0\0\0\x01\0\0\0\0\0\0\0{\"dims\":[1]}\x19\
 
 const FIRST_ANSWER: usize = 36;
 
-/// As much room as a writer has here at most.
-const ROOM: usize = 100;
-
 const DONE: Ending = Ending {
     status: 0,
     complaint: None,
 };
 
-/// Asserts what the program ends with over these bytes, into so much room, and that it wrote so
-/// much of the answers.
+/// Asserts what the program ends with over these bytes, and that it wrote so much of the answers.
 fn expect_served<RT: Threads + Wait + Abort + Sync>(
     rt: &RT,
     alloc: Global,
-    (frames, room): (&[u8], usize),
+    frames: &[u8],
     (ending, told): (Ending, &[u8]),
 ) {
-    let mut buffer = [0u8; ROOM];
     let mut client = Connection {
         source: CountedReader::new(frames),
-        sink: CountedWriter::new(&mut buffer[..room.min(ROOM)]),
+        sink: CountedWriter::new(Vec::new(alloc)),
     };
     let found = serve_frames(rt, alloc, &mut client);
-    let left = client.sink.writer.len();
     assert_eq!(rt; found, ending, "{}", frames.len());
-    assert_eq!(rt;
-        &buffer[..room.min(ROOM).saturating_sub(left)],
-        told,
-        "{}",
-        frames.len()
-    );
+    assert_eq!(rt; client.sink.writer.as_slice(), told, "{}", frames.len());
 }
 
 #[test]
@@ -70,23 +59,7 @@ fn frames_that_end_at_each_byte(rt: HostRuntime) {
             FIRST..127 => FIRST_ANSWER,
             _ => ANSWERS.len(),
         };
-        let streams = (&TWO[..length], ROOM);
-        expect_served(&rt, rt.alloc(), streams, (ending, &ANSWERS[..told]));
-    }
-}
-
-#[test]
-fn room_for_each_number_of_bytes(rt: HostRuntime) {
-    for room in 0..=ANSWERS.len() {
-        let ending = if room < ANSWERS.len() {
-            Ending {
-                status: 1,
-                complaint: Some("error 17 WriteFault\n"),
-            }
-        } else {
-            DONE
-        };
-        expect_served(&rt, rt.alloc(), (TWO, room), (ending, &ANSWERS[..room]));
+        expect_served(&rt, rt.alloc(), &TWO[..length], (ending, &ANSWERS[..told]));
     }
 }
 
