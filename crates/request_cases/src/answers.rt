@@ -1,6 +1,6 @@
 //! The line that answers a text, worked out in three ways.
 
-use expr_reader::{Fault, read_request};
+use expr_reader::{Fault, Request, read_request};
 use std::alloc::{AllocError, Global};
 use std::sync::Wait;
 use std::thread::Threads;
@@ -36,10 +36,22 @@ pub(crate) fn answer<RT: Threads + Wait + Sync>(
 
 /// The line by the value at each place by itself.
 pub(crate) fn by_places(alloc: Global, text: &str) -> Result<String, AllocError> {
-    let request = match read_request(alloc, text.as_bytes()) {
-        Ok(request) => request,
-        Err(fault) => return fault_line(alloc, fault),
-    };
+    match read_request(alloc, text.as_bytes()) {
+        Ok(request) => each_place(alloc, &request),
+        Err(fault) => fault_line(alloc, fault),
+    }
+}
+
+/// The line by ranges of [`RANGE`] places.
+pub(crate) fn by_ranges(alloc: Global, text: &str) -> Result<String, AllocError> {
+    match read_request(alloc, text.as_bytes()) {
+        Ok(request) => each_range(alloc, &request),
+        Err(fault) => fault_line(alloc, fault),
+    }
+}
+
+/// The line of a request's tensor, place by place.
+fn each_place(alloc: Global, request: &Request<'_>) -> Result<String, AllocError> {
     let Ok(dims) = request.expr.dims(&request.inputs) else {
         return "no dims".to_string(alloc);
     };
@@ -51,12 +63,8 @@ pub(crate) fn by_places(alloc: Global, text: &str) -> Result<String, AllocError>
     tensor_line(alloc, dims.as_slice(), values.as_slice())
 }
 
-/// The line by ranges of [`RANGE`] places.
-pub(crate) fn by_ranges(alloc: Global, text: &str) -> Result<String, AllocError> {
-    let request = match read_request(alloc, text.as_bytes()) {
-        Ok(request) => request,
-        Err(fault) => return fault_line(alloc, fault),
-    };
+/// The line of a request's tensor, range by range.
+fn each_range(alloc: Global, request: &Request<'_>) -> Result<String, AllocError> {
     let evaluator = TensorEvaluator::of(alloc, &request.expr, &request.inputs)?;
     let size = evaluator.dims().size();
     let mut values = Vec::new(alloc);
