@@ -210,16 +210,19 @@ fn two_rows<'h, R: Wait, Q: Rows<u64, &'h Heap>>(
 }
 
 // Rows for two workers and their point have three seats each. Who waits gives up where there is a
-// job, which is handed back at the end, all with no more memory.
+// job, which is taken back at the end, all with no more memory.
 fn one_count<R: Wait>(rt: &R, heap: &Heap) -> Result<bool, AllocError> {
-    let mut made = on_one_count::<u64, &Heap>(&heap, 2)?;
-    let put = made.rows.put_back(rt, &mut made.row_seats[2], 1, 7);
-    made.point.enter(rt, &mut made.waiters[0]);
-    let answer = made.point.sleep(rt, &mut made.waiters[0]);
-    let counts = (made.row_seats.len(), made.waiters.len());
-    let left = made.rows.drain_all(made.row_seats);
+    let made = on_one_count::<u64, &Heap>(&heap, 2)?;
+    let (rows, mut row_seats) = (made.rows, made.row_seats);
+    let (point, mut waiters) = (made.point, made.waiters);
+    let counts = (row_seats.len(), waiters.len());
+    let seat = &mut row_seats[2];
+    let put = rows.put_back(rt, seat, 1, 7);
+    point.enter(rt, &mut waiters[0]);
+    let answer = point.sleep(rt, &mut waiters[0]);
+    let taken = rows.pop_back(rt, seat, 1);
     let is_right = counts == (3, 3) && put.is_ok() && answer == Committed::Consumed;
-    Ok(is_right && left.as_slice() == [7].as_slice())
+    Ok(is_right && taken == Some(7))
 }
 
 // Rows that are too many.

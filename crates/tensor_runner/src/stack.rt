@@ -9,7 +9,7 @@ use std::io::Read;
 const STACK: u64 = 1_048_576;
 
 /// What is left of a limit for what called the program, and for what it calls.
-const LEFT: u64 = 131_072;
+const LEFT: u64 = 262_144;
 
 /// How many bytes the stack grows by at a time.
 const PIECE: usize = 65_536;

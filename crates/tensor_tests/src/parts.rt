@@ -59,16 +59,16 @@ fn gives(
     rt: &impl Abort,
     alloc: Global,
     name: &str,
-    expr: &Expr,
+    expr: Expr,
     parts: &[Part],
     wholes: &[i64],
 ) -> Result<(), Fail>
-    requires inputs { IsTrue (has_inputs (term_of expr.now) 4) }
-    requires parts { IsTrue (has_parts (term_of expr.now)) }
+    requires inputs { IsTrue (has_inputs (term_of expr) 4) }
+    requires parts { IsTrue (has_parts (term_of expr)) }
 {
     let inputs = four_inputs(alloc)?;
     let size = expr.dims(&inputs)?.size();
-    let evaluator = PartEvaluator::over(alloc, expr, &inputs, &[])?;
+    let evaluator = PartEvaluator::over(alloc, &expr, &inputs, &[])?;
     for part in parts {
         gives_part(rt, name, &evaluator, size, *part)?;
     }
@@ -81,10 +81,10 @@ fn gives(
 fn parts_of_sums_and_products(rt: HostRuntime) -> Result<(), Fail> {
     let alloc = rt.alloc();
     let sums = Unary::Reduce(Reducer::Sum, &[1]).over(alloc, Expr::Input(0))?;
-    gives(&rt, alloc, "sums", &sums, &SUMS, &[6, 15])?;
+    gives(&rt, alloc, "sums", sums, &SUMS, &[6, 15])?;
     let products = Unary::Reduce(Reducer::Prod, &[0]).over(alloc, Expr::Input(0))?;
     let values = [4, 10, 18];
-    gives(&rt, alloc, "products", &products, &PRODUCTS, &values)?;
+    gives(&rt, alloc, "products", products, &PRODUCTS, &values)?;
     let (first, second) = (Expr::Input(0), Expr::Input(1));
     let contraction = Binary::Contract(&[(1, 0)]).over(alloc, first, second)?;
     let values = [22, 49, 28, 64];
@@ -92,7 +92,7 @@ fn parts_of_sums_and_products(rt: HostRuntime) -> Result<(), Fail> {
         &rt,
         alloc,
         "a contraction",
-        &contraction,
+        contraction,
         &CONTRACTION,
         &values,
     )
@@ -105,9 +105,9 @@ fn parts_of_reductions_of_a_contraction(rt: HostRuntime) -> Result<(), Fail> {
     let (first, second) = (Expr::Input(0), Expr::Input(1));
     let contraction = Binary::Contract(&[(1, 0)]).over(alloc, first, second)?;
     let sums = Unary::Reduce(Reducer::Sum, &[0]).over(alloc, contraction)?;
-    gives(&rt, alloc, "sums of runs", &sums, &SUMS_OF_RUNS, &[71, 92])?;
+    gives(&rt, alloc, "sums of runs", sums, &SUMS_OF_RUNS, &[71, 92])?;
     let (first, second) = (Expr::Input(0), Expr::Input(1));
     let contraction = Binary::Contract(&[(1, 0)]).over(alloc, first, second)?;
     let most = Unary::Reduce(Reducer::Max, &[1]).over(alloc, contraction)?;
-    gives(&rt, alloc, "most of rows", &most, &MOST_OF_ROWS, &[28, 64])
+    gives(&rt, alloc, "most of rows", most, &MOST_OF_ROWS, &[28, 64])
 }

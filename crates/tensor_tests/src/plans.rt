@@ -75,8 +75,8 @@ fn has_steps(rt: &impl Abort, alloc: Global, expr: &Expr, count: usize) -> Resul
     assert_eq!(rt; tensors.len() as usize, count + 4);
     let last = tensors.get(tensors.len() - 1);
     let step = &plan.steps()[count - 1];
-    let dims = [last.dims().as_slice(), step.dims().as_slice()];
-    expect(rt, count, &dims, &[whole.dims().as_slice(); 2]);
+    expect(rt, count, &step.dims().as_slice(), &whole.dims().as_slice());
+    expect(rt, count, &last.dims().as_slice(), &whole.dims().as_slice());
     expect(rt, count, &last.values(), &whole.values());
     Ok(())
 }
