@@ -1,6 +1,6 @@
 //! Parts of the values of reductions and contractions, with ample memory.
 
-ghost use Rattle.std.specs.Prelude.{◌≡◌, IsTrue};
+ghost use Rattle.std.specs.Prelude.{◌≡◌, IsTrue, length};
 ghost use Rattle.tensor_ops.specs.Index.{size_of};
 ghost use Rattle.tensor_ops.specs.PartEvaluator.{term_in_parts, inputs_in_parts};
 ghost use Rattle.tensor_ops.specs.Parts.{has_parts};
@@ -13,7 +13,7 @@ use crate::told::expect;
 use std::alloc::Global;
 use std::process::Abort;
 use std::test::Fail;
-use tensor_ops::{Binary, Expr, PartEvaluator, Reducer, Unary};
+use tensor_ops::{Binary, Expr, Inputs, PartEvaluator, Reducer, Unary};
 
 /// A value's place, its first index list and the one after the last, and what these give.
 type Part = (u64, u64, u64, i64);
@@ -54,7 +54,14 @@ fn gives_part(
     Ok(())
 }
 
-/// Asserts what these parts of an expression's values are, and these values.
+/// An expression, and the inputs that it is worked out over.
+#[derive(Drop)]
+struct Operand<'a> {
+    expr: Expr,
+    inputs: Inputs<'a>,
+}
+
+/// Asserts what these parts of an expression's values are over the four inputs, and these values.
 fn gives(
     rt: &impl Abort,
     alloc: Global,
@@ -67,8 +74,24 @@ fn gives(
     requires parts { IsTrue (has_parts (term_of expr)) }
 {
     let inputs = four_inputs(alloc)?;
-    let size = expr.dims(&inputs)?.size();
-    let evaluator = PartEvaluator::over(alloc, &expr, &inputs, &[])?;
+    gives_over(rt, alloc, name, &Operand { expr, inputs }, parts, wholes)
+}
+
+// `gives`, over inputs that are lent with the expression.
+fn gives_over(
+    rt: &impl Abort,
+    alloc: Global,
+    name: &str,
+    operand: &Operand<'_>,
+    parts: &[Part],
+    wholes: &[i64],
+) -> Result<(), Fail>
+    requires four { (length operand.now.inputs.tensors ≡ 4) × (operand.now.inputs.rank ≡ 8) }
+    requires inputs { IsTrue (has_inputs (term_of operand.now.expr) 4) }
+    requires parts { IsTrue (has_parts (term_of operand.now.expr)) }
+{
+    let size = operand.expr.dims(&operand.inputs)?.size();
+    let evaluator = PartEvaluator::over(alloc, &operand.expr, &operand.inputs, &[])?;
     for part in parts {
         gives_part(rt, name, &evaluator, size, *part)?;
     }
