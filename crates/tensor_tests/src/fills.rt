@@ -51,7 +51,7 @@ const MORE_ROOTS: [&str; 17] = [
 ];
 
 /// How many values are asked for at once at most, where each length is tried.
-const MOST: usize = 12_543;
+const MOST: usize = 1_155;
 
 // An expression has these values from a place on, written over others and in a list.
 fn range_is(
@@ -87,7 +87,7 @@ fn has_each_length(rt: &impl Abort, alloc: Global, request: &Request) -> Result<
 
 #[test]
 fn each_length_of_each_root(rt: HostRuntime) -> Result<(), Fail> {
-    let inputs = grids(rt.alloc(), 113, 111)?;
+    let inputs = grids(rt.alloc(), 35, 33)?;
     for expr in ROOTS {
         let text = request(rt.alloc(), 2, inputs.as_str(), expr)?;
         let request = read_request(rt.alloc(), text.as_bytes())?;
@@ -137,7 +137,7 @@ fn have_drawn_ranges<RT: Threads + Wait + Abort + Sync>(
 #[test]
 fn drawn_ranges_of_drawn_grids(rt: HostRuntime) -> Result<(), Fail> {
     let mut drawn = Drawn::new();
-    for _ in 0..40 {
+    for _ in 0..5 {
         let (rows, columns) = (drawn.below(60) as u16 + 3, drawn.below(60) as u16 + 3);
         let inputs = grids(rt.alloc(), rows, columns)?;
         have_drawn_ranges(&rt, rt.alloc(), inputs.as_str(), &ROOTS, &mut drawn)?;
