@@ -10,9 +10,9 @@ from typing import Any, Dict, Iterator, NamedTuple, Optional
 from .faults import ProgramFailed
 
 HERE = os.path.dirname(os.path.realpath(__file__))
-TOP = os.path.normpath(os.path.join(HERE, "..", "..", ".."))
+TOP = os.path.normpath(os.path.join(HERE, "..", ".."))
 # Whether this package stands in the repository, which is then at the top.
-IS_IN_REPOSITORY = HERE == os.path.join(TOP, "examples", "client", "tensor_client")
+IS_IN_REPOSITORY = HERE == os.path.join(TOP, "python", "tensor_client")
 
 
 class Program(NamedTuple):

@@ -1,5 +1,5 @@
 """Makes the client's wheel for pip, from Python's own library alone: a build backend as PEP 517 has
-it, so that `pip install ./examples/client` fetches nothing."""
+it, so that `pip install ./python` fetches nothing."""
 
 import base64
 import hashlib
