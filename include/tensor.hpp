@@ -44,7 +44,22 @@ private:
 namespace detail {
 
 /* What a pointer to nothing is: it may not be null. */
-inline const std::int64_t nothing = 0;
+inline std::int64_t nothing = 0;
+
+inline std::int64_t *written(std::span<std::int64_t> out)
+{
+    return out.empty() ? &nothing : out.data();
+}
+
+/* Where arrays lie, and how long they are; a place more than there are, so that it isn't null. */
+inline std::vector<tensor_array> lying(std::span<const Values> arrays)
+{
+    std::vector<tensor_array> found(arrays.size() + 1);
+    for (std::size_t i = 0; i < arrays.size(); i++)
+        found[i] = {arrays[i].empty() ? &nothing : arrays[i].data(), arrays[i].size()};
+    return found;
+}
+
 
 inline std::size_t answered(std::int64_t result)
 {
@@ -56,6 +71,28 @@ inline std::size_t answered(std::int64_t result)
 inline const std::uint8_t *bytes(std::string_view header)
 {
     return reinterpret_cast<const std::uint8_t *>(header.empty() ? "" : header.data());
+}
+
+/* Has `write` write a list in so many parts, each on a thread of its own, by its first place. */
+template <typename Write>
+void in_parts(std::span<std::int64_t> out, unsigned threads, const Write &write)
+{
+    std::atomic<int> fault = 0;
+    auto work = [&](std::size_t first, std::size_t last) {
+        try {
+            write(first, out.subspan(first, last - first));
+        } catch (const Fault &found) {
+            fault = found.number();
+        }
+    };
+    {
+        std::vector<std::jthread> others;
+        for (unsigned i = 1; i < threads; i++)
+            others.emplace_back(work, out.size() * i / threads, out.size() * (i + 1) / threads);
+        work(0, out.size() / std::max(threads, 1u));
+    }
+    if (fault)
+        throw Fault(fault);
 }
 
 }  // namespace detail
@@ -73,13 +110,10 @@ inline std::vector<std::uint64_t> dims(std::string_view header, std::uint64_t co
 inline std::size_t evaluate_part(std::string_view header, std::span<const Values> arrays,
                                  std::uint64_t first, std::span<std::int64_t> out)
 {
-    std::vector<tensor_array> lying(std::max<std::size_t>(arrays.size(), 1));
-    for (std::size_t i = 0; i < arrays.size(); i++)
-        lying[i] = {arrays[i].empty() ? &detail::nothing : arrays[i].data(), arrays[i].size()};
-    std::int64_t room = 0;
+    const auto lying = detail::lying(arrays);
     return detail::answered(tensor_evaluate_arrays(
         detail::bytes(header), header.size(), lying.data(), arrays.size(), first,
-        out.empty() ? &room : out.data(), out.size()));
+        detail::written(out), out.size()));
 }
 
 /* Writes the values of a frame's tensor, of which there are as many as `out` has room for, in so many
@@ -87,23 +121,45 @@ inline std::size_t evaluate_part(std::string_view header, std::span<const Values
 inline void evaluate(std::string_view header, std::span<const Values> arrays,
                      std::span<std::int64_t> out, unsigned threads = 1)
 {
-    std::atomic<int> fault = 0;
-    auto work = [&](std::size_t first, std::size_t last) {
-        try {
-            evaluate_part(header, arrays, first, out.subspan(first, last - first));
-        } catch (const Fault &found) {
-            fault = found.number();
-        }
-    };
-    {
-        std::vector<std::jthread> others;
-        for (unsigned i = 1; i < threads; i++)
-            others.emplace_back(work, out.size() * i / threads, out.size() * (i + 1) / threads);
-        work(0, out.size() / std::max(threads, 1u));
-    }
-    if (fault)
-        throw Fault(fault);
+    detail::in_parts(out, threads, [&](std::uint64_t first, std::span<std::int64_t> part) {
+        evaluate_part(header, arrays, first, part);
+    });
 }
+
+/* An expression that is read and checked once, and worked out over any arrays of its tensors' dims. */
+class Prepared {
+public:
+    /* Of a header, for as many arrays as these, of these lengths. */
+    Prepared(std::string_view header, std::span<const Values> arrays)
+        : plan_(TENSOR_PLAN_ROOM(arrays.size()))
+    {
+        std::uint64_t count = 0;
+        for (const Values &it : arrays)
+            count += it.size();
+        plan_.resize(detail::answered(tensor_prepare(detail::bytes(header), header.size(), count,
+                                                     plan_.data(), plan_.size())));
+        plan_.shrink_to_fit();
+    }
+
+    /* As evaluate_part and evaluate do, and no text is read. Threads may ask at once. */
+    std::size_t run_part(std::span<const Values> arrays, std::uint64_t first,
+                         std::span<std::int64_t> out) const
+    {
+        const auto lying = detail::lying(arrays);
+        return detail::answered(tensor_run(plan_.data(), plan_.size(), lying.data(), arrays.size(),
+                                           first, detail::written(out), out.size()));
+    }
+
+    void run(std::span<const Values> arrays, std::span<std::int64_t> out, unsigned threads = 1) const
+    {
+        detail::in_parts(out, threads, [&](std::uint64_t first, std::span<std::int64_t> part) {
+            run_part(arrays, first, part);
+        });
+    }
+
+private:
+    std::vector<std::uint64_t> plan_;
+};
 
 }  // namespace tensor
 

@@ -1,7 +1,13 @@
-/* Times calls of the library for bench/arrays/run: calls HEADER COUNT ROUNDS THREADS SIZE, where COUNT
-   is how many values the tensors have together, and SIZE how many the answer has. Each round is one
-   answer, or as many as take LEAST nanoseconds together: by tensor_evaluate where THREADS is 0, and
-   else by as many parts, each on a thread that stays. */
+/* Times calls of the library for bench/arrays/run: calls WAY HEADER COUNT ARRAYS ROUNDS THREADS SIZE,
+   where COUNT is how many values the ARRAYS tensors have together, each as many as another, and SIZE
+   how many values the answer has. Each round is one answer, or as many as take LEAST nanoseconds
+   together, by one WAY:
+
+     whole     tensor_evaluate
+     parts     tensor_evaluate_part, as many parts as THREADS, each on a thread that stays
+     prepared  tensor_prepare once, and parts by tensor_run
+     cut       each thread has a share of the operand, which the header is for, by tensor_run, and its
+               answer of one value is added to the others */
 
 #include <pthread.h>
 #include <string.h>
@@ -9,22 +15,40 @@
 #include "rounds.h"
 #include "tensor.h"
 
-enum { LEAST = 100000, MOST_THREADS = 64 };
+enum { LEAST = 100000, MOST_THREADS = 64, MOST_ARRAYS = 2 };
+
+enum way { WHOLE, PARTS, PREPARED, CUT };
 
 /* What is asked for, and where its answer goes. */
+static enum way way;
 static const uint8_t *header;
-static size_t header_length, places, size, threads;
-static int64_t *values, *out, counts[MOST_THREADS];
+static size_t header_length, places, tensors, size, threads, plan_length;
+static int64_t *values, *out, results[MOST_THREADS];
+static uint64_t plan[TENSOR_PLAN_ROOM(MOST_ARRAYS)];
 
 /* All threads wait for an answer to begin, and for all of its parts. */
 static pthread_barrier_t begin, end;
 static int is_over;
 
-static void work_out(size_t part)
+static int64_t work_out(size_t part)
 {
     size_t first = size * part / threads, last = size * (part + 1) / threads;
-    counts[part] = tensor_evaluate_part(header, header_length, values, places, first, out + first,
-                                        last - first);
+    size_t length = places / (way == CUT ? threads : tensors);
+    struct tensor_array arrays[MOST_ARRAYS];
+    for (size_t it = 0; it < tensors; it++)
+        arrays[it] = (struct tensor_array){values + (it + (way == CUT) * part) * length, length};
+    switch (way) {
+    case WHOLE:
+        return tensor_evaluate(header, header_length, values, places, out, TENSOR_MOST_VALUES,
+                               (uint64_t[TENSOR_DIMS_ROOM]){0}, TENSOR_DIMS_ROOM);
+    case PARTS:
+        return tensor_evaluate_part(header, header_length, values, places, first, out + first,
+                                    last - first);
+    case PREPARED:
+        return tensor_run(plan, plan_length, arrays, tensors, first, out + first, last - first);
+    default:
+        return tensor_run(plan, plan_length, arrays, tensors, 0, out + part, 1);
+    }
 }
 
 static void *work(void *part)
@@ -33,7 +57,7 @@ static void *work(void *part)
         pthread_barrier_wait(&begin);
         if (is_over)
             return NULL;
-        work_out((size_t)part);
+        results[(size_t)part] = work_out((size_t)part);
         pthread_barrier_wait(&end);
     }
 }
@@ -41,41 +65,55 @@ static void *work(void *part)
 /* One answer: how many values it has, or its fault. */
 static int64_t answer(void)
 {
-    uint64_t dims[TENSOR_DIMS_ROOM];
-    if (!threads)
-        return tensor_evaluate(header, header_length, values, places, out, TENSOR_MOST_VALUES, dims,
-                               TENSOR_DIMS_ROOM);
     if (threads > 1)
         pthread_barrier_wait(&begin);
-    work_out(0);
+    results[0] = work_out(0);
     if (threads > 1)
         pthread_barrier_wait(&end);
     int64_t sum = 0;
     for (size_t part = 0; part < threads; part++)
-        if (counts[part] < 0)
-            return counts[part];
+        if (results[part] < 0)
+            return results[part];
         else
-            sum += counts[part];
-    return sum;
+            sum += results[part];
+    if (way != CUT)
+        return sum;
+    for (size_t part = 1; part < threads; part++)
+        out[0] = (int64_t)((uint64_t)out[0] + (uint64_t)out[part]);
+    return 1;
+}
+
+/* Takes the words in, and makes what they speak of; 0 where that can't be. */
+static int prepare(char **words)
+{
+    const char *names[] = {"whole", "parts", "prepared", "cut"};
+    for (way = WHOLE; way < CUT && strcmp(words[1], names[way]); way++)
+        ;
+    header = (const uint8_t *)words[2], header_length = strlen(words[2]);
+    places = strtoull(words[3], NULL, 10), tensors = strtoull(words[4], NULL, 10);
+    threads = strtoull(words[6], NULL, 10), size = strtoull(words[7], NULL, 10);
+    values = malloc(8 * places + 8), out = malloc(8 * TENSOR_MOST_VALUES);
+    if (!values || !out || threads < 1 || threads > MOST_THREADS || tensors > MOST_ARRAYS)
+        return 0;
+    fill(values, places);
+    memset(out, 0, 8 * TENSOR_MOST_VALUES);
+    if (way < PREPARED)
+        return 1;
+    size_t count = way == CUT ? places / threads : places;
+    int64_t written = tensor_prepare(header, header_length, count, plan, TENSOR_PLAN_ROOM(MOST_ARRAYS));
+    plan_length = written < 0 ? 0 : (size_t)written;
+    return written > 0;
 }
 
 int main(int count, char **words)
 {
-    if (count != 6)
+    if (count != 8 || !prepare(words))
         return 2;
-    header = (const uint8_t *)words[1];
-    header_length = strlen(words[1]), places = strtoull(words[2], NULL, 10);
-    int rounds = atoi(words[3]);
-    threads = strtoull(words[4], NULL, 10), size = strtoull(words[5], NULL, 10);
-    values = malloc(8 * places + 8), out = malloc(8 * TENSOR_MOST_VALUES);
+    int rounds = atoi(words[5]);
     double *times = malloc((size_t)rounds * sizeof *times);
-    if (!values || !out || !times || threads > MOST_THREADS)
-        return 2;
-    fill(values, places);
-    memset(out, 0, 8 * TENSOR_MOST_VALUES);
     pthread_t others[MOST_THREADS];
-    pthread_barrier_init(&begin, NULL, threads ? (unsigned)threads : 1);
-    pthread_barrier_init(&end, NULL, threads ? (unsigned)threads : 1);
+    pthread_barrier_init(&begin, NULL, (unsigned)threads);
+    pthread_barrier_init(&end, NULL, (unsigned)threads);
     for (size_t part = 1; part < threads; part++)
         if (pthread_create(&others[part], NULL, work, (void *)part))
             return 2;

@@ -1,8 +1,10 @@
-// Adds two matrices of Eigen by the library, on four threads, into a third one, where they lie; and asks
-// for what isn't there: c++ -std=c++20 -pthread examples/cpp/arrays.cpp -Iinclude -I/usr/include/eigen3
-// out/libtensor.a -o out/arrays (./build/library makes the library). Prints the sum of all, and a fault.
+// Adds two matrices of Eigen by the library, on four threads, into a third one, where they lie; sums it on
+// four threads, each a quarter; and asks for what isn't there: c++ -std=c++20 -pthread
+// examples/cpp/arrays.cpp -Iinclude -I/usr/include/eigen3 out/libtensor.a -o out/arrays
+// (./build/library makes the library). Prints the sum by the library, the same by Eigen, and a fault.
 
 #include <iostream>
+#include <numeric>
 #include <string>
 #include <unsupported/Eigen/CXX11/Tensor>
 
@@ -23,16 +25,38 @@ static tensor::Values values(const Matrix &it)
     return {it.data(), static_cast<std::size_t>(it.size())};
 }
 
+// The sum of all values. One thread works out an answer of one value: so four of them have a quarter of
+// the operand each, as an array of its own, and what they answer is added. The expression is read once.
+static std::int64_t sum(tensor::Values all)
+{
+    constexpr std::size_t threads = 4, quarter = 250'000;
+    const tensor::Values first[] = {all.first(quarter)};
+    const tensor::Prepared prepared(
+        R"({"version":1,"workers":1,"block":4096,"inputs":{"a":{"dims":[250000]}},"expr":["sum","a",[0]]})",
+        first);
+    std::int64_t sums[threads];
+    {
+        std::vector<std::jthread> others;
+        for (std::size_t i = 0; i < threads; i++)
+            others.emplace_back([&, i] {
+                const tensor::Values part[] = {all.subspan(i * quarter, quarter)};
+                prepared.run(part, std::span(sums).subspan(i, 1));
+            });
+    }
+    return std::reduce(sums, sums + threads);
+}
+
 int main()
 {
-    Matrix a(1000, 1000), b(1000, 1000), sum(1000, 1000);
+    Matrix a(1000, 1000), b(1000, 1000), both(1000, 1000);
     a.setConstant(2);
     b.setConstant(3);
     const tensor::Values arrays[] = {values(a), values(b)};
-    const std::span<std::int64_t> out(sum.data(), sum.size());
+    const std::span<std::int64_t> out(both.data(), both.size());
     tensor::evaluate(header(R"(["add","a","b"])"), arrays, out, 4);
+    std::cout << sum(out) << "\n";
     // Eigen goes on with it where it lies.
-    const Eigen::Tensor<std::int64_t, 0> all = Eigen::TensorMap<Matrix>(sum.data(), 1000, 1000).sum();
+    const Eigen::Tensor<std::int64_t, 0> all = Eigen::TensorMap<Matrix>(both.data(), 1000, 1000).sum();
     std::cout << all() << "\n";
     try {
         tensor::evaluate(header(R"(["add","a","c"])"), arrays, out);
