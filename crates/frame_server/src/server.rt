@@ -18,7 +18,8 @@ use tensor_runner::{Client, StreamFault};
 /// Answers each frame of the client's, in order, by the frame of the tensor that its request's
 /// workers work out, or of its first fault, until the client's bytes end. Each answer is written
 /// before more is read. A frame that is too long is passed over, and want of memory costs the frame
-/// that wants it. Between two frames two rooms of 65,536 bytes are all that is kept.
+/// that wants it. Between two frames two rooms of 65,536 bytes are all that is kept. An answer of up to
+/// 8,192 values is one write.
 ///
 /// # Errors
 ///
@@ -60,7 +61,7 @@ pub fn answer_frames<RT: Threads + Wait + Sync, C: Client>(
             return Ok(());
         };
         let frame = answer(rt, alloc, next);
-        write_frame(client, &mut room, &frame)?;
+        write_frame(alloc, client, &mut room, &frame)?;
     }
     unreachable!()
 }

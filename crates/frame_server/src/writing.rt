@@ -1,6 +1,6 @@
 //! Writes the frame of an answer.
 
-ghost use Rattle.std.specs.Prelude.{◌≡◌, ◌≤◌, length, OnOk, OnErr, IfErr, option_map};
+ghost use Rattle.std.specs.Prelude.{◌≡◌, ◌≤◌, ◌++◌, length, OnOk, OnErr, IfOk, IfErr, option_map};
 ghost use Rattle.std.specs.List.{flat_map};
 ghost use Rattle.std.specs.Io.KnownBytes.{Appends};
 ghost use Rattle.frame_server.specs.Answering.{bytes_in};
@@ -10,6 +10,7 @@ ghost use Rattle.tensor_runner.specs.Pieces.{AppendsFront};
 ghost use Rattle.tensor_runner.specs.Streams.{HasFailed};
 
 use crate::frame::AnswerFrame;
+use std::alloc::{AllocError, Global};
 use tensor_runner::{Client, StreamFault, write_answer};
 
 /// How many values are written at a time.
@@ -42,9 +43,12 @@ impl OutputBuffer {
     }
 }
 
-/// Writes a whole frame, by as many writes as it takes, and takes no memory. Stops at the first that
+/// Writes a whole frame, by as many writes as it takes: by one, where the room holds its values and
+/// there is memory to put them behind the front. For what is sent over a network in two pieces, the
+/// second of them waits until the other side has acknowledged the first. Stops at the first write that
 /// fails or takes nothing.
 pub(crate) fn write_frame<C: Client>(
+    alloc: Global,
     client: &mut C,
     room: &mut OutputBuffer,
     frame: &AnswerFrame,
@@ -63,11 +67,56 @@ pub(crate) fn write_frame<C: Client>(
     ensures remaining { C.remaining client.new ≡ C.remaining client.old }
     ensures read_failures { C.read_failures client.new ≡ C.read_failures client.old }
 {
-    write_answer(client, frame.front.as_slice())?;
+    let front = frame.front.as_slice();
     match &frame.tensor {
-        Some(tensor) => write_values(client, room, tensor.values()),
-        None => Ok(()),
+        Some(tensor) if tensor.values().len() <= VALUES_AT_ONCE => {
+            write_joined(alloc, client, front, room.fill(tensor.values()))
+        }
+        Some(tensor) => {
+            write_answer(client, front)?;
+            write_values(client, room, tensor.values())
+        }
+        None => write_answer(client, front),
     }
+}
+
+/// Writes what stands in front and what stands behind it, as one where there is memory for both.
+fn write_joined<C: Client>(
+    alloc: Global,
+    client: &mut C,
+    front: &[u8],
+    behind: &[u8],
+) -> Result<(), StreamFault>
+    ensures ok { OnOk result
+        (Appends (C.contents client.old) (C.contents client.new) (front.now ++ behind.now)) }
+    ensures noted { OnOk result (C.history client.new
+        ≡ option_map (writing (front.now ++ behind.now)) (C.history client.old)) }
+    ensures ok_failures { OnOk result (C.write_failures client.new
+        ≡ C.write_failures client.old) }
+    ensures err { IfErr result (λ fault. fault ≡ StreamFault.WriteFault) }
+    ensures front { OnErr result
+        (AppendsFront (C.contents client.old) (C.contents client.new) (front.now ++ behind.now)) }
+    ensures failed { OnErr result
+        (HasFailed (C.write_failures client.old) (C.write_failures client.new)) }
+    ensures remaining { C.remaining client.new ≡ C.remaining client.old }
+    ensures read_failures { C.read_failures client.new ≡ C.read_failures client.old }
+{
+    match joined(alloc, front, behind) {
+        Ok(bytes) => write_answer(client, bytes.as_slice()),
+        Err(_) => {
+            write_answer(client, front)?;
+            write_answer(client, behind)
+        }
+    }
+}
+
+/// Both, one behind the other.
+fn joined(alloc: Global, front: &[u8], behind: &[u8]) -> Result<Vec<u8>, AllocError>
+    ensures { IfOk result (λ bytes. bytes.items ≡ front.now ++ behind.now) }
+{
+    let mut bytes = Vec::from_slice(alloc, front)?;
+    bytes.extend_from_slice(behind)?;
+    Ok(bytes)
 }
 
 /// Writes values, some at a time.

@@ -1,7 +1,7 @@
 //! A client that asks a frame at a time.
 
 ghost use Rattle.std.specs.Prelude.{◌≡◌, [], Some, Err, OnOk};
-ghost use Rattle.frame_server.specs.Stream.{AnswersFrames, CutsFramesShort};
+ghost use Rattle.frame_server.specs.Stream.{AnswersFrames, BreaksOff, CutsFramesShort};
 
 use crate::recorded::{Asking, Recorded};
 use frame_server::answer_frames;
@@ -28,6 +28,9 @@ pub fn frames_answering<RT: Threads + Wait + Sync>(
     frames: Vec<u8>,
 ) -> (Vec<u8>, Result<(), StreamFault>)
     ensures answered { OnOk result.1 (AnswersFrames frames.items [] (Some result.0.items)) }
+    // No read fails: so all was read, and what wasn't answered is the front of a frame.
+    ensures broken_off { result.1 ≡ Err StreamFault.ReadFault
+        → BreaksOff frames.items [] (Some []) (Some result.0.items) }
     ensures cut_short { result.1 ≡ Err StreamFault.WriteFault
         → CutsFramesShort frames.items [] (Some result.0.items) }
 {

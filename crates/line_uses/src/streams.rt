@@ -7,7 +7,7 @@ use std::process::Abort;
 use std::sync::Wait;
 use std::test::Fail;
 use std::thread::Threads;
-use tensor_runner::{Connection, CountedReader, CountedWriter, Ending};
+use tensor_runner::{Connection, CountedReader, CountedWriter, Ending, StreamFault};
 
 /// A frame of 109 bytes that asks for a tensor, and then one that is no request.
 const TWO: &[u8] = b"\x55\0\0\0\0\0\0\0\x01\0\0\0\0\0\0\0\
@@ -64,9 +64,13 @@ fn frames_that_end_at_each_byte(rt: HostRuntime) {
 }
 
 #[test]
-fn answers_of_two_frames(rt: HostRuntime) -> Result<(), Fail> {
+fn answers_of_frames(rt: HostRuntime) -> Result<(), Fail> {
     let (answers, ended) = frames_answering(&rt, rt.alloc(), TWO.to_vec(rt.alloc())?);
     assert_eq!(rt; ended, Ok(()));
     assert_eq!(rt; answers.as_slice(), ANSWERS);
+    let cut = TWO[..FIRST + 1].to_vec(rt.alloc())?;
+    let (answers, ended) = frames_answering(&rt, rt.alloc(), cut);
+    assert_eq!(rt; ended, Err(StreamFault::ReadFault));
+    assert_eq!(rt; answers.as_slice(), &ANSWERS[..FIRST_ANSWER]);
     Ok(())
 }
