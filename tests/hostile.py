@@ -40,6 +40,14 @@ SCALAR = '"a":{"dims":[],"data":[5]}'
 MATRICES = '"l":{"dims":[2,3],"data":[1,4,2,5,3,6]},"r":{"dims":[3,2],"data":[1,3,5,2,4,6]}'
 PRODUCT = '["contract","l","r",[[1,0]]]'
 PRODUCT_LINE = '{"data":[22,49,28,64],"dims":[2,2]}\n'
+# A sum of a contraction that is worth the start of two workers: 64 by 64 values, of 768
+# products each.
+TILES, DEPTH = 32, 256
+SHARED = (
+    f'["sum",["contract",["broadcast","l",[{TILES},{DEPTH}]],'
+    f'["broadcast","r",[{DEPTH},{TILES}]],[[1,0]]],[0,1]]'
+)
+SHARED_LINE = f'{{"data":[{(22 + 49 + 28 + 64) * TILES * TILES * DEPTH}],"dims":[]}}\n'
 
 
 def need_program(program=PROGRAM):

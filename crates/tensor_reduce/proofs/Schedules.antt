@@ -34,13 +34,13 @@ parts-combining (ternary o a b c) parts = parts
 pub IsScheduleFor-fusing : (schedule : Schedule) (t : Term) → IsFusingFor schedule t
     → IsScheduleFor schedule t
 IsScheduleFor-fusing (Sharded sharding) t for = for
-IsScheduleFor-fusing (Ranged leaf) t for = for.1
+IsScheduleFor-fusing (Ranged workers leaf) t for = for.1
 
 pub IsFusingFor-combining : (schedule : Schedule) (t : Term) → IsFusingFor schedule t → is_combining t ≡ true
 IsFusingFor-combining (Sharded sharding) t for = parts-combining t for
-IsFusingFor-combining (Ranged leaf) t for = for.0
+IsFusingFor-combining (Ranged workers leaf) t for = for.0
 
 pub IsFusingFor-fused_with : (schedule : Schedule) (n : ℕ) (u t : Term) → IsFusingFor schedule t
     → IsFusingFor schedule (fused_with n u t)
 IsFusingFor-fused_with (Sharded sharding) n u t for = has_parts-fused_with n u t for
-IsFusingFor-fused_with (Ranged leaf) n u t for = (is_combining-fused_with n u t for.0, for.1)
+IsFusingFor-fused_with (Ranged workers leaf) n u t for = (is_combining-fused_with n u t for.0, for.1)

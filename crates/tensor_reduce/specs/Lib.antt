@@ -26,3 +26,4 @@ pub mod Next
 pub mod Readers
 pub mod Schedules
 pub mod Stage
+pub mod Worth

@@ -30,15 +30,16 @@ use std::thread::Threads;
 use tensor_ops::{Inputs, Tensor};
 
 /// The tensor of a plan's last step. The steps are worked out one after the other, each by blocks of
-/// its places on the workers of a pool that the setup describes.
+/// its places on workers of a pool that the setup describes: as many as are worth their start, by
+/// what the step costs. Where that is one, the calling thread works it out, and no pool is opened.
 ///
 /// A reduction or a contraction of at most 64 values is worked out in shards, each a leaf of its
 /// own. An operand that an inner product reads alone, or a reduction over four index lists a value or
 /// more, is fused into it and no tensor of its own: its values are worked out a thousand at a time,
 /// as they are combined. So is one that a contraction of more values reads alone, where it
 /// broadcasts, slices, shuffles, chips or strides an input or the tensor of an earlier step, and
-/// both operands have four rows or more: its values are taken where they lie; and so is one of few
-/// operations, or any on one worker, which the calling thread works out into one list. A contraction
+/// both operands have four rows or more: its values are taken where they lie; and so is one that
+/// isn't worth a second worker, which the calling thread works out into one list. A contraction
 /// that a reduction of its first axes reads alone is fused into it too: what a leaf of it gives is
 /// combined as it is there.
 ///
@@ -77,6 +78,7 @@ pub fn run_plan<RT: Threads + Wait + Sync>(
         alloc,
         setup,
         block,
+        count: setup.workers,
     };
     work_out(&workers, plan.steps(), inputs)
 }

@@ -3,7 +3,7 @@
 ghost use Rattle.std.specs.Prelude.{◌≡◌, ◌<◌, ◌≤◌, ◌*◌, length, slice_index_or};
 
 /// The most shards that a value has.
-const MOST_SHARDS: u64 = 1024;
+pub(crate) const MOST_SHARDS: u64 = 1024;
 
 /// So many index lists, of the dropped axes of a reduction or of the paired ones of a contraction,
 /// cut into ranges of one width, of which the last may be shorter. There is one shard at least: of

@@ -92,7 +92,13 @@ fn of_schedule<RT: Threads + Wait + Sync>(
     ensures faults { IfErr result (λ fault. fault ≡ ForFault.NoMemory) }
 {
     match schedule {
-        Schedule::Sharded(sharding) => of_shards(workers, sharding, expr, dims, inputs, earlier),
-        Schedule::Ranged(leaf) => of_ranges(workers, leaf, expr, dims, inputs, earlier),
+        Schedule::Sharded(sharding) => {
+            let workers = workers.few(sharding.workers);
+            of_shards(&workers, sharding, expr, dims, inputs, earlier)
+        }
+        Schedule::Ranged(count, leaf) => {
+            let workers = workers.few(count);
+            of_ranges(&workers, leaf, expr, dims, inputs, earlier)
+        }
     }
 }

@@ -19,21 +19,39 @@ pub(crate) struct Workers<'a, RT> {
     pub(crate) alloc: Global,
     pub(crate) setup: &'a Setup,
     pub(crate) block: u64,
+    /// How many of them take part in a step.
+    pub(crate) count: u32,
     ghost some: { 0 < block },
     ghost pool: { IsPoolSize setup.now.workers },
     ghost partitions: { AreNoPartitions setup.now.workers setup.now.partitions.items → ⊥ },
 }
 
-impl<RT: Threads + Wait + Sync> Workers<'_, RT> {
+impl<'a, RT> Workers<'a, RT> {
     /// What leaves are sized for.
     pub(crate) fn grain(&self) -> Grain {
         Grain {
-            workers: u64::from(self.setup.workers),
+            workers: self.setup.workers,
             block: self.block,
         }
     }
 
-    /// The items of a kernel at the places below `n`, so many at a time.
+    /// So many of them, or all where there are no more.
+    pub(crate) fn few(&self, count: u32) -> Workers<'a, RT>
+        ensures { result.count ≡ count }
+    {
+        Workers {
+            rt: self.rt,
+            alloc: self.alloc,
+            setup: self.setup,
+            block: self.block,
+            count,
+        }
+    }
+}
+
+impl<RT: Threads + Wait + Sync> Workers<'_, RT> {
+    /// The items of a kernel at the places below `n`, so many at a time on the workers that take
+    /// part. Where that is one, it is the calling thread, which works all of them out in one go.
     pub(crate) fn items<K>(&self, kernel: &K, n: u64, leaf: u64) -> Result<Vec<K::Item>, ForFault>
     where
         K: Kernel + Sync,
@@ -44,6 +62,16 @@ impl<RT: Threads + Wait + Sync> Workers<'_, RT> {
         ensures items { IfOk result (λ items. AreItems (K.item_at kernel.now) 0 n items.items) }
         ensures faults { IfErr result (λ fault. fault ≡ ForFault.NoMemory) }
     {
-        parallel_for(self.rt, self.alloc, self.setup, kernel, n, leaf)
+        if self.count <= 1 {
+            return parallel_for(self.rt, self.alloc, self.setup, kernel, n, n.max(1));
+        }
+        if self.count >= self.setup.workers {
+            return parallel_for(self.rt, self.alloc, self.setup, kernel, n, leaf);
+        }
+        let fewer = Setup {
+            workers: self.count,
+            partitions: Vec::new(self.alloc),
+        };
+        parallel_for(self.rt, self.alloc, &fewer, kernel, n, leaf)
     }
 }

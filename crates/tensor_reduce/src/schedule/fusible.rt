@@ -12,12 +12,6 @@ use tensor_ops::{Binary, Expr, Movement, Node, Unary};
 /// An operand of at most so many values is a tensor of its own, though it is read once.
 pub(crate) const SHORT: u64 = 4096;
 
-/// How many operations on single values take as long as to start workers.
-const STARTED: u64 = 524_288;
-
-/// How many take as long as to bring a value from a worker's piece into the list of all.
-const JOINED: u64 = 3;
-
 /// Whether a step has many values, each of which can be worked out as it is read. Those of a step
 /// that combines are worked out together, by all workers.
 pub(crate) fn is_fusible(step: &Step) -> bool {
@@ -67,27 +61,5 @@ fn keeps_strides(movement: Movement<'_>) -> bool {
         | Movement::Chip(_, _)
         | Movement::Stride(_) => true,
         Movement::Reshape(_) | Movement::Reverse(_) => false,
-    }
-}
-
-/// Whether one thread works a step's values out into one list as soon as so many workers do, whose
-/// pieces one thread joins.
-pub(crate) fn is_soon_done(step: &Step, workers: u64) -> bool {
-    let more = operations(step.expr()).saturating_sub(JOINED);
-    is_fusible(step) && (workers <= 1 || more.saturating_mul(step.dims().size()) <= STARTED)
-}
-
-/// How many operations an expression is of.
-fn operations(expr: &Expr) -> u64 {
-    match expr.node() {
-        Node::Input(_) => 0,
-        Node::Unary(_, a) => operations(a).saturating_add(1),
-        Node::Binary(_, a, b) => operations(a)
-            .saturating_add(operations(b))
-            .saturating_add(1),
-        Node::Ternary(_, a, b, c) => operations(a)
-            .saturating_add(operations(b))
-            .saturating_add(operations(c))
-            .saturating_add(1),
     }
 }

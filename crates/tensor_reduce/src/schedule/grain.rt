@@ -2,6 +2,9 @@
 
 ghost use Rattle.std.specs.Prelude.{◌<◌};
 
+use crate::schedule::worth::Load;
+use crate::shards::MOST_SHARDS;
+
 /// How many leaves of values that are combinations there are for each worker, so that none waits
 /// long for the last.
 const SHARES: u64 = 4;
@@ -23,12 +26,37 @@ const WIDE: u64 = 256;
 /// What leaves are sized for: so many workers, which take at most a block of places at a time.
 #[derive(Clone, Copy, Drop)]
 pub(crate) struct Grain {
-    pub(crate) workers: u64,
+    pub(crate) workers: u32,
     pub(crate) block: u64,
     ghost some: { 0 < block },
 }
 
 impl Grain {
+    /// For the workers that are worth their start where so many values cost so much: a leaf is a
+    /// block of them.
+    pub(crate) fn for_values(self, values: u64, cost: u64) -> Grain {
+        self.for_load(Load::new(values, cost, values / self.block))
+    }
+
+    /// The same of a contraction, whose leaves are whole columns and never small.
+    pub(crate) fn for_columns(self, values: u64, cost: u64) -> Grain {
+        self.for_load(Load::new(values, cost, 0))
+    }
+
+    /// The same of few values that combine those of so many places, in shards of a block.
+    pub(crate) fn for_shards(self, values: u64, places: u64, cost: u64) -> Grain {
+        let most = values.saturating_mul(MOST_SHARDS);
+        self.for_load(Load::new(values, cost, most.min(places / self.block)))
+    }
+
+    /// For the workers that are worth their start, of those that are there.
+    fn for_load(self, load: Load) -> Grain {
+        Grain {
+            workers: load.workers(self.workers),
+            block: self.block,
+        }
+    }
+
     /// How many values a leaf has of a step that combines values of so many places: a block at
     /// most, and so few that there is a leaf for each block of the places, up to some for each
     /// worker.
@@ -70,7 +98,7 @@ impl Grain {
         requires rows { 0 < rows }
     {
         let shares = if all <= FEW_COLUMNS {
-            shares.min(self.workers.max(1))
+            shares.min(u64::from(self.workers.max(1)))
         } else {
             shares
         };
@@ -82,7 +110,7 @@ impl Grain {
     fn wide(self, all: u64, shares: u64) -> u64
         requires shares { 0 < shares }
     {
-        let workers = self.workers.max(1);
+        let workers = u64::from(self.workers.max(1));
         let turns = all.div_ceil(workers.saturating_mul(WIDE).max(1)).max(1);
         let shares = shares.min(workers.saturating_mul(turns).max(1));
         let columns = all.div_ceil(shares).max(WIDE / 2);
@@ -94,7 +122,7 @@ impl Grain {
     fn shares(self, places: u64) -> u64
         ensures { 0 < result }
     {
-        let most = self.workers.saturating_mul(SHARES);
+        let most = u64::from(self.workers).saturating_mul(SHARES);
         most.min(places / self.block).max(1)
     }
 }

@@ -4,10 +4,11 @@
 ghost use Rattle.std.specs.Prelude.{◌≡◌, ◌<◌, ◌++◌, length, IfSome};
 
 use crate::cutting::NUMBERS;
+use crate::schedule::cost::cost_of;
 use crate::schedule::grain::Grain;
 use crate::schedule::places_read::{is_read_in_any_order, places_combined, rows_of_column};
 use crate::schedule::readers::{are_read_elsewhere, are_reading};
-use crate::schedule::{Operand, Schedule};
+use crate::schedule::{Costed, Operand, Schedule};
 use crate::step::Step;
 use tensor_ops::{Inputs, Tensor};
 
@@ -48,7 +49,9 @@ impl<'a> Next<'a> {
         let step = &left[0];
         let places = places_combined(step.expr(), inputs, earlier);
         let rows = rows_of_column(step.expr(), inputs, earlier);
-        Next::Alone(step, Schedule::of_step(step, places, rows, grain))
+        let cost = cost_of(step, inputs, earlier, left);
+        let schedule = Schedule::of_step(Costed { step, cost }, places, rows, grain);
+        Next::Alone(step, schedule)
     }
 
     /// The second of these steps, with the first fused into it.
@@ -66,12 +69,17 @@ impl<'a> Next<'a> {
             return None;
         };
         let number = u64::from(inputs.len()) + earlier.len() as u64;
-        let operand = Operand {
+        let costed = Costed {
             step: first,
-            number,
+            cost: cost_of(first, inputs, earlier, left),
         };
+        let operand = Operand { costed, number };
         let in_any_order = is_read_in_any_order(first.expr(), inputs, earlier);
-        let Some(schedule) = Schedule::of_fused(operand, in_any_order, second, grain) else {
+        let reader = Costed {
+            step: second,
+            cost: cost_of(second, inputs, earlier, left),
+        };
+        let Some(schedule) = Schedule::of_fused(operand, in_any_order, reader, grain) else {
             return None;
         };
         if number >= NUMBERS || are_reading(later, number as u32) {
@@ -95,11 +103,20 @@ impl<'a> Next<'a> {
             return None;
         };
         let number = u64::from(inputs.len()) + earlier.len() as u64;
-        let operand = Operand {
+        let costed = Costed {
             step: first,
-            number,
+            cost: cost_of(first, inputs, earlier, left),
         };
-        let Some(schedule) = Schedule::of_both_fused(operand, second, third, grain) else {
+        let operand = Operand { costed, number };
+        let other = Costed {
+            step: second,
+            cost: cost_of(second, inputs, earlier, left),
+        };
+        let reader = Costed {
+            step: third,
+            cost: cost_of(third, inputs, earlier, left),
+        };
+        let Some(schedule) = Schedule::of_both_fused(operand, other, reader, grain) else {
             return None;
         };
         if number + 1 >= NUMBERS || are_read_elsewhere(number as u32, second, later) {

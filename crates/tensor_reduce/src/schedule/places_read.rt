@@ -27,7 +27,11 @@ fn places_of(operand: &Expr, inputs: &Inputs, earlier: &[Tensor]) -> u64 {
 }
 
 /// The dims of the tensor that an operand is, among the inputs and those of earlier steps.
-fn dims_of<'a>(operand: &Expr, inputs: &'a Inputs, earlier: &'a [Tensor]) -> Option<&'a Dims> {
+pub(crate) fn dims_of<'a>(
+    operand: &Expr,
+    inputs: &'a Inputs,
+    earlier: &'a [Tensor],
+) -> Option<&'a Dims> {
     let Node::Input(number) = operand.node() else {
         return None;
     };

@@ -13,6 +13,8 @@ pub(crate) const FEW_VALUES: u64 = 64;
 /// How the values of a step are divided into shards.
 #[derive(Clone, Copy, Drop)]
 pub(crate) struct Sharding {
+    /// How many workers take part.
+    pub(crate) workers: u32,
     /// How many index lists a shard has, where there are not too many shards.
     pub(crate) width: u64,
     /// How many shards are worked out at a time.
@@ -26,6 +28,7 @@ impl Sharding {
     /// Shards of a block of index lists, each a leaf of its own.
     pub(crate) fn by_blocks(grain: Grain) -> Sharding {
         Sharding {
+            workers: grain.workers,
             width: grain.block,
             leaf: 1,
             few: grain.block,
@@ -37,24 +40,27 @@ impl Sharding {
         requires { 0 < leaf }
     {
         Sharding {
+            workers: grain.workers,
             width: MAX_ELEMENTS,
             leaf,
             few: grain.block,
         }
     }
 
-    /// Shards of what is worked out so many places at a time, where a value is over so many of them:
-    /// a leaf has as many places of one value, or whole values of as many. However few they are,
-    /// each may take long.
-    pub(crate) fn by_places(places: u64, run: u64) -> Sharding {
+    /// Shards of what so many workers work out so many places at a time, where a value is over so
+    /// many of them: a leaf has as many places of one value, or whole values of as many. However few
+    /// they are, each may take long.
+    pub(crate) fn by_places(workers: u32, places: u64, run: u64) -> Sharding {
         if places <= run {
             return Sharding {
+                workers,
                 width: places,
                 leaf: 1,
                 few: 0,
             };
         }
         Sharding {
+            workers,
             width: MAX_ELEMENTS,
             leaf: (places / run.max(1)).max(1),
             few: 0,

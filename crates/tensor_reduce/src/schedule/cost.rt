@@ -1,0 +1,156 @@
+//! What steps cost: about how long one thread takes for their values, in nanoseconds, by a table of
+//! what a thousand take, as an idle machine's thread works them out in cache.
+
+use crate::schedule::places_read::dims_of;
+use crate::schedule::rows::row_width;
+use crate::step::Step;
+use tensor_ops::{
+    Binary, BinaryScalar, Dims, Expr, Inputs, Movement, Node, Reducer, Tensor, Unary, UnaryScalar,
+};
+
+/// A thousand sums, differences or values without their sign.
+const SUMS: u64 = 200;
+
+/// A thousand products, comparisons or choices.
+const PRODUCTS: u64 = 400;
+
+/// A thousand values of a tensor that are read in rows.
+const IN_ROWS: u64 = 250;
+
+/// A thousand that are read in any other order.
+const SCATTERED: u64 = 800;
+
+/// A thousand values that are added up.
+const ADDED_UP: u64 = 400;
+
+/// A thousand that are combined in another way.
+const COMBINED: u64 = 800;
+
+/// A thousand products of a contraction or a convolution, added up.
+const MULTIPLIED: u64 = 200;
+
+/// A thousand places of a contraction's operands, read and packed.
+const PACKED: u64 = 350;
+
+/// A thousand values of a convolution, beside their products.
+const SLID: u64 = 2_000;
+
+/// Up to how many values an operand that is repeated is worked out once, before all leaves.
+const KEPT: u64 = 32_768;
+
+/// How long one thread works out a step, over inputs and the tensors of the steps before it and of
+/// those that are left. Its values are written by whoever takes them.
+pub(crate) fn cost_of(step: &Step, inputs: &Inputs, earlier: &[Tensor], left: &[Step]) -> u64 {
+    let values = step.dims().size();
+    let thousandfold = match step.expr().node() {
+        Node::Unary(Unary::Reduce(reducer, _), operand) => {
+            let places = size_of(operand, inputs, earlier, left);
+            places.saturating_mul(combining(reducer))
+        }
+        Node::Binary(Binary::Contract(pairs), first, second) => {
+            let width = match known_dims(first, inputs, earlier, left) {
+                Some(dims) => row_width(dims, pairs, true),
+                None => 1,
+            };
+            let (one, other) = (
+                size_of(first, inputs, earlier, left),
+                size_of(second, inputs, earlier, left),
+            );
+            let products = values.saturating_mul(width).saturating_mul(MULTIPLIED);
+            products.saturating_add(one.saturating_add(other).saturating_mul(PACKED))
+        }
+        Node::Binary(Binary::Convolve(_), _, kernel) => {
+            let width = size_of(kernel, inputs, earlier, left);
+            values.saturating_mul(width.saturating_mul(MULTIPLIED).saturating_add(SLID))
+        }
+        _ => values.saturating_mul(thousand_of(step.expr(), values)),
+    };
+    thousandfold / 1000
+}
+
+/// How many values an operand has that is a tensor of a known size, and else none.
+fn size_of(operand: &Expr, inputs: &Inputs, earlier: &[Tensor], left: &[Step]) -> u64 {
+    match known_dims(operand, inputs, earlier, left) {
+        Some(dims) => dims.size(),
+        None => 0,
+    }
+}
+
+/// The dims of an operand that is a tensor: an input, or that of a step, whether it is worked out
+/// or left.
+fn known_dims<'a>(
+    operand: &Expr,
+    inputs: &'a Inputs,
+    earlier: &'a [Tensor],
+    left: &'a [Step],
+) -> Option<&'a Dims> {
+    if let Some(dims) = dims_of(operand, inputs, earlier) {
+        return Some(dims);
+    }
+    let Node::Input(number) = operand.node() else {
+        return None;
+    };
+    let before = u64::from(inputs.len()) + earlier.len() as u64;
+    let step = left.get(u64::from(number).checked_sub(before)? as usize)?;
+    Some(step.dims())
+}
+
+/// What a thousand values of an expression take, of which so many are asked for.
+fn thousand_of(expr: &Expr, places: u64) -> u64 {
+    match expr.node() {
+        Node::Input(_) | Node::Unary(Unary::Constant(_), _) => 0,
+        Node::Unary(Unary::Move(Movement::Broadcast(counts)), a) => {
+            if places / times(counts).max(1) <= KEPT {
+                return IN_ROWS;
+            }
+            thousand_of(a, places).saturating_add(IN_ROWS)
+        }
+        Node::Unary(operation, a) => thousand_of(a, places).saturating_add(one_operand(operation)),
+        Node::Binary(operation, a, b) => thousand_of(a, places)
+            .saturating_add(thousand_of(b, places))
+            .saturating_add(two_operands(operation)),
+        Node::Ternary(_, a, b, c) => thousand_of(a, places)
+            .saturating_add(thousand_of(b, places))
+            .saturating_add(thousand_of(c, places))
+            .saturating_add(PRODUCTS),
+    }
+}
+
+/// What a thousand values of an operation on one operand take beside it.
+fn one_operand(operation: Unary<'_>) -> u64 {
+    match operation {
+        Unary::Each(UnaryScalar::Neg | UnaryScalar::Abs) => SUMS,
+        Unary::Each(UnaryScalar::Square | UnaryScalar::Not) => PRODUCTS,
+        Unary::Move(Movement::Reshape(_)) | Unary::Constant(_) => 0,
+        Unary::Move(Movement::Shuffle(_) | Movement::Stride(_)) | Unary::Pad(_) => SCATTERED,
+        Unary::Move(_) => IN_ROWS,
+        Unary::Reduce(reducer, _) => combining(reducer),
+    }
+}
+
+/// What a thousand values of an operation on two operands take beside them.
+fn two_operands(operation: Binary<'_>) -> u64 {
+    match operation {
+        Binary::Pairwise(BinaryScalar::Add | BinaryScalar::Sub) => SUMS,
+        Binary::Pairwise(_) => PRODUCTS,
+        Binary::Concat(_) => SCATTERED,
+        Binary::Contract(_) | Binary::Convolve(_) => MULTIPLIED,
+    }
+}
+
+/// What a thousand values take that are combined.
+fn combining(reducer: Reducer) -> u64 {
+    match reducer {
+        Reducer::Sum => ADDED_UP,
+        _ => COMBINED,
+    }
+}
+
+/// How many times a broadcast repeats what it reads.
+fn times(counts: &[u64]) -> u64 {
+    let mut times = 1u64;
+    for count in counts {
+        times = times.saturating_mul(*count);
+    }
+    times
+}
