@@ -16,7 +16,7 @@ use Rattle.event_count.specs.declared.rule.RowSizes.{RowSizes}
 use Rattle.event_count.specs.declared.view.Card.{Card}
 use Rattle.event_count.specs.Cards.{exchange_of, only, card_in}
 use Rattle.event_count.specs.Gains.{looking, loading_by, hearing, may_notify, is_settled, prewaiting}
-use Rattle.event_count.specs.Gains.{commit_events, consuming_in, cancelling, signalling, Fits, IsHeard}
+use Rattle.event_count.specs.Gains.{commit_events, consuming, cancelling, signalling, Fits, IsHeard}
 use Rattle.event_count.specs.Kinds.{IsKind, MayCommit, MayPrewait}
 use Rattle.event_count.specs.Plays.{Sat, looks, prewaits, consumes, cancels, signals}
 use Rattle.event_count.specs.Shown.{CountState, ShowsWorld}
@@ -167,13 +167,13 @@ module _ (k : RowSizes) (slots id : ℕ) (me : Sat) (is : me.0 ≡ only (card_in
       → c.phase ≡ Pre → 0 < (fields_of old).signals → fields_of new ≡ consumed (fields_of old)
       → Exchanging k slots id me is (consumes rowed) old new
   consume_adds rowed old new kind may pre there offered =
-      exchange_adds k slots id me is (consuming_in rowed) old new (λ s shows at hit.
+      exchange_adds k slots id me is (consuming rowed) old new (λ s shows at hit.
       let history = shows.0 in let w = shows.1 in let r = shows.2 in
       let x = exchange_of old new old in let e = (shown_fields s.words).epoch in
       let here = ap fields_of (sym hit) ∙ word_shows k s shows in
       let given = ap (λ f. f.signals) here in
       let same = alike k s history w r id me.0 c at has rowed in
-      acted k slots id me is s shows at (consuming_in rowed c x) (λ ws was. was)
+      acted k slots id me is s shows at (consuming rowed c x) (λ ws was. was)
       (commit_events rowed c.number)
       (taken k s history w r id me.0 c at has rowed kind may pre) new
       (consume_fits k s history w r id me.0 c at has rowed kind may pre x (omega arith))

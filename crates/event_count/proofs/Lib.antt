@@ -11,6 +11,7 @@ pub mod First
 pub mod Following
 pub mod Fresh
 pub mod Keeps
+pub mod ByKind
 pub mod Looking
 pub mod PreSeats
 pub mod Retrying

@@ -4,6 +4,7 @@ use Rattle.event_word.specs.Fields.{fields_of}
 use Rattle.event_word.specs.Word.{popped, IsNotify}
 use Rattle.event_count.specs.declared.view.Card.{Card}
 use Rattle.event_count.specs.Gains.{storing}
+use Rattle.event_count.specs.Kinds.{without_rows}
 use Rattle.event_count.specs.Tries.{OffersPush, IsTryCommit, IsTryNotify, Misses}
 use Rattle.event_word.specs.declared.after.AfterNotify.TheVariants as after_notify
 use Rattle.event_count.specs.declared.answers.TryCommit.TheVariants as commit
@@ -11,7 +12,7 @@ use Rattle.event_count.specs.declared.answers.TryNotify.TheVariants as notify
 
 module _ (c d : Card) (word offered : ℕ) where
   pub lost_push : (next : ℕ) (b : Card) → b ≡ storing c next → OffersPush c word offered next
-      → Misses b word offered d → IsTryCommit c word commit.Contended d
+      → Misses b word offered d → IsTryCommit without_rows c word commit.Contended d
   lost_push next b same offers misses =
       (offered, next, inr (inl (offers, subst (λ x. Misses x word offered d) same misses)))
 

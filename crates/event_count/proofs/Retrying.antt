@@ -8,13 +8,13 @@ use Rattle.event_word.specs.Fields.{fields_of}
 use Rattle.event_word.specs.Word.{nobody, IsSettled}
 use Rattle.event_count.specs.declared.rule.RowSizes.{RowSizes}
 use Rattle.event_count.specs.declared.view.Card.{Card}
-use Rattle.event_count.specs.Gains.{looking, loading, reading, storing, unparking, IsLoadIn}
-use Rattle.event_count.specs.Gains.{IsLookIn}
+use Rattle.event_count.specs.Gains.{looking, loading, reading, storing, unparking, IsLoad}
+use Rattle.event_count.specs.Gains.{IsLook}
 use Rattle.event_count.specs.Kinds.{MayCommit}
 use Rattle.event_count.specs.Tries.{OffersConsume, OffersPush, OffersSpent, OffersSignal}
-use Rattle.event_count.specs.Tries.{OffersPop, Misses, IsTryCommitIn, IsTryCancel, IsTryNotify}
+use Rattle.event_count.specs.Tries.{OffersPop, Misses, IsTryCommit, IsTryCancel, IsTryNotify}
 use Rattle.event_count.specs.Tries.{IsTryNotifyAll}
-use Rattle.event_count.specs.Waits.{IsLater, RestsOnCancelIn, RestsOnNotifyIn}
+use Rattle.event_count.specs.Waits.{IsLater, RestsOnCancel, RestsOnNotify}
 use Rattle.event_count.specs.declared.answers.TryNotify.TheVariants as notify
 use Rattle.event_count.specs.declared.answers.TryNotifyAll.TheVariants as notify_all
 use Rattle.event_count.specs.declared.answers.TryCommit.TheVariants as commit
@@ -92,12 +92,12 @@ module _ (a b : Card) (later : IsLater a b) (word : ℕ) (x : Card) where
   module _ (rowed : Bool) where
     -- a load that ends no announcement
     pub later_load_in : (b.phase ≡ Running → IsSettled (fields_of word) → ⊥)
-        → IsLoadIn rowed b word x → IsLater a x
+        → IsLoad rowed b word x → IsLater a x
     later_load_in never load =
         later_load a b later word x (load ∙ loading-looking rowed b word never)
 
     pub later_look : (b.phase ≡ Running → IsSettled (fields_of word) → ⊥)
-        → IsLookIn rowed b word x → IsLater a x
+        → IsLook rowed b word x → IsLater a x
     later_look never look = looked _
         (subst (λ d. MatchBool ((fields_of word).top == nobody) (x ≡ d)
         ((next : ℕ) × (x ≡ reading d next))) (loading-looking rowed b word never) look)
@@ -142,13 +142,13 @@ later_then a b c first next = record {
 }
 
 -- a cancel, or a notification, of a later seat is one of the seat
-pub rests_cancel : (rowed : Bool) (a b d : Card) → IsLater a b → RestsOnCancelIn rowed b d
-    → RestsOnCancelIn rowed a d
+pub rests_cancel : (rowed : Bool) (a b d : Card) → IsLater a b → RestsOnCancel rowed b d
+    → RestsOnCancel rowed a d
 rests_cancel rowed a b d later (before, after, more, rest) =
     (before, after, later_then a b before later more, rest)
 
-pub rests_notify : (rowed : Bool) (a b d : Card) → IsLater a b → RestsOnNotifyIn rowed b d
-    → RestsOnNotifyIn rowed a d
+pub rests_notify : (rowed : Bool) (a b d : Card) → IsLater a b → RestsOnNotify rowed b d
+    → RestsOnNotify rowed a d
 rests_notify rowed a b d later (before, after, more, rest) =
     (before, after, later_then a b before later more, rest)
 
@@ -193,7 +193,7 @@ never_pre : (c : Card) → c.phase ≡ Pre → (word : ℕ) → c.phase ≡ Runn
 never_pre c pre word running settled = absurd (let both = sym running ∙ pre in cc)
 
 module _ (rowed : Bool) (a b x d : Card) (word : ℕ) (later : IsLater a b)
-    (load : IsLoadIn rowed b word x) where
+    (load : IsLoad rowed b word x) where
   module _ (pre : a.phase ≡ Pre) where
     pub later_pre : IsLater a x
     later_pre = later_load_in a b later word x rowed (never_pre b (later.phase ∙ pre) word) load
@@ -201,7 +201,7 @@ module _ (rowed : Bool) (a b x d : Card) (word : ℕ) (later : IsLater a b)
     pub lost_cancel : IsTryCancel x word cancel.Contended d → IsLater a d
     lost_cancel (offered, offers, misses) = later_missed a x later_pre word offered d misses
 
-    pub lost_commit : IsTryCommitIn rowed x word commit.Contended d → IsLater a d
+    pub lost_commit : IsTryCommit rowed x word commit.Contended d → IsLater a d
     lost_commit (offered, next, lost) = by_lost lost
       where
         by_lost : (OffersConsume x word offered × Misses x word offered d)
@@ -226,7 +226,7 @@ unsettled c word offered seat (inr pop) settled = pop.0.1 settled.empty
 
 -- of a notification that looked
 pub lost_notify : (rowed : Bool) (a b x d : Card) (o : Option ℕ) (word : ℕ) → IsLater a b
-    → IsLookIn rowed b word x → o ≡ Some word
+    → IsLook rowed b word x → o ≡ Some word
     → IfSome o (λ m. IsTryNotify x m notify.Contended d) → IsLater a d
 lost_notify rowed a b x d (Some m) word later look is (offered, seat, offers, misses) =
     let same : m ≡ word = cc in
@@ -236,7 +236,7 @@ lost_notify rowed a b x d (Some m) word later look is (offered, seat, offers, mi
 lost_notify rowed a b x d None word later look is lost = absurd (cc)
 
 -- a look leaves what the seat owes
-look_owing : (rowed : Bool) (c x : Card) (word : ℕ) → IsLookIn rowed c word x → x.owing ≡ c.owing
+look_owing : (rowed : Bool) (c x : Card) (word : ℕ) → IsLook rowed c word x → x.owing ≡ c.owing
 look_owing rowed c x word look = by_top ((fields_of word).top == nobody) look
   where
     by_top : (empty : Bool) → MatchBool empty (x ≡ loading rowed c word)
@@ -253,10 +253,10 @@ unparked_one (Some n) t d seat none_there unparks owing = unparks n refl
 
 -- a notification that popped a seat, and unparked it
 pub rests_popped : (rowed : Bool) (a b x t d : Card) (looked_word answer : Option ℕ) (word seat : ℕ)
-    → IsLater a b → IsLookIn rowed b word x → looked_word ≡ Some word
+    → IsLater a b → IsLook rowed b word x → looked_word ≡ Some word
     → IfSome looked_word (λ m. IsTryNotify x m (notify.Popped seat) t) → a.owing ≡ []
     → ((answer ≡ None) ↔ (t.owing ≡ [])) → ForSome answer (λ _. d ≡ unparking t)
-    → RestsOnNotifyIn rowed a d
+    → RestsOnNotify rowed a d
 rests_popped rowed a b x t d None answer word seat later look is try owes_none none_there unparks =
     absurd (cc)
 rests_popped rowed a b x t d (Some m) answer word seat later look is (offered, offers, hits)
@@ -270,7 +270,7 @@ rests_popped rowed a b x t d (Some m) answer word seat later look is (offered, o
       later,
       (
         m,
-        subst (λ n. IsLookIn rowed b n x) (sym same) look,
+        subst (λ n. IsLook rowed b n x) (sym same) look,
         (
           notify.Popped seat,
           t,

@@ -24,7 +24,7 @@ use Rattle.event_count.specs.declared.rule.RowSizes.{RowSizes}
 use Rattle.event_count.specs.declared.view.Card.{Card}
 use Rattle.event_count.specs.Places.{next_place}
 use Rattle.event_count.specs.Cards.{exchange_of, only, card_in}
-use Rattle.event_count.specs.Gains.{commit_events, pushing_in, popping, reading, storing}
+use Rattle.event_count.specs.Gains.{commit_events, pushing, popping, reading, storing}
 use Rattle.event_count.specs.Kinds.{IsKind, MayCommit}
 use Rattle.event_count.specs.Plays.{Sat, pushes, pops, reads, stores}
 use Rattle.event_count.specs.Shown.{CountState, ShowsWorld}
@@ -138,7 +138,7 @@ module _ (k : RowSizes) (slots id : ℕ) (me : Sat) (is : me.0 ≡ only (card_in
       → fields_of c.stored ≡ below (fields_of old)
       → Exchanging k slots id me is (pushes rowed) old new
   push_adds rowed old new kind may pre none_given offered stored =
-      exchange_adds k slots id me is (pushing_in rowed) old new (λ s shows at hit.
+      exchange_adds k slots id me is (pushing rowed) old new (λ s shows at hit.
       let history = shows.0 in let w = shows.1 in let r = shows.2 in
       let x = exchange_of old new old in let e = (shown_fields s.words).epoch in
       let here = ap fields_of (sym hit) ∙ word_shows k s shows in
@@ -147,7 +147,7 @@ module _ (k : RowSizes) (slots id : ℕ) (me : Sat) (is : me.0 ≡ only (card_in
       let same = alike k s history w r id me.0 c at has rowed in
       let u = park (ready k s history w r id me.0 c at has rowed) c.number in
       let stack : u.stack ≡ c.number ∷ w.stack = ap (λ xs. c.number ∷ xs) same.stack in
-      let d = pushing_in rowed c x in
+      let d = pushing rowed c x in
       let es = next_epoch k history in let es' = next_epoch k (history ++ events) in
       let words' = slice_set s.words STATE new in
       let f = push_fits k s history w r id me.0 c at has rowed kind may pre x (omega arith) in

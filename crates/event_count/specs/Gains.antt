@@ -12,7 +12,6 @@ use Rattle.event_word.specs.Fields.{fields_of}
 use Rattle.event_word.specs.Word.{nobody, IsSettled}
 use Rattle.event_count.specs.declared.view.Exchange.{Exchange}
 use Rattle.event_count.specs.declared.view.Card.{Card}
-use Rattle.event_count.specs.Kinds.{without_rows}
 
 -- after a load that gave this word
 abbrev pub looking : Card → ℕ → Card
@@ -73,11 +72,8 @@ loading true c word = hearing c word
 loading false c word = looking c word
 
 -- a load that gave this word
-abbrev pub IsLoadIn : Bool → Card → ℕ → Card → Type 0
-IsLoadIn rowed c word d = d ≡ loading rowed c word
-
-abbrev pub IsLoad : Card → ℕ → Card → Type 0
-IsLoad c word d = IsLoadIn without_rows c word d
+abbrev pub IsLoad : Bool → Card → ℕ → Card → Type 0
+IsLoad rowed c word d = d ≡ loading rowed c word
 
 -- where this word has somebody on the stack, the top's next word was loaded
 abbrev pub IsRead : Card → ℕ → Card → Type 0
@@ -85,11 +81,8 @@ IsRead c word d = MatchBool ((fields_of word).top == nobody) (d ≡ c)
     ((next : ℕ) × (d ≡ reading c next))
 
 -- after a look: where somebody is on the stack, the top's next word was loaded too
-abbrev pub IsLookIn : Bool → Card → ℕ → Card → Type 0
-IsLookIn rowed c word d = IsRead (loading rowed c word) word d
-
-abbrev pub IsLook : Card → ℕ → Card → Type 0
-IsLook c word d = IsLookIn without_rows c word d
+abbrev pub IsLook : Bool → Card → ℕ → Card → Type 0
+IsLook rowed c word d = IsRead (loading rowed c word) word d
 
 -- after a prewait: the seat has passed nothing since
 abbrev pub prewaiting : Card → Card
@@ -104,22 +97,16 @@ commit_events true seat = Commit seat ∷ []
 commit_events false seat = PassFlag seat ∷ Commit seat ∷ []
 
 -- after a commit that took a signal
-abbrev pub consuming_in : Bool → Card → Exchange → Card
-consuming_in rowed c x = record
+abbrev pub consuming : Bool → Card → Exchange → Card
+consuming rowed c x = record
     (gaining (exchanging c x) Running (commit_events rowed c.number)) { passed_flag = true }
 
-abbrev pub consuming : Card → Exchange → Card
-consuming c x = consuming_in without_rows c x
-
 -- after a commit that pushed the seat, which used its epoch
-abbrev pub pushing_in : Bool → Card → Exchange → Card
-pushing_in rowed c x = record (gaining (exchanging c x) Stacked (commit_events rowed c.number)) {
+abbrev pub pushing : Bool → Card → Exchange → Card
+pushing rowed c x = record (gaining (exchanging c x) Stacked (commit_events rowed c.number)) {
   passed_flag = true;
   epoch = c.epoch + 1;
 }
-
-abbrev pub pushing : Card → Exchange → Card
-pushing c x = pushing_in without_rows c x
 
 -- after a cancel, or a commit that is spent
 abbrev pub cancelling : Card → Exchange → Card

@@ -22,6 +22,7 @@ use Rattle.event_count.specs.Written.{shown_fields}
 use Rattle.event_count.specs.Known.{world_at_first, events_of, Each}
 use Rattle.event_count.specs.Shown.{CountState, Shows}
 use Rattle.event_count.specs.Tries.{IsTryCommit}
+use Rattle.event_count.specs.Kinds.{without_rows}
 use Rattle.event_count.specs.Counts.{CardCounts}
 
 -- a rule for counts, by their sizes
@@ -67,7 +68,7 @@ SeatsStandOnce =
 
 -- an exchange that pushed its seat found the looked word, and no signal in it
 abbrev pub ExchangesFoundNoSignal : Type 0
-ExchangesFoundNoSignal = (c d : Card) (word : ℕ) → IsTryCommit c word commit.Pushed d
+ExchangesFoundNoSignal = (c d : Card) (word : ℕ) → IsTryCommit without_rows c word commit.Pushed d
     → (d.exchange.found ≡ word) × ((fields_of d.exchange.found).signals ≡ 0)
 
 -- wherever a commit in the history pushed its seat, there was no signal before it

@@ -9,7 +9,7 @@ use Rattle.event_count.specs.declared.view.View.{View}
 use Rattle.event_count.specs.Places.{next_place, parker_place}
 use Rattle.event_count.specs.Cards.{exchange_of, spent, only, card_in}
 use Rattle.event_count.specs.Gains.{loading, reading, storing, polling, exchanging, prewaiting}
-use Rattle.event_count.specs.Gains.{consuming_in, pushing_in, cancelling, signalling, popping}
+use Rattle.event_count.specs.Gains.{consuming, pushing, cancelling, signalling, popping}
 use Rattle.event_count.specs.Gains.{taking, foremost, behind, unparking, waking, Fits, IsHeard}
 use Rattle.event_count.specs.Gains.{NamesFirst}
 
@@ -60,10 +60,10 @@ abbrev pub becomes : (Card → Exchange → Card) → Gain
 becomes gains c x after = after ≡ only (gains c x)
 
 abbrev pub consumes : Bool → Gain
-consumes rowed = becomes (consuming_in rowed)
+consumes rowed = becomes (consuming rowed)
 
 abbrev pub pushes : Bool → Gain
-pushes rowed = becomes (pushing_in rowed)
+pushes rowed = becomes (pushing rowed)
 
 abbrev pub cancels : Gain
 cancels = becomes cancelling

@@ -6,8 +6,8 @@ use Rattle.event_count.specs.declared.rule.Sizes.{Sizes}
 use Rattle.event_count.specs.declared.rule.RowSizes.{RowSizes}
 use Rattle.event_count.specs.declared.view.Card.{Card}
 use Rattle.event_count.specs.declared.seat.Seat.{Seat}
-use Rattle.event_count.specs.declared.counter.Counter.{Counter}
-use Rattle.event_count.specs.declared.count.EventCount.{EventCount}
+use Rattle.event_count.specs.declared.kind.Kind.{Ghosts}
+use Rattle.event_count.specs.declared.count.Count.{Count}
 use Rattle.event_count.specs.Cards.{card_in, sizes_in}
 
 -- what a seat has done, and what it knows of itself
@@ -31,29 +31,23 @@ pub record IsIdle (seat : Seat) : Type 0 where
   pub running : (card_of seat).phase ≡ Running
   pub owes_none : (card_of seat).owing ≡ []
 
-module _ {A : Type 0} where
-  -- the sizes of what lies under a count of either kind, which it is, and whose seats are its own
-  abbrev pub key_of : Counter A → RowSizes
-  key_of counter = counter.table.shared.key
-
-  abbrev pub counter_id : Counter A → TableId
-  counter_id counter = counter.table.shared.table_id
-
-  abbrev pub IsAt : Counter A → Seat → Type 0
-  IsAt counter seat = seat_id seat ≡ counter_id counter
+module _ {K A : Type 0} {G : Ghosts K} where
+  -- the sizes that a count was made with, those of rows too
+  abbrev pub row_sizes_of : Count K A G → RowSizes
+  row_sizes_of count = count.table.shared.key
 
   -- how many seats a count was made with, by kind
-  abbrev pub sizes_of : EventCount A → Sizes
-  sizes_of count = sizes_in (key_of count.counter)
+  abbrev pub sizes_of : Count K A G → Sizes
+  sizes_of count = sizes_in (row_sizes_of count)
 
   -- how many seats a count was made with
-  abbrev pub seats_of : EventCount A → ℕ
+  abbrev pub seats_of : Count K A G → ℕ
   seats_of count = (sizes_of count).waiters + (sizes_of count).notifiers
 
   -- which count it is
-  abbrev pub count_id : EventCount A → TableId
-  count_id count = counter_id count.counter
+  abbrev pub count_id : Count K A G → TableId
+  count_id count = count.table.shared.table_id
 
   -- the seat was made by the count
-  abbrev pub IsSeatOf : EventCount A → Seat → Type 0
+  abbrev pub IsSeatOf : Count K A G → Seat → Type 0
   IsSeatOf count seat = seat_id seat ≡ count_id count

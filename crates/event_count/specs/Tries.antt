@@ -16,9 +16,8 @@ use Rattle.event_count.specs.declared.answers.TryNotifyAll.TheVariants as notify
 use Rattle.event_count.specs.declared.view.Exchange.{Exchange}
 use Rattle.event_count.specs.declared.view.Card.{Card}
 use Rattle.event_count.specs.Limits.{epoch_limit}
-use Rattle.event_count.specs.Kinds.{without_rows}
 use Rattle.event_count.specs.Cards.{exchange_of}
-use Rattle.event_count.specs.Gains.{exchanging, storing, consuming_in, pushing_in, cancelling}
+use Rattle.event_count.specs.Gains.{exchanging, storing, consuming, pushing, cancelling}
 use Rattle.event_count.specs.Gains.{signalling, popping, taking, NamesFirst}
 
 -- an exchange of the looked word for this one that found another: nothing else has changed
@@ -55,21 +54,17 @@ OffersSpent c word offered = (c.epoch ≡ epoch_limit) × OffersCancel word offe
 
 -- a commit takes a signal that the looked word has; where it has none, the seat is pushed, over the
 -- stack and epoch that it stored before. Where no epoch is left, it cancels.
-abbrev pub IsTryCommitIn : Bool → Card → ℕ → TryCommit → Card → Type 0
-IsTryCommitIn rowed c word commit.Consumed d =
-    (offered : ℕ) × OffersConsume c word offered × Hits (consuming_in rowed) c word offered d
-IsTryCommitIn rowed c word commit.Pushed d = (offered next : ℕ)
-    × OffersPush c word offered next × Hits (pushing_in rowed) (storing c next) word offered d
-IsTryCommitIn rowed c word commit.Spent d =
+abbrev pub IsTryCommit : Bool → Card → ℕ → TryCommit → Card → Type 0
+IsTryCommit rowed c word commit.Consumed d =
+    (offered : ℕ) × OffersConsume c word offered × Hits (consuming rowed) c word offered d
+IsTryCommit rowed c word commit.Pushed d = (offered next : ℕ)
+    × OffersPush c word offered next × Hits (pushing rowed) (storing c next) word offered d
+IsTryCommit rowed c word commit.Spent d =
     (offered : ℕ) × OffersSpent c word offered × Hits cancelling c word offered d
-IsTryCommitIn rowed c word commit.Contended d = (offered next : ℕ)
+IsTryCommit rowed c word commit.Contended d = (offered next : ℕ)
     × ((OffersConsume c word offered × Misses c word offered d)
     ⊎ ((OffersPush c word offered next × Misses (storing c next) word offered d)
     ⊎ (OffersSpent c word offered × Misses c word offered d)))
-
--- the same at a count alone
-abbrev pub IsTryCommit : Card → ℕ → TryCommit → Card → Type 0
-IsTryCommit c word answer d = IsTryCommitIn without_rows c word answer d
 
 -- a cancel takes the seat from the pre-waiters
 abbrev pub IsTryCancel : Card → ℕ → TryCancel → Card → Type 0

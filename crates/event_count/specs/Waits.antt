@@ -9,9 +9,8 @@ use Rattle.event_count.specs.declared.answers.TryNotifyAll.TheVariants as notify
 use Rattle.event_count.specs.declared.answers.Committed.{Committed}
 use Rattle.event_count.specs.declared.answers.Committed.TheVariants as committed
 use Rattle.event_count.specs.declared.view.Card.{Card}
-use Rattle.event_count.specs.Kinds.{without_rows}
-use Rattle.event_count.specs.Gains.{IsLoadIn, IsLookIn, unparking, settling, waking}
-use Rattle.event_count.specs.Tries.{IsTryCommitIn, IsTryCancel, IsTryNotify, IsTryNotifyAll}
+use Rattle.event_count.specs.Gains.{IsLoad, IsLook, unparking, settling, waking}
+use Rattle.event_count.specs.Tries.{IsTryCommit, IsTryCancel, IsTryNotify, IsTryNotifyAll}
 
 -- the same seat after looks, exchanges that found another word, and stores in its own next word
 pub record IsLater (c d : Card) : Type 0 where
@@ -47,26 +46,19 @@ abbrev pub Sleeps : Card → Card → Type 0
 Sleeps c d = (polls : ℕ) × (c.polls < polls) × (d ≡ waking (polled c polls))
 
 -- a commit that has ended rests on one try that did; one that pushed the seat has slept since
-abbrev pub RestsOnCommitIn : Bool → Card → Committed → Card → Type 0
-RestsOnCommitIn rowed c committed.Consumed d = Rests (IsLoadIn rowed)
-    (λ before word. IsTryCommitIn rowed before word commit.Consumed) c d
-RestsOnCommitIn rowed c committed.Unparked d = Rests (IsLoadIn rowed)
-    (λ before word after. (tried : Card) × IsTryCommitIn rowed before word commit.Pushed tried
+abbrev pub RestsOnCommit : Bool → Card → Committed → Card → Type 0
+RestsOnCommit rowed c committed.Consumed d = Rests (IsLoad rowed)
+    (λ before word. IsTryCommit rowed before word commit.Consumed) c d
+RestsOnCommit rowed c committed.Unparked d = Rests (IsLoad rowed)
+    (λ before word after. (tried : Card) × IsTryCommit rowed before word commit.Pushed tried
     × Sleeps tried after) c d
-RestsOnCommitIn rowed c committed.Spent d =
-    Rests (IsLoadIn rowed) (λ before word. IsTryCommitIn rowed before word commit.Spent) c d
-
--- the same at a count alone
-abbrev pub RestsOnCommit : Card → Committed → Card → Type 0
-RestsOnCommit c answer d = RestsOnCommitIn without_rows c answer d
+RestsOnCommit rowed c committed.Spent d =
+    Rests (IsLoad rowed) (λ before word. IsTryCommit rowed before word commit.Spent) c d
 
 -- a cancel that has ended rests on one try that did
-abbrev pub RestsOnCancelIn : Bool → Card → Card → Type 0
-RestsOnCancelIn rowed c d =
-    Rests (IsLoadIn rowed) (λ before word. IsTryCancel before word cancel.Done) c d
-
-abbrev pub RestsOnCancel : Card → Card → Type 0
-RestsOnCancel c d = RestsOnCancelIn without_rows c d
+abbrev pub RestsOnCancel : Bool → Card → Card → Type 0
+RestsOnCancel rowed c d =
+    Rests (IsLoad rowed) (λ before word. IsTryCancel before word cancel.Done) c d
 
 -- a notification that found nothing to do, or gave a signal, is done; one that popped a seat has
 -- unparked it
@@ -77,13 +69,10 @@ EndsNotify (notify.Popped seat) c d = (c.owing ≡ seat ∷ []) × (d ≡ unpark
 EndsNotify notify.Contended c d = ⊥
 
 -- a notification that has ended rests on one try that did
-abbrev pub RestsOnNotifyIn : Bool → Card → Card → Type 0
-RestsOnNotifyIn rowed c d = Rests (IsLookIn rowed)
+abbrev pub RestsOnNotify : Bool → Card → Card → Type 0
+RestsOnNotify rowed c d = Rests (IsLook rowed)
     (λ before word after. (answer : TryNotify) × (tried : Card)
     × IsTryNotify before word answer tried × EndsNotify answer tried after) c d
-
-abbrev pub RestsOnNotify : Card → Card → Type 0
-RestsOnNotify c d = RestsOnNotifyIn without_rows c d
 
 -- a notification of all that took the stack has unparked each of its seats
 abbrev pub EndsNotifyAll : TryNotifyAll → Card → Card → Type 0
@@ -92,10 +81,7 @@ EndsNotifyAll notify_all.Taken c d = d ≡ settling c
 EndsNotifyAll notify_all.Contended c d = ⊥
 
 -- a notification of all that has ended rests on one try that did
-abbrev pub RestsOnNotifyAllIn : Bool → Card → Card → Type 0
-RestsOnNotifyAllIn rowed c d = Rests (IsLoadIn rowed)
+abbrev pub RestsOnNotifyAll : Bool → Card → Card → Type 0
+RestsOnNotifyAll rowed c d = Rests (IsLoad rowed)
     (λ before word after. (answer : TryNotifyAll) × (tried : Card)
     × IsTryNotifyAll before word answer tried × EndsNotifyAll answer tried after) c d
-
-abbrev pub RestsOnNotifyAll : Card → Card → Type 0
-RestsOnNotifyAll c d = RestsOnNotifyAllIn without_rows c d

@@ -5,7 +5,7 @@ ghost use prog.Atomic.{either};
 ghost use Rattle.atomic_table.specs.Table.{step, Allows};
 ghost use Rattle.event_word.specs.declared.phase.Phase.TheVariants.{Running, Pre};
 
-use crate::counter::Counter;
+use crate::count::Count;
 use crate::kind::Kind;
 use crate::plays::{Cancels, Consumes, Exchanges, Gains, Pops, Pushes, Signals, Stores, TakesAll};
 use crate::rule::{STATE, next_word_of};
@@ -14,18 +14,18 @@ use crate::view::View;
 use event_word::{NOBODY, PRE_WAITER, Phase};
 use std::alloc::Allocator;
 
-impl<A: Allocator> Counter<A> {
+impl<K: Kind, A: Allocator> Count<K, A> {
     ghost use Rattle.event_word.specs.Fields.{fields_of};
     ghost use Rattle.event_word.specs.Word.{nobody, below, cancelled, consumed, pushed};
     ghost use Rattle.event_word.specs.Word.{signalled, popped, all_notified};
     ghost use Rattle.event_count.specs.Limits.{epoch_limit};
     ghost use Rattle.event_count.specs.Cards.{exchange_of, only, card_in};
-    ghost use Rattle.event_count.specs.Kinds.{IsKind, MayCommit};
-    ghost use Rattle.event_count.specs.Gains.{exchanging, storing, consuming_in, pushing_in};
+    ghost use Rattle.event_count.specs.Kinds.{MayCommit};
+    ghost use Rattle.event_count.specs.Gains.{exchanging, storing, consuming, pushing};
     ghost use Rattle.event_count.specs.Gains.{cancelling, signalling, popping, Fits};
     ghost use Rattle.event_count.specs.Plays.{exchanges};
     ghost use Rattle.event_count.specs.Shown.{ShowsWorld};
-    ghost use Rattle.event_count.specs.Seats.{card_of, looked_of, key_of, counter_id, IsAt};
+    ghost use Rattle.event_count.specs.Seats.{card_of, looked_of, row_sizes_of, count_id, IsSeatOf};
     ghost use Rattle.event_count.specs.Tries.{Meets, MeetsAll};
 
     // One exchange of the state word, which wants a looked word and offers another in its place.
@@ -36,10 +36,10 @@ impl<A: Allocator> Counter<A> {
         wanted: u64,
         offered: u64,
     ) -> bool
-        requires of { seat.old.table_id ≡ counter_id self.now }
-        requires allowed { Allows (ShowsWorld (key_of self.now)) (counter_id self.now).slots
+        requires of { seat.old.table_id ≡ count_id self.now }
+        requires allowed { Allows (ShowsWorld (row_sizes_of self.now)) (count_id self.now).slots
             seat.old.id seat.old.me STATE (λ word. either (word == wanted) offered word)
-            (exchanges G.gain (step (counter_id self.now).slots STATE wanted offered none)
+            (exchanges G.gain (step (count_id self.now).slots STATE wanted offered none)
             seat.old.me) }
         ensures of { seat.new.table_id ≡ seat.old.table_id }
         ensures slots { seat.new.me.1 ≡ seat.old.me.1 }
@@ -56,17 +56,16 @@ impl<A: Allocator> Counter<A> {
     }
 
     // A pre-waiter takes a signal.
-    pub(crate) fn consume<K: Kind>(&self, seat: &mut Seat, word: u64, offered: u64) -> bool
-        requires kind { IsKind K.rowed (key_of self.now) }
-        requires of { IsAt self.now seat.old }
-        requires passed { MayCommit K.rowed (key_of self.now) (card_of seat.old) }
+    pub(crate) fn consume(&self, seat: &mut Seat, word: u64, offered: u64) -> bool
+        requires of { IsSeatOf self.now seat.old }
+        requires passed { MayCommit K.rowed (row_sizes_of self.now) (card_of seat.old) }
         requires pre { (card_of seat.old).phase ≡ Pre }
         requires used { looked_of seat.old ≡ None }
         requires some { 0 < (fields_of word).signals }
         requires offered { fields_of offered ≡ consumed (fields_of word) }
-        ensures of { IsAt self.now seat.new }
+        ensures of { IsSeatOf self.now seat.new }
         ensures used { looked_of seat.new ≡ None }
-        ensures card { Meets (consuming_in K.rowed) (card_of seat.old) word offered result
+        ensures card { Meets (consuming K.rowed) (card_of seat.old) word offered result
             (card_of seat.new) }
     {
         if !self.exchange::<Consumes<K>>(&mut seat.seat, word, offered) {
@@ -78,11 +77,11 @@ impl<A: Allocator> Counter<A> {
 
     // Stores what the seat will have below it.
     pub(crate) fn store_next(&self, seat: &mut Seat, next: u64)
-        requires of { IsAt self.now seat.old }
+        requires of { IsSeatOf self.now seat.old }
         requires pre { (card_of seat.old).phase ≡ Pre }
         requires waiter { (card_of seat.old).number < (card_of seat.old).waiters }
         requires used { looked_of seat.old ≡ None }
-        ensures of { IsAt self.now seat.new }
+        ensures of { IsSeatOf self.now seat.new }
         ensures used { looked_of seat.new ≡ None }
         ensures card { card_of seat.new ≡ storing (card_of seat.old) next }
     {
@@ -93,10 +92,9 @@ impl<A: Allocator> Counter<A> {
     }
 
     // A pre-waiter goes onto the stack.
-    pub(crate) fn push<K: Kind>(&self, seat: &mut Seat, word: u64, offered: u64) -> bool
-        requires kind { IsKind K.rowed (key_of self.now) }
-        requires of { IsAt self.now seat.old }
-        requires passed { MayCommit K.rowed (key_of self.now) (card_of seat.old) }
+    pub(crate) fn push(&self, seat: &mut Seat, word: u64, offered: u64) -> bool
+        requires of { IsSeatOf self.now seat.old }
+        requires passed { MayCommit K.rowed (row_sizes_of self.now) (card_of seat.old) }
         requires pre { (card_of seat.old).phase ≡ Pre }
         requires waiter { (card_of seat.old).number < (card_of seat.old).waiters }
         requires used { looked_of seat.old ≡ None }
@@ -105,9 +103,9 @@ impl<A: Allocator> Counter<A> {
         requires offered { fields_of offered
             ≡ pushed (fields_of word) (card_of seat.old).number (card_of seat.old).epoch }
         requires stored { fields_of (card_of seat.old).stored ≡ below (fields_of word) }
-        ensures of { IsAt self.now seat.new }
+        ensures of { IsSeatOf self.now seat.new }
         ensures used { looked_of seat.new ≡ None }
-        ensures card { Meets (pushing_in K.rowed) (card_of seat.old) word offered result
+        ensures card { Meets (pushing K.rowed) (card_of seat.old) word offered result
             (card_of seat.new) }
     {
         if !self.exchange::<Pushes<K>>(&mut seat.seat, word, offered) {
@@ -120,11 +118,11 @@ impl<A: Allocator> Counter<A> {
 
     // A pre-waiter leaves.
     pub(crate) fn leave(&self, seat: &mut Seat, word: u64, offered: u64) -> bool
-        requires of { IsAt self.now seat.old }
+        requires of { IsSeatOf self.now seat.old }
         requires pre { (card_of seat.old).phase ≡ Pre }
         requires used { looked_of seat.old ≡ None }
         requires offered { fields_of offered ≡ cancelled (fields_of word) }
-        ensures of { IsAt self.now seat.new }
+        ensures of { IsSeatOf self.now seat.new }
         ensures used { looked_of seat.new ≡ None }
         ensures card { Meets cancelling (card_of seat.old) word offered result (card_of seat.new) }
     {
@@ -137,13 +135,13 @@ impl<A: Allocator> Counter<A> {
 
     // A pre-waiter gets a signal.
     pub(crate) fn signal(&self, seat: &mut Seat, word: u64, offered: u64) -> bool
-        requires of { IsAt self.now seat.old }
+        requires of { IsSeatOf self.now seat.old }
         requires running { (card_of seat.old).phase ≡ Running }
         requires owes_none { (card_of seat.old).owing ≡ [] }
         requires used { looked_of seat.old ≡ None }
         requires room { (fields_of word).signals < (fields_of word).pre }
         requires offered { fields_of offered ≡ signalled (fields_of word) }
-        ensures of { IsAt self.now seat.new }
+        ensures of { IsSeatOf self.now seat.new }
         ensures used { looked_of seat.new ≡ None }
         ensures card { Meets signalling (card_of seat.old) word offered result (card_of seat.new) }
     {
@@ -152,7 +150,7 @@ impl<A: Allocator> Counter<A> {
 
     // The looked top is popped.
     pub(crate) fn pop(&self, seat: &mut Seat, word: u64, next: u64, offered: u64) -> bool
-        requires of { IsAt self.now seat.old }
+        requires of { IsSeatOf self.now seat.old }
         requires running { (card_of seat.old).phase ≡ Running }
         requires owes_none { (card_of seat.old).owing ≡ [] }
         requires used { looked_of seat.old ≡ None }
@@ -162,7 +160,7 @@ impl<A: Allocator> Counter<A> {
         requires there { (fields_of word).top ≢ nobody }
         requires full { (fields_of word).signals ≡ (fields_of word).pre }
         requires offered { fields_of offered ≡ popped (fields_of word) (fields_of next) }
-        ensures of { IsAt self.now seat.new }
+        ensures of { IsSeatOf self.now seat.new }
         ensures used { looked_of seat.new ≡ None }
         ensures card { Meets popping (card_of seat.old) word offered result (card_of seat.new) }
     {
@@ -176,13 +174,13 @@ impl<A: Allocator> Counter<A> {
 
     // The stack is taken.
     pub(crate) fn take_all(&self, seat: &mut Seat, word: u64, offered: u64) -> bool
-        requires of { IsAt self.now seat.old }
+        requires of { IsSeatOf self.now seat.old }
         requires running { (card_of seat.old).phase ≡ Running }
         requires owes_none { (card_of seat.old).owing ≡ [] }
         requires used { looked_of seat.old ≡ None }
         requires fits { Fits (card_of seat.old) word }
         requires offered { fields_of offered ≡ all_notified (fields_of word) }
-        ensures of { IsAt self.now seat.new }
+        ensures of { IsSeatOf self.now seat.new }
         ensures used { looked_of seat.new ≡ None }
         ensures card { MeetsAll (card_of seat.old) word offered result (card_of seat.new) }
     {

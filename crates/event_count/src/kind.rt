@@ -1,4 +1,4 @@
-//! What tells a count with rows from a count alone, where a step is told by its type.
+//! What tells a count with rows from a count alone: a type, by which clauses and steps are told.
 ghost use Rattle.std.specs.Prelude.{Bool};
 
 /// A kind of counts.

@@ -26,8 +26,9 @@
 //! `LockedCount` is the same behind a lock, over a plain `World`. A pool is generic over both, by
 //! the trait `WaitPoint`.
 //!
-//! `RowCount` is a count whose condition lies in its own table: rows of jobs, by their lengths, and
-//! a stop. A waiter passes all of them, or gives up waiting:
+//! `EventCount` and `RowCount` are the two kinds of one `Count`. `RowCount` is that whose condition
+//! lies in its own table: rows of jobs, by their lengths, and a stop. A waiter passes all of them,
+//! or gives up waiting:
 //!
 //!     count.prewait(&mut seat);
 //!     match count.pass_all(&mut seat) {
@@ -81,7 +82,6 @@
 
 mod answers;
 mod count;
-mod counter;
 mod exchanges;
 mod fault;
 mod gathering;
@@ -104,16 +104,16 @@ mod wait_point;
 mod waits;
 
 pub use answers::{Committed, PassAll, TryCancel, TryCommit, TryNotify, TryNotifyAll};
-pub use count::EventCount;
+pub use count::{Count, EventCount, RowCount};
 pub use event_word::{Event, Phase};
 pub use fault::{CountFault, RowFault};
+pub use kind::{Alone, Kind, Rowed};
 pub use laws::{
     counts_follow, lengths_are_tickets, pre_seats_wait, pushes_found_no_signal,
     row_steps_add_their_events, rows_stay_awake, seats_stand_once, signals_are_answered,
     steps_add_their_events, stop_wakes_all, table_shows_a_lawful_world, taken_stacks_are_owed,
 };
 pub use locked_count::{LockedCount, LockedSeat};
-pub use row_count::RowCount;
 pub use rule::{EPOCHS, Law, MOST_CREDITS, MOST_WAITERS, RowSizes, Sizes};
 pub use seat::Seat;
 pub use tokens::{Credit, Ticket};

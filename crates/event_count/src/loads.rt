@@ -2,7 +2,7 @@
 ghost use Rattle.std.specs.Prelude.{◌≡◌, ◌≢◌, Some, None, IsSome};
 ghost use Rattle.std.specs.Option.{ForSome};
 
-use crate::counter::Counter;
+use crate::count::Count;
 use crate::kind::Kind;
 use crate::plays::{Looks, Reads};
 use crate::rule::{STATE, next_word_of};
@@ -10,23 +10,22 @@ use crate::seat::Seat;
 use event_word::{NOBODY, PRE_WAITER};
 use std::alloc::Allocator;
 
-impl<A: Allocator> Counter<A> {
+impl<K: Kind, A: Allocator> Count<K, A> {
     ghost use Rattle.event_word.specs.Fields.{fields_of};
     ghost use Rattle.event_word.specs.Word.{nobody};
-    ghost use Rattle.event_count.specs.Gains.{loading, reading, IsRead, IsLookIn, Fits, IsHeard};
-    ghost use Rattle.event_count.specs.Kinds.{IsKind};
-    ghost use Rattle.event_count.specs.Seats.{card_of, looked_of, key_of, IsAt};
+    ghost use Rattle.event_count.specs.Gains.{loading, reading, IsRead, IsLook, Fits, IsHeard};
+    ghost use Rattle.event_count.specs.Seats.{card_of, looked_of, row_sizes_of, IsSeatOf};
 
-    // Loads the state word, and keeps it in the seat until a step uses it up. Where somebody is on
-    // the stack, the top's next word is loaded and kept too.
-    pub(crate) fn look<K: Kind>(&self, seat: &mut Seat) -> u64
-        requires kind { IsKind K.rowed (key_of self.now) }
-        requires of { IsAt self.now seat.old }
-        ensures of { IsAt self.now seat.new }
+    /// Loads the state word, and keeps it in the seat until a step uses it up. Where somebody is on
+    /// the stack, the top's next word is loaded and kept too. At a count with rows a seat that is
+    /// to notify, and finds nobody to notify, has notified all by that.
+    pub fn look(&self, seat: &mut Seat) -> u64
+        requires of { IsSeatOf self.now seat.old }
+        ensures of { IsSeatOf self.now seat.new }
         ensures looked { looked_of seat.new ≡ Some result }
-        ensures card { IsLookIn K.rowed (card_of seat.old) result (card_of seat.new) }
+        ensures card { IsLook K.rowed (card_of seat.old) result (card_of seat.new) }
     {
-        let word = self.load_state::<K>(seat);
+        let word = self.load_state(seat);
         self.load_top(seat, word);
         seat.looked = Some(word);
         word
@@ -34,12 +33,12 @@ impl<A: Allocator> Counter<A> {
 
     // Loads the next word of the looked top, where there is one.
     fn load_top(&self, seat: &mut Seat, word: u64)
-        requires of { IsAt self.now seat.old }
+        requires of { IsSeatOf self.now seat.old }
         requires looked { (card_of seat.old).looked ≡ word }
         requires fits { Fits (card_of seat.old) word }
         requires heard { IsHeard (card_of seat.old) word }
         requires used { looked_of seat.old ≡ None }
-        ensures of { IsAt self.now seat.new }
+        ensures of { IsSeatOf self.now seat.new }
         ensures used { looked_of seat.new ≡ None }
         ensures looked { (card_of seat.new).looked ≡ word }
         ensures fits { Fits (card_of seat.new) word }
@@ -53,10 +52,9 @@ impl<A: Allocator> Counter<A> {
     }
 
     // Loads the state word. A step that pops nobody needs no more.
-    pub(crate) fn load_state<K: Kind>(&self, seat: &mut Seat) -> u64
-        requires kind { IsKind K.rowed (key_of self.now) }
-        requires of { IsAt self.now seat.old }
-        ensures of { IsAt self.now seat.new }
+    pub(crate) fn load_state(&self, seat: &mut Seat) -> u64
+        requires of { IsSeatOf self.now seat.old }
+        ensures of { IsSeatOf self.now seat.new }
         ensures card { card_of seat.new ≡ loading K.rowed (card_of seat.old) result }
         ensures looked { (card_of seat.new).looked ≡ result }
         ensures fits { Fits (card_of seat.new) result }
@@ -71,12 +69,12 @@ impl<A: Allocator> Counter<A> {
 
     // Loads the next word of the looked top.
     fn load_next(&self, seat: &mut Seat, word: u64)
-        requires of { IsAt self.now seat.old }
+        requires of { IsSeatOf self.now seat.old }
         requires looked { (card_of seat.old).looked ≡ word }
         requires fits { Fits (card_of seat.old) word }
         requires there { (fields_of word).top ≢ nobody }
         requires used { looked_of seat.old ≡ None }
-        ensures of { IsAt self.now seat.new }
+        ensures of { IsSeatOf self.now seat.new }
         ensures used { looked_of seat.new ≡ None }
         ensures read { IsSome seat.new.next }
         ensures card { ForSome seat.new.next (λ next.

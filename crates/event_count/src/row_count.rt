@@ -5,25 +5,12 @@ ghost use Rattle.event_count.specs.Limits.{most_waiters, epoch_limit};
 ghost use Rattle.event_count.specs.Cards.{opening_cards};
 ghost use Rattle.event_count.specs.Tickets.{credits_for};
 
-use crate::counter::Counter;
+use crate::count::{Count, RowCount};
 use crate::fault::RowFault;
+use crate::kind::Rowed;
 use crate::rule::{MOST_CREDITS, MOST_WAITERS, RowSizes};
 use crate::seat::Seat;
-use std::alloc::{Allocator, Global};
-
-/// An event count whose table also has the lengths of rows of jobs, and the word that stops all who
-/// wait. So a waiter sleeps only where it has found each row empty and no stop since its prewait,
-/// and whoever publishes a job, or stops the count, is to notify.
-///
-/// The jobs lie elsewhere, each with the ticket that its publish gave. All calls are made through a
-/// seat, and each seat by one thread at a time.
-#[derive(Drop)]
-pub struct RowCount<A: Allocator = Global> {
-    pub(crate) counter: Counter<A>,
-    pub(crate) sizes: RowSizes,
-    ghost kept: { counter.table.shared.key ≡ sizes },
-    ghost some: { 0 < sizes.rows },
-}
+use std::alloc::Allocator;
 
 // The credits of all seats together.
 fn all_credits(sizes: &RowSizes) -> u64
@@ -32,9 +19,10 @@ fn all_credits(sizes: &RowSizes) -> u64
     (u64::from(sizes.waiters) + u64::from(sizes.notifiers)) * u64::from(sizes.credits)
 }
 
-impl<A: Allocator> RowCount<A> {
-    ghost use Rattle.event_count.specs.Seats.{card_of, IsIdle, HasNoLook};
-    ghost use Rattle.event_count.specs.Rows.Seats.{row_sizes_of, row_seats_of, IsSeatAt, IsSilent};
+impl<A: Allocator> Count<Rowed, A> {
+    ghost use Rattle.event_count.specs.Seats.{card_of, row_sizes_of, seats_of, IsSeatOf};
+    ghost use Rattle.event_count.specs.Seats.{IsIdle, HasNoLook};
+    ghost use Rattle.event_count.specs.Rows.Seats.{IsSilent};
     ghost use Rattle.event_count.specs.Rows.Ending.{EndsRows};
 
     /// A count of these sizes, and its seats by number: the waiters' first, and then the
@@ -57,7 +45,7 @@ impl<A: Allocator> RowCount<A> {
         ensures idle { IfOk result (λ made. All IsIdle made.1.items) }
         ensures unlooked { IfOk result (λ made. All HasNoLook made.1.items) }
         ensures silent { IfOk result (λ made. All IsSilent made.1.items) }
-        ensures ours { IfOk result (λ made. All (IsSeatAt made.0) made.1.items) }
+        ensures ours { IfOk result (λ made. All (IsSeatOf made.0) made.1.items) }
     {
         if sizes.waiters > MOST_WAITERS {
             return Err(RowFault::TooManyWaiters);
@@ -65,27 +53,20 @@ impl<A: Allocator> RowCount<A> {
         if all_credits(sizes) > MOST_CREDITS {
             return Err(RowFault::TooManyCredits);
         }
-        let (counter, seats) = Counter::with_sizes(alloc, sizes)?;
-        Ok((
-            RowCount {
-                counter,
-                sizes: *sizes,
-            },
-            seats,
-        ))
+        let made = Count::with_sizes(alloc, sizes)?;
+        Ok(made)
     }
 
     /// The last word, which nobody waits in. What the seats have done is one history, as of a count
     /// alone. Who has all credits back knows that all rows are empty.
     pub fn close<B: Allocator>(self, mut seats: Vec<Seat, B>) -> u64
-        requires ours { All (IsSeatAt self) seats.items }
-        requires all { vec_len seats ≡ row_seats_of self }
+        requires ours { All (IsSeatOf self) seats.items }
+        requires all { vec_len seats ≡ seats_of self }
         requires idle { All IsIdle seats.items }
         ensures word { result ≡ 0x3FFF }
         ensures ends { EndsRows (row_sizes_of self) (map card_of seats.items) }
     {
-        let RowCount { counter, .. } = self;
-        counter.close_with(&mut seats)
+        self.close_with(&mut seats)
     }
 
     // How many lines there are for waiters and rows.

@@ -1,8 +1,6 @@
-//! The calls of a count with rows: publish and take, look at rows and at the stop word, and the calls
-//! of a count alone, which here also say what the seat announces and has passed.
+//! The calls that only a count with rows has: publish and take, and look at rows and at the stop
+//! word.
 
-mod faces;
 mod passing;
 mod plays;
 mod publishing;
-mod waiting;

@@ -3,7 +3,7 @@ ghost use Rattle.std.specs.Prelude.{◌≡◌, ◌<◌, [], None, IfSome, IsSome
 ghost use Rattle.event_word.specs.declared.phase.Phase.TheVariants.{Running, Pre};
 
 use crate::answers::{TryCancel, TryCommit, TryNotify, TryNotifyAll};
-use crate::counter::Counter;
+use crate::count::Count;
 use crate::kind::Kind;
 use crate::plays::Prewaits;
 use crate::rule::{EPOCHS, STATE};
@@ -14,23 +14,22 @@ use event_word::{
 };
 use std::alloc::Allocator;
 
-impl<A: Allocator> Counter<A> {
-    ghost use Rattle.event_count.specs.Kinds.{IsKind, MayCommit, MayPrewait};
+impl<K: Kind, A: Allocator> Count<K, A> {
+    ghost use Rattle.event_count.specs.Kinds.{MayCommit, MayPrewait};
     ghost use Rattle.event_count.specs.Gains.{prewaiting, Fits, IsHeard};
-    ghost use Rattle.event_count.specs.Seats.{card_of, looked_of, key_of, IsAt};
-    ghost use Rattle.event_count.specs.Tries.{IsTryCommitIn, IsTryCancel, EndsAnnouncement};
+    ghost use Rattle.event_count.specs.Seats.{card_of, looked_of, row_sizes_of, IsSeatOf};
+    ghost use Rattle.event_count.specs.Tries.{IsTryCommit, IsTryCancel, EndsAnnouncement};
     ghost use Rattle.event_count.specs.Tries.{IsTryNotify, IsTryNotifyAll, EndsAnnouncementAll};
 
-    // The seat becomes a pre-waiter: from now on it is notified. It then checks its condition, and
-    // commits or cancels.
-    pub(crate) fn prewait<K: Kind>(&self, seat: &mut Seat)
-        requires kind { IsKind K.rowed (key_of self.now) }
-        requires of { IsAt self.now seat.old }
+    /// The seat becomes a pre-waiter: from now on it is notified. It then checks its condition, and
+    /// commits or cancels. At a count with rows it looks at the stop word and at each row.
+    pub fn prewait(&self, seat: &mut Seat)
+        requires of { IsSeatOf self.now seat.old }
         requires silent { MayPrewait K.rowed (card_of seat.old) }
-        requires waiter { (card_of seat.old).number < (key_of self.now).waiters }
+        requires waiter { (card_of seat.old).number < (row_sizes_of self.now).waiters }
         requires running { (card_of seat.old).phase ≡ Running }
         requires owes_none { (card_of seat.old).owing ≡ [] }
-        ensures of { IsAt self.now seat.new }
+        ensures of { IsSeatOf self.now seat.new }
         ensures used { looked_of seat.new ≡ None }
         ensures card { card_of seat.new ≡ prewaiting (card_of seat.old) }
     {
@@ -41,34 +40,33 @@ impl<A: Allocator> Counter<A> {
         seat.looked = None;
     }
 
-    // A pre-waiter that has looked takes a signal, or goes onto the stack where there is none. It
-    // is then to sleep until it takes its token. Where its epochs are used up, it cancels.
-    pub(crate) fn try_commit<K: Kind>(&self, seat: &mut Seat) -> TryCommit
-        requires kind { IsKind K.rowed (key_of self.now) }
-        requires of { IsAt self.now seat.old }
-        requires passed { MayCommit K.rowed (key_of self.now) (card_of seat.old) }
+    /// A pre-waiter that has looked takes a signal, or goes onto the stack where there is none. It
+    /// is then to sleep until it takes its token. Where its epochs are used up, it cancels. At a
+    /// count with rows it has passed the flag and all rows, and then looked.
+    pub fn try_commit(&self, seat: &mut Seat) -> TryCommit
+        requires of { IsSeatOf self.now seat.old }
+        requires passed { MayCommit K.rowed (row_sizes_of self.now) (card_of seat.old) }
         requires pre { (card_of seat.old).phase ≡ Pre }
         requires looked { IsSome (looked_of seat.old) }
-        ensures of { IsAt self.now seat.new }
+        ensures of { IsSeatOf self.now seat.new }
         ensures used { looked_of seat.new ≡ None }
         ensures answer { IfSome (looked_of seat.old) (λ word.
-            IsTryCommitIn K.rowed (card_of seat.old) word result (card_of seat.new)) }
+            IsTryCommit K.rowed (card_of seat.old) word result (card_of seat.new)) }
     {
         let word = seat.take_look();
-        self.commit_at::<K>(seat, word)
+        self.commit_at(seat, word)
     }
 
     // The same against a loaded word.
-    pub(crate) fn commit_at<K: Kind>(&self, seat: &mut Seat, word: u64) -> TryCommit
-        requires kind { IsKind K.rowed (key_of self.now) }
-        requires of { IsAt self.now seat.old }
-        requires passed { MayCommit K.rowed (key_of self.now) (card_of seat.old) }
+    pub(crate) fn commit_at(&self, seat: &mut Seat, word: u64) -> TryCommit
+        requires of { IsSeatOf self.now seat.old }
+        requires passed { MayCommit K.rowed (row_sizes_of self.now) (card_of seat.old) }
         requires pre { (card_of seat.old).phase ≡ Pre }
         requires used { looked_of seat.old ≡ None }
         requires fits { Fits (card_of seat.old) word }
-        ensures of { IsAt self.now seat.new }
+        ensures of { IsSeatOf self.now seat.new }
         ensures used { looked_of seat.new ≡ None }
-        ensures answer { IsTryCommitIn K.rowed (card_of seat.old) word result (card_of seat.new) }
+        ensures answer { IsTryCommit K.rowed (card_of seat.old) word result (card_of seat.new) }
     {
         if seat.epoch == EPOCHS {
             return if self.leave(seat, word, after_cancel(word)) {
@@ -79,7 +77,7 @@ impl<A: Allocator> Counter<A> {
         }
         match after_commit(word, seat.number as u16, seat.epoch) {
             AfterCommit::Consumed(offered) => {
-                if self.consume::<K>(seat, word, offered) {
+                if self.consume(seat, word, offered) {
                     TryCommit::Consumed
                 } else {
                     TryCommit::Contended
@@ -90,7 +88,7 @@ impl<A: Allocator> Counter<A> {
                 next,
             } => {
                 self.store_next(seat, next);
-                if self.push::<K>(seat, word, offered) {
+                if self.push(seat, word, offered) {
                     TryCommit::Pushed
                 } else {
                     TryCommit::Contended
@@ -99,12 +97,12 @@ impl<A: Allocator> Counter<A> {
         }
     }
 
-    // A pre-waiter that has looked gives up waiting.
-    pub(crate) fn try_cancel(&self, seat: &mut Seat) -> TryCancel
-        requires of { IsAt self.now seat.old }
+    /// A pre-waiter that has looked gives up waiting.
+    pub fn try_cancel(&self, seat: &mut Seat) -> TryCancel
+        requires of { IsSeatOf self.now seat.old }
         requires pre { (card_of seat.old).phase ≡ Pre }
         requires looked { IsSome (looked_of seat.old) }
-        ensures of { IsAt self.now seat.new }
+        ensures of { IsSeatOf self.now seat.new }
         ensures used { looked_of seat.new ≡ None }
         ensures answer { IfSome (looked_of seat.old) (λ word.
             IsTryCancel (card_of seat.old) word result (card_of seat.new)) }
@@ -115,11 +113,11 @@ impl<A: Allocator> Counter<A> {
 
     // The same against a loaded word.
     pub(crate) fn cancel_at(&self, seat: &mut Seat, word: u64) -> TryCancel
-        requires of { IsAt self.now seat.old }
+        requires of { IsSeatOf self.now seat.old }
         requires pre { (card_of seat.old).phase ≡ Pre }
         requires used { looked_of seat.old ≡ None }
         requires fits { Fits (card_of seat.old) word }
-        ensures of { IsAt self.now seat.new }
+        ensures of { IsSeatOf self.now seat.new }
         ensures used { looked_of seat.new ≡ None }
         ensures answer { IsTryCancel (card_of seat.old) word result (card_of seat.new) }
     {
@@ -130,16 +128,16 @@ impl<A: Allocator> Counter<A> {
         }
     }
 
-    // A seat that runs and has looked notifies one: it gives a pre-waiter that has no signal one,
-    // or else pops the top of the stack, and then owes that seat an unpark.
-    //
-    // `Nothing` speaks of the moment of the look, so look after the condition was made true.
-    pub(crate) fn try_notify(&self, seat: &mut Seat) -> TryNotify
-        requires of { IsAt self.now seat.old }
+    /// A seat that runs and has looked notifies one: it gives a pre-waiter that has no signal one,
+    /// or else pops the top of the stack, and then owes that seat an unpark.
+    ///
+    /// `Nothing` speaks of the moment of the look, so look after the condition was made true.
+    pub fn try_notify(&self, seat: &mut Seat) -> TryNotify
+        requires of { IsSeatOf self.now seat.old }
         requires running { (card_of seat.old).phase ≡ Running }
         requires owes_none { (card_of seat.old).owing ≡ [] }
         requires looked { IsSome (looked_of seat.old) }
-        ensures of { IsAt self.now seat.new }
+        ensures of { IsSeatOf self.now seat.new }
         ensures used { looked_of seat.new ≡ None }
         ensures answer { IfSome (looked_of seat.old) (λ word.
             IsTryNotify (card_of seat.old) word result (card_of seat.new)) }
@@ -168,14 +166,14 @@ impl<A: Allocator> Counter<A> {
         }
     }
 
-    // A seat that runs and has looked notifies all: each pre-waiter has a signal then, and the
-    // stack is taken, whose seats are owed an unpark each, the top first.
-    pub(crate) fn try_notify_all(&self, seat: &mut Seat) -> TryNotifyAll
-        requires of { IsAt self.now seat.old }
+    /// A seat that runs and has looked notifies all: each pre-waiter has a signal then, and the
+    /// stack is taken, whose seats are owed an unpark each, the top first.
+    pub fn try_notify_all(&self, seat: &mut Seat) -> TryNotifyAll
+        requires of { IsSeatOf self.now seat.old }
         requires running { (card_of seat.old).phase ≡ Running }
         requires owes_none { (card_of seat.old).owing ≡ [] }
         requires looked { IsSome (looked_of seat.old) }
-        ensures of { IsAt self.now seat.new }
+        ensures of { IsSeatOf self.now seat.new }
         ensures used { looked_of seat.new ≡ None }
         ensures answer { IfSome (looked_of seat.old) (λ word.
             IsTryNotifyAll (card_of seat.old) word result (card_of seat.new)) }
@@ -187,13 +185,13 @@ impl<A: Allocator> Counter<A> {
 
     // The same against a loaded word.
     pub(crate) fn notify_all_at(&self, seat: &mut Seat, word: u64) -> TryNotifyAll
-        requires of { IsAt self.now seat.old }
+        requires of { IsSeatOf self.now seat.old }
         requires running { (card_of seat.old).phase ≡ Running }
         requires owes_none { (card_of seat.old).owing ≡ [] }
         requires used { looked_of seat.old ≡ None }
         requires fits { Fits (card_of seat.old) word }
         requires heard { IsHeard (card_of seat.old) word }
-        ensures of { IsAt self.now seat.new }
+        ensures of { IsSeatOf self.now seat.new }
         ensures used { looked_of seat.new ≡ None }
         ensures answer { IsTryNotifyAll (card_of seat.old) word result (card_of seat.new) }
         ensures silent { EndsAnnouncementAll result (card_of seat.new) }

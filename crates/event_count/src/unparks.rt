@@ -3,28 +3,29 @@ ghost use Rattle.std.specs.Prelude.{◌≡◌, ◌<◌, ◌↔◌, [], true, Som
 ghost use Rattle.std.specs.Option.{ForSome};
 ghost use Rattle.event_word.specs.declared.phase.Phase.TheVariants.{Stacked};
 
-use crate::counter::Counter;
+use crate::count::Count;
+use crate::kind::Kind;
 use crate::plays::{Follows, Unparks, Wakes};
 use crate::rule::{next_word_of, parker_word_of};
 use crate::seat::Seat;
 use event_word::{NOBODY, PRE_WAITER, Phase};
 use std::alloc::Allocator;
 
-impl<A: Allocator> Counter<A> {
+impl<K: Kind, A: Allocator> Count<K, A> {
     ghost use Rattle.event_count.specs.Gains.{foremost, behind, first_of};
     ghost use Rattle.event_count.specs.Gains.{polling, unparking, waking};
-    ghost use Rattle.event_count.specs.Seats.{card_of, looked_of, IsAt};
+    ghost use Rattle.event_count.specs.Seats.{card_of, looked_of, IsSeatOf};
 
-    // Unparks the first seat that this seat owes an unpark. None: it owes none.
-    //
-    // It is one store in the seat's parker word, which gives it its token, and one call of the
-    // system (some 140 ns), which wakes its thread if it sleeps there. The word says only whether
-    // there is a token, so it can't tell that nobody sleeps. Where more seats may be owed, one
-    // load before the store finds the next of them: once the seat has its token it may run, and
-    // store another next word.
-    pub(crate) fn try_unpark_next(&self, seat: &mut Seat) -> Option<u16>
-        requires of { IsAt self.now seat.old }
-        ensures of { IsAt self.now seat.new }
+    /// Unparks the first seat that this seat owes an unpark. None: it owes none.
+    ///
+    /// It is one store in the seat's parker word, which gives it its token, and one call of the
+    /// system (some 140 ns), which wakes its thread if it sleeps there. The word says only whether
+    /// there is a token, so it can't tell that nobody sleeps. Where more seats may be owed, one
+    /// load before the store finds the next of them: once the seat has its token it may run, and
+    /// store another next word.
+    pub fn try_unpark_next(&self, seat: &mut Seat) -> Option<u16>
+        requires of { IsSeatOf self.now seat.old }
+        ensures of { IsSeatOf self.now seat.new }
         ensures used { looked_of seat.new ≡ None }
         ensures none { result ≡ None ↔ (card_of seat.old).owing ≡ [] }
         ensures same { IfNone result (card_of seat.new ≡ card_of seat.old) }
@@ -46,7 +47,7 @@ impl<A: Allocator> Counter<A> {
 
     // The seat behind the first one owed.
     fn load_after(&self, seat: &mut Seat, other: u16) -> Option<u16>
-        requires of { IsAt self.now seat.old }
+        requires of { IsSeatOf self.now seat.old }
         requires used { looked_of seat.old ≡ None }
         requires first { seat.old.owed ≡ Some other }
         requires linked { (card_of seat.old).linked ≡ true }
@@ -66,12 +67,12 @@ impl<A: Allocator> Counter<A> {
 
     // The first seat owed gets its token, where this one is behind it.
     fn unpark(&self, seat: &mut Seat, other: u16, after: Option<u16>)
-        requires of { IsAt self.now seat.old }
+        requires of { IsSeatOf self.now seat.old }
         requires used { looked_of seat.old ≡ None }
         requires first { seat.old.owed ≡ Some other }
         requires after { after ≡ first_of (behind (card_of seat.old).owing) }
         requires known { ForSome after (λ n. n < seat.old.waiters) }
-        ensures of { IsAt self.now seat.new }
+        ensures of { IsSeatOf self.now seat.new }
         ensures used { looked_of seat.new ≡ None }
         ensures card { card_of seat.new ≡ unparking (card_of seat.old) }
     {
@@ -81,11 +82,11 @@ impl<A: Allocator> Counter<A> {
         seat.owed = after;
     }
 
-    // A stacked seat takes its token, where it was unparked.
-    pub(crate) fn try_take_token(&self, seat: &mut Seat) -> bool
-        requires of { IsAt self.now seat.old }
+    /// A stacked seat takes its token, where it was unparked.
+    pub fn try_take_token(&self, seat: &mut Seat) -> bool
+        requires of { IsSeatOf self.now seat.old }
         requires stacked { (card_of seat.old).phase ≡ Stacked }
-        ensures of { IsAt self.now seat.new }
+        ensures of { IsSeatOf self.now seat.new }
         ensures used { looked_of seat.new ≡ None }
         ensures card { MatchBool result (card_of seat.new ≡ waking (polling (card_of seat.old)))
             (card_of seat.new ≡ polling (card_of seat.old)) }

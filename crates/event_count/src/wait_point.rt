@@ -138,6 +138,7 @@ impl<A: Allocator + Clone> WaitPoint<A> for EventCount<A> {
     ghost use Rattle.event_count.specs.Cards.{fresh_cards};
     ghost use Rattle.event_count.specs.Counts.{Ends};
     ghost use Rattle.event_count.specs.Gains.{prewaiting};
+    ghost use Rattle.event_count.specs.Kinds.{without_rows};
     ghost use Rattle.event_count.specs.Seats.{card_of, sizes_of, seats_of, count_id, seat_id};
     ghost use Rattle.event_count.specs.Seats.{IsSeatOf, HasNoLook};
     ghost use Rattle.event_count.specs.Waits.{RestsOnCommit, RestsOnCancel, RestsOnNotify};
@@ -202,7 +203,7 @@ impl<A: Allocator + Clone> WaitPoint<A> for EventCount<A> {
         ensures number { (card_of seat.new).number ≡ (card_of seat.old).number }
         ensures running { (card_of seat.new).phase ≡ Running }
         ensures owing { (card_of seat.new).owing ≡ (card_of seat.old).owing }
-        ensures answer { RestsOnCommit (card_of seat.old) result (card_of seat.new) }
+        ensures answer { RestsOnCommit without_rows (card_of seat.old) result (card_of seat.new) }
     {
         self.commit(rt, seat)
     }
@@ -214,7 +215,7 @@ impl<A: Allocator + Clone> WaitPoint<A> for EventCount<A> {
         ensures number { (card_of seat.new).number ≡ (card_of seat.old).number }
         ensures running { (card_of seat.new).phase ≡ Running }
         ensures owing { (card_of seat.new).owing ≡ (card_of seat.old).owing }
-        ensures answer { RestsOnCancel (card_of seat.old) (card_of seat.new) }
+        ensures answer { RestsOnCancel without_rows (card_of seat.old) (card_of seat.new) }
     {
         self.cancel(rt, seat);
     }
@@ -227,7 +228,7 @@ impl<A: Allocator + Clone> WaitPoint<A> for EventCount<A> {
         ensures number { (card_of seat.new).number ≡ (card_of seat.old).number }
         ensures running { (card_of seat.new).phase ≡ Running }
         ensures owes_none { (card_of seat.new).owing ≡ [] }
-        ensures answer { RestsOnNotify (card_of seat.old) (card_of seat.new) }
+        ensures answer { RestsOnNotify without_rows (card_of seat.old) (card_of seat.new) }
     {
         self.notify(rt, seat);
     }
@@ -240,7 +241,7 @@ impl<A: Allocator + Clone> WaitPoint<A> for EventCount<A> {
         ensures number { (card_of seat.new).number ≡ (card_of seat.old).number }
         ensures running { (card_of seat.new).phase ≡ Running }
         ensures owes_none { (card_of seat.new).owing ≡ [] }
-        ensures answer { RestsOnNotifyAll (card_of seat.old) (card_of seat.new) }
+        ensures answer { RestsOnNotifyAll without_rows (card_of seat.old) (card_of seat.new) }
     {
         self.notify_all(rt, seat);
     }

@@ -1,8 +1,12 @@
-//! The calls of a row of one thread and of an owner's row of slots, and what they answer.
+//! The calls of an owner's row of slots, and what they answer: what is told, or what a row of one
+//! thread answers, which is proved to be a list.
 ghost use Rattle.std.specs.Prelude.{◌≡◌};
 ghost use Rattle.run_queue.specs.SlotSeats.{table_of, number_in, rows_id, row_count_of};
 
 use crate::told::expect;
+use rand_core::SeedableRng;
+use rand_core::utils::NextWord;
+use rand_pcg::Lcg64Xsh32;
 use run_queue::{Deque, SlotRows, SlotSeat};
 use std::alloc::Global;
 use std::process::Abort;
@@ -66,39 +70,11 @@ const STORIES: [Story; 2] = [
     },
 ];
 
-// Whether a row has room for so many jobs.
-fn fill_row(row: &mut Deque<u32>, jobs: u32) -> bool {
-    let mut has_room = true;
-    for job in 0..jobs {
-        has_room = row.push_front(job) == Ok(()) && has_room;
-    }
-    has_room
-}
+/// How many calls are drawn. In turn so many rather fill the row, until it is full, and so many rather
+/// empty it.
+const DRAWS: u32 = 100_000;
 
-// Whether a row answers as the call says.
-fn row_answers(row: &mut Deque<u32>, call: Call) -> bool {
-    match call {
-        Call::Fills(jobs) => fill_row(row, jobs),
-        Call::PushFront(job, told) => row.push_front(job) == told,
-        Call::PushBack(job, told) => row.push_back(job) == told,
-        Call::PopFront(told) => row.pop_front() == told,
-        Call::PopBack(told) => row.pop_back() == told,
-        Call::Len(told) => row.len() == told && row.is_empty() == (told == 0),
-    }
-}
-
-// Makes the calls of a story on a row, and stops where one is answered otherwise.
-fn tell_row<R: Abort>(rt: &R, alloc: Global, story: &Story) {
-    let Ok(mut row) = Deque::new(alloc) else {
-        panic!(rt; "no row")
-    };
-    let mut place: u64 = 0;
-    for call in story.calls {
-        expect(rt, row_answers(&mut row, *call), story.name, place);
-        place = place.saturating_add(1);
-    }
-    expect(rt, row.len() == story.left, story.name, place);
-}
+const PHASE: u32 = 5_000;
 
 // Whether the row of slots of this owner has room for so many jobs.
 fn fill_slots(rows: &SlotRows<u32>, owner: &mut SlotSeat<u32>, jobs: u32) -> bool
@@ -171,10 +147,60 @@ fn tell_slots<R: Wait + Abort>(rt: &R, alloc: Global, story: &Story) {
     );
 }
 
+// The call that a word picks, at a place where jobs are rather put in or rather taken out. It is to
+// be answered as the row of one thread answers it.
+fn call_of(row: &mut Deque<u32>, word: u32, fills: bool) -> Call {
+    match word % 8 {
+        0 => Call::PushFront(word, row.push_front(word)),
+        1 => Call::PushBack(word, row.push_back(word)),
+        2 => Call::PopFront(row.pop_front()),
+        3 => Call::PopBack(row.pop_back()),
+        4 | 5 if fills => Call::PushFront(word, row.push_front(word)),
+        6 if fills => Call::PushBack(word, row.push_back(word)),
+        4 | 5 => Call::PopBack(row.pop_back()),
+        6 => Call::PopFront(row.pop_front()),
+        _ if row.is_empty() => Call::Len(0),
+        _ => Call::Len(row.len()),
+    }
+}
+
+// The owner of the one row makes calls that are drawn.
+fn make_drawn<R: Wait + Abort>(
+    rt: &R,
+    row: &mut Deque<u32>,
+    rows: &SlotRows<u32>,
+    owner: &mut SlotSeat<u32>,
+)
+    requires of { table_of owner.old ≡ rows_id rows.now }
+    requires row { row_count_of rows.now ≡ 1 }
+    ensures of { table_of owner.new ≡ table_of owner.old }
+{
+    assert!(rt; owner.number() == 0);
+    let mut words = Lcg64Xsh32::seed_from_u64(5);
+    for place in 0..DRAWS {
+        let call = call_of(row, words.next_word(), place / PHASE % 2 == 0);
+        let is_right = slots_answer(rt, rows, owner, call);
+        expect(rt, is_right, "drawn calls", u64::from(place));
+    }
+}
+
+// Makes drawn calls on a row of one thread and on a row of slots, and closes that.
+fn tell_drawn<R: Wait + Abort>(rt: &R, alloc: Global) {
+    let Ok(mut row) = Deque::new(alloc) else {
+        panic!(rt; "no row")
+    };
+    let Ok((rows, mut seats)) = SlotRows::<u32>::open(alloc, 1, 0) else {
+        panic!(rt; "no rows")
+    };
+    assert!(rt; seats.len() == 1);
+    make_drawn(rt, &mut row, &rows, &mut seats[0]);
+    assert!(rt; rows.close(seats).len() == row.len(), "as many are left");
+}
+
 #[test]
 fn calls_on_a_row_of_one_thread_and_of_slots(rt: HostRuntime) {
     for story in &STORIES {
-        tell_row(&rt, rt.alloc(), story);
         tell_slots(&rt, rt.alloc(), story);
     }
+    tell_drawn(&rt, rt.alloc());
 }

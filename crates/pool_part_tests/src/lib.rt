@@ -9,8 +9,6 @@ mod calls;
 #[cfg(test)]
 mod coprimes;
 #[cfg(test)]
-mod drawn;
-#[cfg(test)]
 mod faults;
 #[cfg(test)]
 mod made;
@@ -18,8 +16,6 @@ mod made;
 mod pairs;
 #[cfg(test)]
 mod partitions;
-#[cfg(test)]
-mod replays;
 #[cfg(test)]
 mod row_count;
 #[cfg(test)]
@@ -34,8 +30,6 @@ mod slot_rows;
 mod small_worlds;
 #[cfg(test)]
 mod steps;
-#[cfg(test)]
-mod tables;
 #[cfg(test)]
 mod threads;
 #[cfg(test)]

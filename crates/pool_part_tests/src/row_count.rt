@@ -1,22 +1,23 @@
 //! A count with rows beside the World that its table shows: an event that the World has taken is a call on
 //! the count, and then both show the same.
 ghost use Rattle.std.specs.Prelude.{◌≡◌, ◌+◌, All, IfSome, length};
-ghost use Rattle.event_count.specs.Rows.Seats.{row_sizes_of, IsSeatAt, IsTicketAt};
+ghost use Rattle.event_count.specs.Seats.{row_sizes_of, IsSeatOf};
+ghost use Rattle.event_count.specs.Rows.Seats.{IsTicketAt};
 
 mod actor;
 mod calls;
 mod drawn;
+mod moves;
 mod stopping;
 mod stories;
 mod threads;
 
 use crate::sizes::Sizes;
 use crate::steps::{Step, is_idle};
-use crate::tables::actor_of;
-use crate::tables::count_moves::{Before, phase_of, step_of};
 use actor::{Actor, Table};
 use event_count::{Phase, RowCount, RowSizes, Ticket, TryCancel};
 use event_word::{Event, World, unpack};
+use moves::{Before, actor_of, phase_of, step_of};
 use std::alloc::Global;
 use std::process::Abort;
 
@@ -34,8 +35,8 @@ struct Party {
 // A count on which nothing was done.
 fn open<R: Abort>(rt: &R, alloc: Global, sizes: Sizes) -> (Table, Party)
     ensures sizes { result.0.sizes ≡ sizes }
-    ensures actors { All (λ a. IsSeatAt result.0.count a.seat) result.1.actors.items }
-    ensures watcher { IsSeatAt result.0.count result.1.watcher.seat }
+    ensures actors { All (λ a. IsSeatOf result.0.count a.seat) result.1.actors.items }
+    ensures watcher { IsSeatOf result.0.count result.1.watcher.seat }
     ensures tickets { All (IsTicketAt result.0.count) result.1.tickets.items }
 {
     let (workers, notifiers, rows) = (sizes.workers, sizes.notifiers, sizes.rows);
@@ -76,21 +77,21 @@ fn take<R: Abort>(
     before: Before,
     event: Event,
 )
-    requires actors { All (λ a. IsSeatAt table.now.count a.seat) party.old.actors.items }
-    requires watcher { IsSeatAt table.now.count party.old.watcher.seat }
+    requires actors { All (λ a. IsSeatOf table.now.count a.seat) party.old.actors.items }
+    requires watcher { IsSeatOf table.now.count party.old.watcher.seat }
     requires tickets { All (IsTicketAt table.now.count) party.old.tickets.items }
     requires workers { length world.now.phases ≡ table.now.sizes.workers }
     requires owed { length world.now.owed
         ≡ table.now.sizes.workers + table.now.sizes.notifiers }
     requires lengths { length world.now.lengths ≡ table.now.sizes.rows }
-    ensures actors { All (λ a. IsSeatAt table.now.count a.seat) party.new.actors.items }
-    ensures watcher { IsSeatAt table.now.count party.new.watcher.seat }
+    ensures actors { All (λ a. IsSeatOf table.now.count a.seat) party.new.actors.items }
+    ensures watcher { IsSeatOf table.now.count party.new.watcher.seat }
     ensures tickets { All (IsTicketAt table.now.count) party.new.tickets.items }
 {
     let actor = actor_of(event);
     let place = actor as usize;
     let sizes = table.sizes;
-    assert!(rt; actor < actors_in(sizes) && place < party.actors.len());
+    assert!(rt; place < party.actors.len());
     let one = &mut party.actors[place];
     let is_taken = match step_of(sizes, world, before, actor, event) {
         Some(step) => takes_step(table, one, event, step),
@@ -100,17 +101,10 @@ fn take<R: Abort>(
     expect_shown(rt, table, party, world);
 }
 
-// How many actors there are.
-fn actors_in(sizes: Sizes) -> u32
-    ensures { result ≡ sizes.workers + sizes.notifiers }
-{
-    u32::from(sizes.workers) + u32::from(sizes.notifiers)
-}
-
 // Whether the seat takes a step that takes an event of a count alone. What rests on a look has one.
 fn takes_step(table: &Table, actor: &mut Actor, event: Event, step: Step) -> bool
-    requires of { IsSeatAt table.now.count actor.old.seat }
-    ensures of { IsSeatAt table.now.count actor.new.seat }
+    requires of { IsSeatOf table.now.count actor.old.seat }
+    ensures of { IsSeatOf table.now.count actor.new.seat }
 {
     if matches!(
         event,
@@ -129,9 +123,9 @@ fn takes_row<R: Abort>(
     tickets: &mut Vec<Ticket>,
     event: Event,
 ) -> bool
-    requires of { IsSeatAt table.now.count actor.old.seat }
+    requires of { IsSeatOf table.now.count actor.old.seat }
     requires tickets { All (IsTicketAt table.now.count) tickets.old.items }
-    ensures of { IsSeatAt table.now.count actor.new.seat }
+    ensures of { IsSeatOf table.now.count actor.new.seat }
     ensures tickets { All (IsTicketAt table.now.count) tickets.new.items }
 {
     match event {
@@ -171,8 +165,8 @@ fn ticket_of(table: &Table, tickets: &mut Vec<Ticket>, row: u16) -> Option<Ticke
 
 // Whether an actor finds something that keeps it from this event.
 fn refuses<R: Abort>(rt: &R, table: &Table, party: &mut Party, event: Event) -> bool
-    requires actors { All (λ a. IsSeatAt table.now.count a.seat) party.old.actors.items }
-    ensures actors { All (λ a. IsSeatAt table.now.count a.seat) party.new.actors.items }
+    requires actors { All (λ a. IsSeatOf table.now.count a.seat) party.old.actors.items }
+    ensures actors { All (λ a. IsSeatOf table.now.count a.seat) party.new.actors.items }
     ensures watcher { party.new.watcher ≡ party.old.watcher }
     ensures tickets { party.new.tickets ≡ party.old.tickets }
 {
@@ -188,8 +182,8 @@ fn refuses<R: Abort>(rt: &R, table: &Table, party: &mut Party, event: Event) -> 
 
 // Whether an actor's seat takes a step that is no event.
 fn takes<R: Abort>(rt: &R, table: &Table, party: &mut Party, actor: u32, step: Step) -> bool
-    requires actors { All (λ a. IsSeatAt table.now.count a.seat) party.old.actors.items }
-    ensures actors { All (λ a. IsSeatAt table.now.count a.seat) party.new.actors.items }
+    requires actors { All (λ a. IsSeatOf table.now.count a.seat) party.old.actors.items }
+    ensures actors { All (λ a. IsSeatOf table.now.count a.seat) party.new.actors.items }
     ensures watcher { party.new.watcher ≡ party.old.watcher }
     ensures tickets { party.new.tickets ≡ party.old.tickets }
 {
@@ -200,21 +194,22 @@ fn takes<R: Abort>(rt: &R, table: &Table, party: &mut Party, actor: u32, step: S
 
 // Stops where the words and the seats aren't those that the World shows.
 fn expect_shown<R: Abort>(rt: &R, table: &Table, party: &mut Party, world: &World)
-    requires watcher { IsSeatAt table.now.count party.old.watcher.seat }
+    requires watcher { IsSeatOf table.now.count party.old.watcher.seat }
     requires workers { length world.now.phases ≡ table.now.sizes.workers }
     requires owed { length world.now.owed
         ≡ table.now.sizes.workers + table.now.sizes.notifiers }
     requires lengths { length world.now.lengths ≡ table.now.sizes.rows }
     ensures actors { party.new.actors ≡ party.old.actors }
-    ensures watcher { IsSeatAt table.now.count party.new.watcher.seat }
+    ensures watcher { IsSeatOf table.now.count party.new.watcher.seat }
     ensures tickets { party.new.tickets ≡ party.old.tickets }
 {
-    expect_seats(rt, &party.actors, table.sizes, world);
-    let credits = credits_of(&party.actors).saturating_add(u64::from(party.watcher.seat.credits()));
+    let credits = expect_seats(rt, &party.actors, table.sizes, world).saturating_add(u64::from(
+        party.watcher.seat.credits(),
+    ));
     let left = credits.saturating_add(party.tickets.len() as u64);
-    let many = party.actors.len().saturating_add(1) as u64;
+    let seats = party.actors.len().saturating_add(1) as u64;
     assert!(rt;
-        left == many.saturating_mul(u64::from(CREDITS)),
+        left == seats.saturating_mul(u64::from(CREDITS)),
         "credits and tickets"
     );
     let watcher = &mut party.watcher;
@@ -229,29 +224,24 @@ fn expect_shown<R: Abort>(rt: &R, table: &Table, party: &mut Party, world: &Worl
     expect_rows(rt, table, watcher, world);
 }
 
-// Each seat's phase, and whether it owes an unpark.
-fn expect_seats<R: Abort>(rt: &R, actors: &Vec<Actor>, sizes: Sizes, world: &World)
+// Each seat's phase, and whether it owes an unpark. How many jobs all of them may still publish.
+fn expect_seats<R: Abort>(rt: &R, actors: &Vec<Actor>, sizes: Sizes, world: &World) -> u64
     requires workers { length world.now.phases ≡ sizes.workers }
     requires owed { length world.now.owed ≡ sizes.workers + sizes.notifiers }
 {
+    let many = u32::from(sizes.workers) + u32::from(sizes.notifiers);
+    let mut credits = 0u64;
     let mut number = 0u32;
     for actor in actors {
-        assert!(rt; number < actors_in(sizes));
+        assert!(rt; number < many);
         let is_phase = actor.seat.phase() == phase_of(world, sizes, number);
         let owes = world.owed(number, 0).is_some();
         assert!(rt;
             is_phase && actor.seat.owing() == owes,
             "the seat of {number}"
         );
-        number += 1;
-    }
-}
-
-// How many jobs all of them may still publish.
-fn credits_of(actors: &Vec<Actor>) -> u64 {
-    let mut credits = 0u64;
-    for actor in actors {
         credits = credits.saturating_add(u64::from(actor.seat.credits()));
+        number += 1;
     }
     credits
 }
@@ -259,9 +249,9 @@ fn credits_of(actors: &Vec<Actor>) -> u64 {
 // The lengths and the stop word, as a pre-waiter finds them. It gives up then, and so leaves the
 // state word as it was.
 fn expect_rows<R: Abort>(rt: &R, table: &Table, watcher: &mut Actor, world: &World)
-    requires of { IsSeatAt table.now.count watcher.old.seat }
+    requires of { IsSeatOf table.now.count watcher.old.seat }
     requires lengths { length world.now.lengths ≡ table.now.sizes.rows }
-    ensures of { IsSeatAt table.now.count watcher.new.seat }
+    ensures of { IsSeatOf table.now.count watcher.new.seat }
 {
     assert!(rt; watcher.takes(table, Step::Prewaits), "the watcher runs");
     for row in 0..table.sizes.rows {

@@ -212,30 +212,17 @@ fn tell<Q: Rows<u32, Global>, R: Wait + Abort>(
     }
 }
 
-// What such rows are refused for. Those that are opened have their seats, and no job.
-fn fault_of<Q: Rows<u32, Global>, R: Abort>(
-    rt: &R,
-    alloc: Global,
-    rows: u16,
-    outsiders: u16,
-) -> Option<RowsFault> {
-    match Q::open(alloc, rows, outsiders) {
-        Ok((opened, seats)) => {
-            assert!(rt; seats.len() == usize::from(rows) + usize::from(outsiders));
-            assert!(rt;
-                opened.drain_all(seats).is_empty(),
-                "{rows} and {outsiders}"
-            );
-            None
-        }
-        Err(fault) => Some(fault),
-    }
-}
-
+// Rows of each size are refused for what is told, or else have their seats, and no job.
 fn expect_openings<Q: Rows<u32, Global>, R: Abort>(rt: &R, alloc: Global) {
     for (rows, outsiders, fault) in OPENINGS {
-        let found = fault_of::<Q, R>(rt, alloc, rows, outsiders);
-        assert!(rt; found == fault, "{rows} and {outsiders}");
+        let is_right = match Q::open(alloc, rows, outsiders) {
+            Ok((opened, seats)) => {
+                let has_seats = seats.len() == usize::from(rows) + usize::from(outsiders);
+                opened.drain_all(seats).is_empty() && has_seats && fault.is_none()
+            }
+            Err(found) => Some(found) == fault,
+        };
+        assert!(rt; is_right, "{rows} and {outsiders}");
     }
 }
 

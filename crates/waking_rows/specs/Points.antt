@@ -8,7 +8,7 @@ use Rattle.event_count.specs.declared.answers.Committed.TheVariants as committed
 use Rattle.event_count.specs.declared.answers.PassAll.{PassAll}
 use Rattle.event_count.specs.declared.answers.PassAll.TheVariants as pass_all
 use Rattle.event_count.specs.Kinds.{with_rows}
-use Rattle.event_count.specs.Waits.{RestsOnCommitIn, RestsOnCancelIn, RestsOnNotifyAllIn}
+use Rattle.event_count.specs.Waits.{RestsOnCommit, RestsOnCancel, RestsOnNotifyAll}
 use Rattle.event_count.specs.Rows.Calls.{IsPassAll, IsStop}
 use Rattle.event_count.specs.Rows.Seats.{row_count_id, row_sizes_of}
 use Rattle.waking_rows.specs.declared.row_point.RowPoint.{RowPoint}
@@ -28,11 +28,11 @@ module _ {A : Type 0} where
 
 -- what a look at the flag and the rows leads to: who has passed them all commits, and else cancels
 abbrev pub EndsSleep : PassAll → Card → Committed → Card → Type 0
-EndsSleep pass_all.Passed c answer d = RestsOnCommitIn with_rows c answer d
+EndsSleep pass_all.Passed c answer d = RestsOnCommit with_rows c answer d
 EndsSleep pass_all.Stopped c answer d =
-    (answer ≡ committed.Consumed) × RestsOnCancelIn with_rows c d
+    (answer ≡ committed.Consumed) × RestsOnCancel with_rows c d
 EndsSleep (pass_all.Jobs row) c answer d =
-    (answer ≡ committed.Consumed) × RestsOnCancelIn with_rows c d
+    (answer ≡ committed.Consumed) × RestsOnCancel with_rows c d
 
 -- a look at the flag and so many rows, and what it leads to
 abbrev pub SleepsByRows : ℕ → Card → Committed → Card → Type 0
@@ -42,4 +42,4 @@ SleepsByRows rows c answer d = (found : PassAll) × (between : Card)
 -- a stop, its own or another's, and then a notification of all
 abbrev pub StopsAndWakes : Card → Card → Type 0
 StopsAndWakes c d = (stopped : Bool) × (between : Card) × IsStop c stopped between
-    × RestsOnNotifyAllIn with_rows between d
+    × RestsOnNotifyAll with_rows between d

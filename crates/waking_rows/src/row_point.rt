@@ -6,7 +6,7 @@ ghost use Rattle.event_count.specs.Gains.{prewaiting};
 ghost use Rattle.event_count.specs.Kinds.{with_rows};
 ghost use Rattle.event_count.specs.Rows.Seats.{row_count_id, row_sizes_of, IsSilent};
 ghost use Rattle.event_count.specs.Seats.{card_of, seat_id};
-ghost use Rattle.event_count.specs.Waits.{RestsOnCancelIn};
+ghost use Rattle.event_count.specs.Waits.{RestsOnCancel};
 
 use event_count::{
     Committed, CountFault, MOST_WAITERS, PassAll, RowCount, RowFault, RowSizes, Seat, WaitPoint,
@@ -145,7 +145,7 @@ impl<A: Allocator + Clone> WaitPoint<A> for RowPoint<A> {
         ensures number { (card_of waiter.new.seat).number ≡ (card_of waiter.old.seat).number }
         ensures running { (card_of waiter.new.seat).phase ≡ Running }
         ensures owing { (card_of waiter.new.seat).owing ≡ (card_of waiter.old.seat).owing }
-        ensures answer { RestsOnCancelIn with_rows (card_of waiter.old.seat)
+        ensures answer { RestsOnCancel with_rows (card_of waiter.old.seat)
             (card_of waiter.new.seat) }
     {
         self.count.cancel(rt, &mut waiter.seat);

@@ -9,12 +9,12 @@ use Rattle.event_count.specs.declared.wait_point.WaitPoint as wait_point
 use Rattle.run_queue.specs.Account.{AccountsFor}
 use Rattle.run_queue.specs.Bag.{total, SameBag}
 use Rattle.run_queue.specs.declared.rows.Rows as rows
-use Rattle.worker_pool.specs.declared.gathered.Gathered.{Gathered}
-use Rattle.worker_pool.specs.declared.job_queue.JobQueue.{JobQueue}
+use Rattle.worker_pool.specs.declared.closing.gathered.Gathered.{Gathered}
+use Rattle.worker_pool.specs.declared.working.job_queue.JobQueue.{JobQueue}
 use Rattle.worker_pool.specs.declared.job.Job as job
 use Rattle.worker_pool.specs.Laws.{JobLaw}
-use Rattle.worker_pool.specs.declared.pool.Pool.{Pool}
-use Rattle.worker_pool.specs.declared.worker.WorkerState.{WorkerState}
+use Rattle.worker_pool.specs.declared.working.pool.Pool.{Pool}
+use Rattle.worker_pool.specs.declared.working.worker.WorkerState.{WorkerState}
 use Rattle.worker_pool.specs.Accounts.{Account, counted}
 use Rattle.worker_pool.specs.Closings.{IsHandedBack}
 use Rattle.worker_pool.specs.Gathered.{Adds, HasGathered, IsEmpty}

@@ -6,8 +6,8 @@ use Rattle.std.proofs.lemmas.Bool.{true≢false}
 use Rattle.std.proofs.lemmas.List.{append-nil}
 use Rattle.std.proofs.lemmas.List.Elements.{All-nil, All-cons}
 use Rattle.std.proofs.lemmas.List.Sums.{sum_by_push, count_by-le-length}
-use Rattle.worker_pool.specs.declared.start.home.Home.{Home}
-use Rattle.worker_pool.specs.declared.start.home.Start.TheVariants.{Joined, NotAsked}
+use Rattle.worker_pool.specs.declared.opening.start.home.Home.{Home}
+use Rattle.worker_pool.specs.declared.opening.start.home.Start.TheVariants.{Joined, NotAsked}
 use Rattle.worker_pool.specs.Starts.{was_joined, was_asked, joined_of, AsksFirst, ComesHome}
 use Rattle.worker_pool.specs.Starts.{Returns}
 use Rattle.worker_pool.proofs.Growing.{All-snoc, length-snoc}

@@ -4,10 +4,10 @@ use Rattle.std.specs.Prelude.{vec_len, vec_capacity}
 use Rattle.std.specs.List.{flat_map}
 use Rattle.event_count.specs.declared.wait_point.WaitPoint as wait_point
 use Rattle.run_queue.specs.declared.rows.Rows as rows
-use Rattle.worker_pool.specs.declared.gathered.Gathered.{Gathered}
-use Rattle.worker_pool.specs.declared.job_queue.JobQueue.{JobQueue}
+use Rattle.worker_pool.specs.declared.closing.gathered.Gathered.{Gathered}
+use Rattle.worker_pool.specs.declared.working.job_queue.JobQueue.{JobQueue}
 use Rattle.worker_pool.specs.declared.job.Job as job
-use Rattle.worker_pool.specs.declared.worker.WorkerState.{WorkerState}
+use Rattle.worker_pool.specs.declared.working.worker.WorkerState.{WorkerState}
 use Rattle.worker_pool.specs.Accounts.{Account, counted}
 use Rattle.worker_pool.specs.Seats.{IsIdle}
 use Rattle.worker_pool.specs.Laws.{law_of}

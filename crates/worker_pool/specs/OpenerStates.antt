@@ -5,8 +5,8 @@ use Rattle.run_queue.specs.declared.rows.Rows as rows
 use Rattle.worker_pool.specs.declared.job.Job as job
 use Rattle.worker_pool.specs.declared.lists.Lists as lists
 use Rattle.worker_pool.specs.declared.caller.Caller.{Caller}
-use Rattle.worker_pool.specs.declared.opener_state.OpenerState.{OpenerState}
-use Rattle.worker_pool.specs.declared.pool.Pool.{Pool}
+use Rattle.worker_pool.specs.declared.opening.opener_state.OpenerState.{OpenerState}
+use Rattle.worker_pool.specs.declared.working.pool.Pool.{Pool}
 use Rattle.worker_pool.specs.Accounts.{Account}
 use Rattle.worker_pool.specs.Callers.{IsCancelled, roots_of, started_of, workers_of, stop_of}
 use Rattle.worker_pool.specs.Seats.{IsOpener}

@@ -11,8 +11,8 @@ use Rattle.run_queue.specs.Limits.{most_rows}
 use Rattle.steal_walk.specs.Partition.{RowRange}
 use Rattle.worker_pool.specs.declared.job.Job as job
 use Rattle.worker_pool.specs.declared.lists.Lists as lists
-use Rattle.worker_pool.specs.declared.open.Opened.{Opened}
-use Rattle.worker_pool.specs.declared.worker.WorkerState.{WorkerState}
+use Rattle.worker_pool.specs.declared.opening.open.Opened.{Opened}
+use Rattle.worker_pool.specs.declared.working.worker.WorkerState.{WorkerState}
 use Rattle.worker_pool.specs.OpenerStates.{IsFresh}
 use Rattle.worker_pool.specs.Gathered.{IsEmpty, HasRoom}
 use Rattle.worker_pool.specs.Seats.{IsIdle}

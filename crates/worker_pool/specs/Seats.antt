@@ -4,7 +4,7 @@ use Rattle.event_word.specs.declared.phase.Phase.TheVariants.{Running, Pre}
 use Rattle.event_count.specs.declared.wait_point.WaitPoint as wait_point
 use Rattle.run_queue.specs.declared.rows.Rows as rows
 use Rattle.run_queue.specs.Limits.{most_rows}
-use Rattle.worker_pool.specs.declared.job_queue.JobQueue.{JobQueue}
+use Rattle.worker_pool.specs.declared.working.job_queue.JobQueue.{JobQueue}
 
 module _ {W A T : Type 0} (point : wait_point.Ghosts W A T) where
   -- a seat of this point, that runs and owes nobody a wake

@@ -1,8 +1,8 @@
 -- What a worker has found since it entered: which rows were empty, and whether the pool was open.
 use Rattle.std.specs.Prelude.{◌≡◌, ℕ, ◌<◌, ◌==◌, ◌⊎◌, Bool, true, false, not, replicate}
 use Rattle.std.specs.Prelude.{slice_set, slice_index_or}
-use Rattle.worker_pool.specs.declared.job_queue.seen.Seen.{Seen}
-use Rattle.worker_pool.specs.declared.job_queue.seen.TheConstants.{ROWS}
+use Rattle.worker_pool.specs.declared.working.job_queue.seen.Seen.{Seen}
+use Rattle.worker_pool.specs.declared.working.job_queue.seen.TheConstants.{ROWS}
 use Rattle.worker_pool.specs.Stops.{open_word, cancelled_word}
 
 -- it has looked at nothing

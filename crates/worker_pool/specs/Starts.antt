@@ -3,9 +3,9 @@ use Rattle.std.specs.Prelude.{◌≡◌, ℕ, ◌+◌, ◌≤◌, ◌⊎◌, Boo
 use Rattle.std.specs.Prelude.{All, Vec, vec_len, vec_capacity, count_by, min}
 use Rattle.std.specs.List.{AllZip}
 use Rattle.run_queue.specs.Limits.{most_rows}
-use Rattle.worker_pool.specs.declared.start.home.Home.{Home}
-use Rattle.worker_pool.specs.declared.start.home.Start.{Start}
-use Rattle.worker_pool.specs.declared.start.home.Start.TheVariants.{Joined, Refused, NotAsked}
+use Rattle.worker_pool.specs.declared.opening.start.home.Home.{Home}
+use Rattle.worker_pool.specs.declared.opening.start.home.Start.{Start}
+use Rattle.worker_pool.specs.declared.opening.start.home.Start.TheVariants.{Joined, Refused, NotAsked}
 
 -- a thread was started, and was joined
 abbrev pub was_joined : Start → Bool

@@ -1,8 +1,8 @@
 -- What the steps on the stop word tell.
 use Rattle.std.specs.Prelude.{◌≡◌, ℕ, List, [], ◌++◌}
 use Rattle.atomic_table.specs.Table.{Me, Step}
-use Rattle.worker_pool.specs.declared.stop.TheConstants.{STOP}
-use Rattle.worker_pool.specs.declared.stop_view.StopView.{StopView}
+use Rattle.worker_pool.specs.declared.working.stop.TheConstants.{STOP}
+use Rattle.worker_pool.specs.declared.working.stop_view.StopView.{StopView}
 
 -- a seat's view, and the slots that it holds: none
 abbrev pub Sat : Type 0 → Type 0

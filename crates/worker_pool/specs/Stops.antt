@@ -2,9 +2,9 @@
 use Rattle.std.specs.Prelude.{◌≡◌, ℕ, Bool, true, false, List}
 use Rattle.atomic_table.specs.declared.shared.Shared.{Shared}
 use Rattle.atomic_table.specs.declared.shared.Seat.{Seat}
-use Rattle.worker_pool.specs.declared.stop.TheConstants.{WORDS}
-use Rattle.worker_pool.specs.declared.stop.StopRule.{StopRule}
-use Rattle.worker_pool.specs.declared.stop_view.StopView.{StopView}
+use Rattle.worker_pool.specs.declared.working.stop.TheConstants.{WORDS}
+use Rattle.worker_pool.specs.declared.working.stop.StopRule.{StopRule}
+use Rattle.worker_pool.specs.declared.working.stop_view.StopView.{StopView}
 
 -- the stop word of a pool that is open
 abbrev pub open_word : ℕ

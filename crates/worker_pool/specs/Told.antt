@@ -1,9 +1,9 @@
 -- What the thread that opened a pool has yet to tell those that wait.
 use Rattle.std.specs.Prelude.{◌≡◌, ℕ, false}
 use Rattle.atomic_table.specs.declared.shared.Seat.{Seat}
-use Rattle.worker_pool.specs.declared.job_queue.opener_seats.OpenerSeats.{OpenerSeats}
-use Rattle.worker_pool.specs.declared.job_queue.told.Told.{Told}
-use Rattle.worker_pool.specs.declared.stop_view.StopView.{StopView}
+use Rattle.worker_pool.specs.declared.working.job_queue.opener_seats.OpenerSeats.{OpenerSeats}
+use Rattle.worker_pool.specs.declared.working.job_queue.told.Told.{Told}
+use Rattle.worker_pool.specs.declared.working.stop_view.StopView.{StopView}
 use Rattle.worker_pool.specs.Stops.{stored_of}
 
 -- what had been stored in the stop word when all were last woken

@@ -1,7 +1,7 @@
 -- What the turns of a worker find.
 use Rattle.std.specs.Prelude.{List, [], ◌∷◌}
-use Rattle.worker_pool.specs.declared.worker.Turn.{Turn}
-use Rattle.worker_pool.specs.declared.worker.Turn.TheVariants.{Found, Again, Last}
+use Rattle.worker_pool.specs.declared.working.worker.Turn.{Turn}
+use Rattle.worker_pool.specs.declared.working.worker.Turn.TheVariants.{Found, Again, Last}
 
 -- the job that a turn found, if it found one
 abbrev pub jobs_in : {J : Type 0} → Turn J → List J

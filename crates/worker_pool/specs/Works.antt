@@ -3,9 +3,9 @@ use Rattle.std.specs.Prelude.{◌≡◌, ℕ, ◌≤◌, [], Option, IfSome, fal
 use Rattle.event_count.specs.declared.wait_point.WaitPoint as wait_point
 use Rattle.run_queue.specs.declared.rows.Rows as rows
 use Rattle.worker_pool.specs.declared.job.Job as job
-use Rattle.worker_pool.specs.declared.home_rows.HomeRows.{HomeRows}
-use Rattle.worker_pool.specs.declared.pool.Pool.{Pool}
-use Rattle.worker_pool.specs.declared.worker.WorkerState.{WorkerState}
+use Rattle.worker_pool.specs.declared.working.home_rows.HomeRows.{HomeRows}
+use Rattle.worker_pool.specs.declared.working.pool.Pool.{Pool}
+use Rattle.worker_pool.specs.declared.working.worker.WorkerState.{WorkerState}
 use Rattle.worker_pool.specs.Accounts.{Account}
 use Rattle.worker_pool.specs.Seats.{IsOwner}
 use Rattle.worker_pool.specs.Laws.{law_of}

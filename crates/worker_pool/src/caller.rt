@@ -4,12 +4,12 @@ ghost use Rattle.worker_pool.specs.Callers.{IsCaller, StaysCaller, Closes, IsCan
 ghost use Rattle.worker_pool.specs.Callers.{started_of, workers_of, stop_of};
 
 use crate::job::Job;
-use crate::job_queue::{JobQueue, OpenerSeats, Told};
 use crate::lists::Lists;
-use crate::passes::Passes;
-use crate::run::begin;
-use crate::stop;
-use crate::stop::{StopSeat, StopWord};
+use crate::working::job_queue::{JobQueue, OpenerSeats, Told};
+use crate::working::passes::Passes;
+use crate::working::run::begin;
+use crate::working::stop;
+use crate::working::stop::{StopSeat, StopWord};
 use event_count::WaitPoint;
 use run_queue::Rows;
 use std::alloc::Allocator;

@@ -56,28 +56,15 @@
 
 mod boxed;
 mod caller;
-mod close;
 mod closed;
-mod closer;
+mod closing;
 mod entry;
 mod gate;
-mod gathered;
-mod home_rows;
 mod job;
-mod job_queue;
 mod lists;
-mod open;
-mod opener_state;
-mod opens;
-mod passes;
-mod pool;
-mod run;
+mod opening;
 mod setup;
-mod start;
-pub mod stop;
-mod stop_view;
-mod worker;
-mod workplace;
+mod working;
 
 pub use boxed::{BoxedJob, BoxedTask, TaskOut};
 pub use caller::Caller;

@@ -24,7 +24,7 @@ use Rattle.event_count.specs.declared.rule.RowSizes.{RowSizes}
 use Rattle.event_count.specs.declared.view.Exchange.{Exchange}
 use Rattle.event_count.specs.declared.view.Card.{Card}
 use Rattle.event_count.specs.declared.view.View.{View}
-use Rattle.event_count.specs.Gains.{commit_events, consuming_in, pushing_in}
+use Rattle.event_count.specs.Gains.{commit_events, consuming, pushing}
 use Rattle.event_count.specs.Kinds.{IsKind, MayCommit}
 use Rattle.event_count.specs.Shown.{CountState, Shows}
 use Rattle.event_count.proofs.Acting.{AreBy}
@@ -158,7 +158,7 @@ module _ (k : RowSizes) (s : CountState) (history : List Event) (w : World)
         (lt-ltb 0 x.signals there)
 
     pub consume_fits : (e : Exchange) → 0 < w.signals
-        → Fitting k w taken (commit_events rowed c.number) c (consuming_in rowed c e)
+        → Fitting k w taken (commit_events rowed c.number) c (consuming rowed c e)
     consume_fits e there =
         let same = alike rowed in let signals = same.signals in
         let t = told k s history w r id v c at is in
@@ -194,7 +194,7 @@ module _ (k : RowSizes) (s : CountState) (history : List Event) (w : World)
         (le-ltb 0 x.signals (omega arith))
 
     pub push_fits : (e : Exchange) → w.signals ≡ 0
-        → Fitting k w (park x c.number) (commit_events rowed c.number) c (pushing_in rowed c e)
+        → Fitting k w (park x c.number) (commit_events rowed c.number) c (pushing rowed c e)
     push_fits e none =
         let same = alike rowed in let signals = same.signals in
         let t = told k s history w r id v c at is in

@@ -3,76 +3,66 @@ ghost use Rattle.std.specs.Prelude.{◌≡◌, ◌<◌, [], true, false, None};
 ghost use Rattle.event_word.specs.declared.phase.Phase.TheVariants.{Running, Pre};
 
 use crate::answers::PassAll;
-use crate::row_count::RowCount;
+use crate::count::Count;
+use crate::kind::Rowed;
 use crate::rows::plays::{Measures, Passes, PassesFlag, Stops};
 use crate::rule::{STOP, row_word_of};
 use crate::seat::Seat;
 use std::alloc::Allocator;
 
-impl<A: Allocator> RowCount<A> {
-    ghost use Rattle.event_count.specs.Seats.{card_of, looked_of};
+impl<A: Allocator> Count<Rowed, A> {
+    ghost use Rattle.event_count.specs.Seats.{card_of, looked_of, row_sizes_of, IsSeatOf};
     ghost use Rattle.event_count.specs.Kinds.{has_passed_row};
     ghost use Rattle.event_count.specs.Rows.Gains.{passing, measuring};
-    ghost use Rattle.event_count.specs.Rows.Seats.{row_sizes_of, IsSeatAt};
     ghost use Rattle.event_count.specs.Rows.Calls.{IsPassFlag, IsStop, IsAfterPasses, IsPassAll};
 
     /// How many jobs the row has, by a look that passes nothing: who waits passes the row.
     pub fn length(&self, seat: &mut Seat, row: u16) -> u64
-        requires of { IsSeatAt self.now seat.old }
+        requires of { IsSeatOf self.now seat.old }
         requires row { row < (row_sizes_of self.now).rows }
-        ensures of { IsSeatAt self.now seat.new }
+        ensures of { IsSeatOf self.now seat.new }
         ensures used { looked_of seat.new ≡ None }
         ensures card { card_of seat.new ≡ measuring (card_of seat.old) row result }
     {
         let word = row_word_of(self.lines(), row);
         seat.looked = None;
-        self.counter
-            .table
-            .shared
-            .load::<Measures>(&mut seat.seat, word)
+        self.table.shared.load::<Measures>(&mut seat.seat, word)
     }
 
     /// How many jobs a pre-waiter finds in the row. Where there are none, it has passed the row.
     pub fn pass(&self, seat: &mut Seat, row: u16) -> u64
-        requires of { IsSeatAt self.now seat.old }
+        requires of { IsSeatOf self.now seat.old }
         requires row { row < (row_sizes_of self.now).rows }
         requires pre { (card_of seat.old).phase ≡ Pre }
-        ensures of { IsSeatAt self.now seat.new }
+        ensures of { IsSeatOf self.now seat.new }
         ensures used { looked_of seat.new ≡ None }
         ensures card { card_of seat.new ≡ passing (card_of seat.old) row result }
         ensures passed { result ≡ 0 → has_passed_row (card_of seat.new) row ≡ true }
     {
         let place = row_word_of(self.lines(), row);
         seat.looked = None;
-        self.counter
-            .table
-            .shared
-            .load::<Passes>(&mut seat.seat, place)
+        self.table.shared.load::<Passes>(&mut seat.seat, place)
     }
 
     /// Whether a pre-waiter finds that nobody has stopped the count. It has passed the flag then.
     pub fn pass_flag(&self, seat: &mut Seat) -> bool
-        requires of { IsSeatAt self.now seat.old }
+        requires of { IsSeatOf self.now seat.old }
         requires pre { (card_of seat.old).phase ≡ Pre }
-        ensures of { IsSeatAt self.now seat.new }
+        ensures of { IsSeatOf self.now seat.new }
         ensures used { looked_of seat.new ≡ None }
         ensures card { IsPassFlag (card_of seat.old) result (card_of seat.new) }
     {
         seat.looked = None;
-        let found = self
-            .counter
-            .table
-            .shared
-            .load::<PassesFlag>(&mut seat.seat, STOP);
+        let found = self.table.shared.load::<PassesFlag>(&mut seat.seat, STOP);
         found == 0
     }
 
     /// Looks at the stop word and then at each row, up to the first that shows a stop or jobs. The
     /// seat may commit where it has passed all.
     pub fn pass_all(&self, seat: &mut Seat) -> PassAll
-        requires of { IsSeatAt self.now seat.old }
+        requires of { IsSeatOf self.now seat.old }
         requires pre { (card_of seat.old).phase ≡ Pre }
-        ensures of { IsSeatAt self.now seat.new }
+        ensures of { IsSeatOf self.now seat.new }
         ensures used { looked_of seat.new ≡ None }
         ensures same { IsAfterPasses (card_of seat.old) (card_of seat.new) }
         ensures answer { IsPassAll (row_sizes_of self.now).rows (card_of seat.old) result
@@ -92,17 +82,16 @@ impl<A: Allocator> RowCount<A> {
     /// Stops the count, so that nobody passes the flag any more, and answers whether it was this
     /// call that did. The seat is then to notify all.
     pub fn stop(&self, seat: &mut Seat) -> bool
-        requires of { IsSeatAt self.now seat.old }
+        requires of { IsSeatOf self.now seat.old }
         requires running { (card_of seat.old).phase ≡ Running }
         requires owes_none { (card_of seat.old).owing ≡ [] }
         requires silent { (card_of seat.old).announcing ≡ false }
-        ensures of { IsSeatAt self.now seat.new }
+        ensures of { IsSeatOf self.now seat.new }
         ensures used { looked_of seat.new ≡ None }
         ensures card { IsStop (card_of seat.old) result (card_of seat.new) }
     {
         seat.looked = None;
         let found = self
-            .counter
             .table
             .shared
             .compare_exchange::<Stops>(&mut seat.seat, STOP, 0, 1);

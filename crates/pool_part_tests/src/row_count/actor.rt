@@ -1,9 +1,9 @@
 //! A seat of a count with rows, with what it announces and has passed: a call is made where it may be.
 ghost use Rattle.std.specs.Prelude.{◌≡◌, ◌+◌, true, All, IsTrue, IfSome};
 ghost use Rattle.event_word.specs.declared.phase.Phase.TheVariants.{Pre};
-ghost use Rattle.event_count.specs.Seats.{card_of, IsIdle};
+ghost use Rattle.event_count.specs.Seats.{card_of, IsIdle, row_sizes_of, IsSeatOf};
 ghost use Rattle.event_count.specs.Kinds.{has_passed_row, HasPassed};
-ghost use Rattle.event_count.specs.Rows.Seats.{row_sizes_of, IsSilent, IsSeatAt, IsTicketAt};
+ghost use Rattle.event_count.specs.Rows.Seats.{IsSilent, IsTicketAt};
 
 use crate::sizes::Sizes;
 use crate::steps::{Step, is_idle};
@@ -50,16 +50,16 @@ impl Actor {
 
     /// The state word, which the seat keeps.
     pub(crate) fn look(&mut self, table: &Table) -> u64
-        requires of { IsSeatAt table.now.count self.old.seat }
-        ensures of { IsSeatAt table.now.count self.new.seat }
+        requires of { IsSeatOf table.now.count self.old.seat }
+        ensures of { IsSeatOf table.now.count self.new.seat }
     {
         table.count.look(&mut self.seat)
     }
 
     /// A ticket of the row, where the seat may publish there.
     pub(crate) fn publish(&mut self, table: &Table, row: u16) -> Option<Ticket>
-        requires of { IsSeatAt table.now.count self.old.seat }
-        ensures of { IsSeatAt table.now.count self.new.seat }
+        requires of { IsSeatOf table.now.count self.old.seat }
+        ensures of { IsSeatOf table.now.count self.new.seat }
         ensures ours { IfSome result (IsTicketAt table.now.count) }
     {
         if row >= table.sizes.rows || !self.silent || !is_idle(&self.seat) {
@@ -72,9 +72,9 @@ impl Actor {
 
     /// Whether the seat may use the ticket up, and does.
     pub(crate) fn take(&mut self, table: &Table, ticket: Ticket) -> bool
-        requires of { IsSeatAt table.now.count self.old.seat }
+        requires of { IsSeatOf table.now.count self.old.seat }
         requires ours { IsTicketAt table.now.count ticket }
-        ensures of { IsSeatAt table.now.count self.new.seat }
+        ensures of { IsSeatOf table.now.count self.new.seat }
     {
         let is_free = is_idle(&self.seat);
         if is_free {
@@ -85,8 +85,8 @@ impl Actor {
 
     /// How many jobs a pre-waiter finds in the row. None: it isn't one, or there is no such row.
     pub(crate) fn pass<R: Abort>(&mut self, rt: &R, table: &Table, row: u16) -> Option<u64>
-        requires of { IsSeatAt table.now.count self.old.seat }
-        ensures of { IsSeatAt table.now.count self.new.seat }
+        requires of { IsSeatOf table.now.count self.old.seat }
+        ensures of { IsSeatOf table.now.count self.new.seat }
     {
         if row >= table.sizes.rows || self.seat.phase() != Phase::Pre {
             return None;
@@ -100,8 +100,8 @@ impl Actor {
 
     /// Whether a pre-waiter finds no stop. None: it isn't one.
     pub(crate) fn pass_flag(&mut self, table: &Table) -> Option<bool>
-        requires of { IsSeatAt table.now.count self.old.seat }
-        ensures of { IsSeatAt table.now.count self.new.seat }
+        requires of { IsSeatOf table.now.count self.old.seat }
+        ensures of { IsSeatOf table.now.count self.new.seat }
     {
         if self.seat.phase() != Phase::Pre {
             return None;
@@ -113,8 +113,8 @@ impl Actor {
 
     /// Whether the seat may stop the count, and is the one that does.
     pub(crate) fn stop(&mut self, table: &Table) -> bool
-        requires of { IsSeatAt table.now.count self.old.seat }
-        ensures of { IsSeatAt table.now.count self.new.seat }
+        requires of { IsSeatOf table.now.count self.old.seat }
+        ensures of { IsSeatOf table.now.count self.new.seat }
     {
         if !self.silent || !is_idle(&self.seat) {
             return false;
@@ -126,8 +126,8 @@ impl Actor {
 
     /// Whether the seat may take the step, and finds and answers what the step says.
     pub(crate) fn takes(&mut self, table: &Table, step: Step) -> bool
-        requires of { IsSeatAt table.now.count self.old.seat }
-        ensures of { IsSeatAt table.now.count self.new.seat }
+        requires of { IsSeatOf table.now.count self.old.seat }
+        ensures of { IsSeatOf table.now.count self.new.seat }
     {
         let count = &table.count;
         match step {
@@ -145,9 +145,9 @@ impl Actor {
 
     // The same of a seat that runs and owes nobody.
     fn takes_running(&mut self, table: &Table, step: Step) -> bool
-        requires of { IsSeatAt table.now.count self.old.seat }
+        requires of { IsSeatOf table.now.count self.old.seat }
         requires idle { IsIdle self.old.seat }
-        ensures of { IsSeatAt table.now.count self.new.seat }
+        ensures of { IsSeatOf table.now.count self.new.seat }
     {
         let count = &table.count;
         match step {
@@ -168,10 +168,10 @@ impl Actor {
 
     // Becomes a pre-waiter, which has passed nothing, if it is a waiter's seat.
     fn prewaits(&mut self, table: &Table) -> bool
-        requires of { IsSeatAt table.now.count self.old.seat }
+        requires of { IsSeatOf table.now.count self.old.seat }
         requires idle { IsIdle self.old.seat }
         requires silent { IsSilent self.old.seat }
-        ensures of { IsSeatAt table.now.count self.new.seat }
+        ensures of { IsSeatOf table.now.count self.new.seat }
     {
         if self.seat.number() > u32::from(table.sizes.workers) {
             return false;
@@ -184,9 +184,9 @@ impl Actor {
 
     // The same of a pre-waiter.
     fn takes_waiting(&mut self, table: &Table, step: Step) -> bool
-        requires of { IsSeatAt table.now.count self.old.seat }
+        requires of { IsSeatOf table.now.count self.old.seat }
         requires pre { (card_of self.old.seat).phase ≡ Pre }
-        ensures of { IsSeatAt table.now.count self.new.seat }
+        ensures of { IsSeatOf table.now.count self.new.seat }
     {
         let count = &table.count;
         match step {

@@ -1,7 +1,7 @@
 //! Calls on counts with rows: sizes that are refused, credits, what a look at all rows answers, and stops.
 ghost use Rattle.std.specs.Prelude.{◌≡◌, ◌<◌};
-ghost use Rattle.event_count.specs.Seats.{card_of, IsIdle};
-ghost use Rattle.event_count.specs.Rows.Seats.{row_sizes_of, row_seats_of, IsSilent, IsSeatAt};
+ghost use Rattle.event_count.specs.Seats.{card_of, IsIdle, row_sizes_of, seats_of, IsSeatOf};
+ghost use Rattle.event_count.specs.Rows.Seats.{IsSilent};
 
 use event_count::{Committed, PassAll, RowCount, RowFault, RowSizes, Seat};
 use std::alloc::Global;
@@ -47,9 +47,9 @@ fn counts_with_rows_are_made_and_closed(rt: HostRuntime) {
 // A count of one waiter and one notifier, of two rows, with a credit each.
 fn pair<R: Abort>(rt: &R, alloc: Global) -> (RowCount, Seat, Seat)
     ensures rows { (row_sizes_of result.0).rows ≡ 2 }
-    ensures seats { row_seats_of result.0 ≡ 2 }
-    ensures waiter_ours { IsSeatAt result.0 result.1 }
-    ensures notifier_ours { IsSeatAt result.0 result.2 }
+    ensures seats { seats_of result.0 ≡ 2 }
+    ensures waiter_ours { IsSeatOf result.0 result.1 }
+    ensures notifier_ours { IsSeatOf result.0 result.2 }
     ensures waits { (card_of result.1).number < (row_sizes_of result.0).waiters }
     ensures idle { IsIdle result.1 × IsIdle result.2 }
     ensures waiter_silent { IsSilent result.1 }

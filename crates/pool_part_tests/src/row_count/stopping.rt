@@ -1,7 +1,7 @@
 //! Waiters of a count with rows that all sleep, and one stop that wakes them.
 ghost use Rattle.std.specs.Prelude.{◌≡◌, All, length};
-ghost use Rattle.event_count.specs.Seats.{card_of, IsIdle};
-ghost use Rattle.event_count.specs.Rows.Seats.{row_sizes_of, IsSilent, IsSeatAt};
+ghost use Rattle.event_count.specs.Seats.{card_of, IsIdle, row_sizes_of, IsSeatOf};
+ghost use Rattle.event_count.specs.Rows.Seats.{IsSilent};
 
 use crate::row_count::threads::{CONSUMERS, PRODUCERS, open, wait};
 use event_count::{RowCount, Seat};
@@ -13,11 +13,11 @@ use std::thread::{self, Threads};
 
 // Sleeps until the count is stopped, and tells before each sleep.
 fn sleep_on<R: Wait + Abort>(rt: &R, count: &RowCount, seat: &mut Seat, waits: &AtomicU64)
-    requires of { IsSeatAt count.now seat.old }
+    requires of { IsSeatOf count.now seat.old }
     requires waiters { (row_sizes_of count.now).waiters ≡ CONSUMERS }
     requires idle { IsIdle seat.old }
     requires silent { IsSilent seat.old }
-    ensures of { IsSeatAt count.now seat.new }
+    ensures of { IsSeatOf count.now seat.new }
     ensures idle { IsIdle seat.new }
 {
     for _ in rt.forever() {
@@ -30,10 +30,10 @@ fn sleep_on<R: Wait + Abort>(rt: &R, count: &RowCount, seat: &mut Seat, waits: &
 
 // Stops the count once each waiter has begun to wait and none is between its prewait and its push.
 fn stop_all<R: Wait + Abort>(rt: &R, count: &RowCount, seat: &mut Seat, waits: &AtomicU64)
-    requires of { IsSeatAt count.now seat.old }
+    requires of { IsSeatOf count.now seat.old }
     requires idle { IsIdle seat.old }
     requires silent { IsSilent seat.old }
-    ensures of { IsSeatAt count.now seat.new }
+    ensures of { IsSeatOf count.now seat.new }
     ensures idle { IsIdle seat.new }
 {
     for _ in rt.forever() {
@@ -54,11 +54,11 @@ fn play<R: Threads + Wait + Abort + Sync>(
     seats: &mut Vec<Seat>,
     waits: &AtomicU64,
 )
-    requires of { All (IsSeatAt count.now) seats.old.items }
+    requires of { All (IsSeatOf count.now) seats.old.items }
     requires waiters { (row_sizes_of count.now).waiters ≡ CONSUMERS }
     requires idle { All IsIdle seats.old.items }
     requires silent { All IsSilent seats.old.items }
-    ensures of { All (IsSeatAt count.now) seats.new.items }
+    ensures of { All (IsSeatOf count.now) seats.new.items }
     ensures idle { All IsIdle seats.new.items }
     ensures all { length seats.new.items ≡ length seats.old.items }
 {
@@ -67,11 +67,11 @@ fn play<R: Threads + Wait + Abort + Sync>(
         seats.as_mut_slice(),
         usize::from(CONSUMERS + PRODUCERS),
         &|_, seat: &mut Seat|
-            requires of { IsSeatAt count.now seat.old }
+            requires of { IsSeatOf count.now seat.old }
             requires waiters { (row_sizes_of count.now).waiters ≡ CONSUMERS }
             requires idle { IsIdle seat.old }
             requires silent { IsSilent seat.old }
-            ensures of { IsSeatAt count.entry.now seat.new }
+            ensures of { IsSeatOf count.entry.now seat.new }
             ensures idle { IsIdle seat.new }
         {
             if seat.number() < u32::from(CONSUMERS) {

@@ -1,7 +1,7 @@
 //! Threads that publish jobs at a count with rows, and threads that sleep there until there are some.
 ghost use Rattle.std.specs.Prelude.{◌≡◌, ◌<◌, All, length};
-ghost use Rattle.event_count.specs.Seats.{card_of, IsIdle};
-ghost use Rattle.event_count.specs.Rows.Seats.{row_sizes_of, row_count_id, IsSilent, IsSeatAt};
+ghost use Rattle.event_count.specs.Seats.{card_of, IsIdle, row_sizes_of, IsSeatOf};
+ghost use Rattle.event_count.specs.Rows.Seats.{row_count_id, IsSilent};
 ghost use Rattle.event_count.specs.Rows.Seats.{ticket_id, credit_id};
 
 use event_count::{Committed, Credit, PassAll, RowCount, RowSizes, Seat, Ticket};
@@ -80,11 +80,11 @@ fn put<K: At, R: Wait + Abort>(
     number: u64,
 )
     requires here { row_count_id count.now ≡ K.count }
-    requires of { IsSeatAt count.now seat.old }
+    requires of { IsSeatOf count.now seat.old }
     requires rows { (row_sizes_of count.now).rows ≡ ROWS }
     requires idle { IsIdle seat.old }
     requires silent { IsSilent seat.old }
-    ensures of { IsSeatAt count.now seat.new }
+    ensures of { IsSeatOf count.now seat.new }
     ensures idle { IsIdle seat.new }
     ensures silent { IsSilent seat.new }
 {
@@ -113,10 +113,10 @@ fn take<K: At, R: Wait + Abort>(
     shared: &Shared<K>,
 ) -> bool
     requires here { row_count_id count.now ≡ K.count }
-    requires of { IsSeatAt count.now seat.old }
+    requires of { IsSeatOf count.now seat.old }
     requires idle { IsIdle seat.old }
     requires silent { IsSilent seat.old }
-    ensures of { IsSeatAt count.now seat.new }
+    ensures of { IsSeatOf count.now seat.new }
     ensures idle { IsIdle seat.new }
     ensures silent { IsSilent seat.new }
 {
@@ -140,11 +140,11 @@ fn take<K: At, R: Wait + Abort>(
 
 /// Sleeps where all rows are empty: whether the count was found stopped.
 pub(crate) fn wait<R: Wait + Abort>(rt: &R, count: &RowCount, seat: &mut Seat) -> bool
-    requires of { IsSeatAt count.now seat.old }
+    requires of { IsSeatOf count.now seat.old }
     requires waiter { (card_of seat.old).number < (row_sizes_of count.now).waiters }
     requires idle { IsIdle seat.old }
     requires silent { IsSilent seat.old }
-    ensures of { IsSeatAt count.now seat.new }
+    ensures of { IsSeatOf count.now seat.new }
     ensures idle { IsIdle seat.new }
     ensures silent { IsSilent seat.new }
 {
@@ -169,11 +169,11 @@ pub(crate) fn wait<R: Wait + Abort>(rt: &R, count: &RowCount, seat: &mut Seat) -
 // Takes jobs until the count is stopped and none is left.
 fn consume<K: At, R: Wait + Abort>(rt: &R, count: &RowCount, seat: &mut Seat, shared: &Shared<K>)
     requires here { row_count_id count.now ≡ K.count }
-    requires of { IsSeatAt count.now seat.old }
+    requires of { IsSeatOf count.now seat.old }
     requires waiters { (row_sizes_of count.now).waiters ≡ CONSUMERS }
     requires idle { IsIdle seat.old }
     requires silent { IsSilent seat.old }
-    ensures of { IsSeatAt count.now seat.new }
+    ensures of { IsSeatOf count.now seat.new }
     ensures idle { IsIdle seat.new }
     ensures silent { IsSilent seat.new }
 {
@@ -192,11 +192,11 @@ fn consume<K: At, R: Wait + Abort>(rt: &R, count: &RowCount, seat: &mut Seat, sh
 // Publishes its jobs. The last producer stops the count.
 fn produce<K: At, R: Wait + Abort>(rt: &R, count: &RowCount, seat: &mut Seat, shared: &Shared<K>)
     requires here { row_count_id count.now ≡ K.count }
-    requires of { IsSeatAt count.now seat.old }
+    requires of { IsSeatOf count.now seat.old }
     requires rows { (row_sizes_of count.now).rows ≡ ROWS }
     requires idle { IsIdle seat.old }
     requires silent { IsSilent seat.old }
-    ensures of { IsSeatAt count.now seat.new }
+    ensures of { IsSeatOf count.now seat.new }
     ensures idle { IsIdle seat.new }
     ensures silent { IsSilent seat.new }
 {
@@ -219,12 +219,12 @@ fn play<K: At + Sync + Send, R: Threads + Wait + Abort + Sync>(
     shared: &Shared<K>,
 )
     requires here { row_count_id count.now ≡ K.count }
-    requires of { All (IsSeatAt count.now) seats.old.items }
+    requires of { All (IsSeatOf count.now) seats.old.items }
     requires waiters { (row_sizes_of count.now).waiters ≡ CONSUMERS }
     requires rows { (row_sizes_of count.now).rows ≡ ROWS }
     requires idle { All IsIdle seats.old.items }
     requires silent { All IsSilent seats.old.items }
-    ensures of { All (IsSeatAt count.now) seats.new.items }
+    ensures of { All (IsSeatOf count.now) seats.new.items }
     ensures idle { All IsIdle seats.new.items }
     ensures all { length seats.new.items ≡ length seats.old.items }
 {
@@ -234,12 +234,12 @@ fn play<K: At + Sync + Send, R: Threads + Wait + Abort + Sync>(
         usize::from(CONSUMERS + PRODUCERS),
         &|_, seat: &mut Seat|
             requires here { row_count_id count.now ≡ K.count }
-            requires of { IsSeatAt count.now seat.old }
+            requires of { IsSeatOf count.now seat.old }
             requires waiters { (row_sizes_of count.now).waiters ≡ CONSUMERS }
             requires rows { (row_sizes_of count.now).rows ≡ ROWS }
             requires idle { IsIdle seat.old }
             requires silent { IsSilent seat.old }
-            ensures of { IsSeatAt count.entry.now seat.new }
+            ensures of { IsSeatOf count.entry.now seat.new }
             ensures idle { IsIdle seat.new }
         {
             if seat.number() < u32::from(CONSUMERS) {
@@ -253,7 +253,7 @@ fn play<K: At + Sync + Send, R: Threads + Wait + Abort + Sync>(
 
 /// A count of these consumers and producers, with its seats.
 pub(crate) fn open<R: Abort>(rt: &R, alloc: Global) -> (RowCount, Vec<Seat>)
-    ensures of { All (IsSeatAt result.0) result.1.items }
+    ensures of { All (IsSeatOf result.0) result.1.items }
     ensures waiters { (row_sizes_of result.0).waiters ≡ CONSUMERS }
     ensures notifiers { (row_sizes_of result.0).notifiers ≡ PRODUCERS }
     ensures rows { (row_sizes_of result.0).rows ≡ ROWS }
@@ -282,7 +282,7 @@ fn jobs_go_through<K: At + Sync + Send, R: Threads + Wait + Abort + Sync>(
     mut seats: Vec<Seat>,
 )
     requires here { row_count_id count ≡ K.count }
-    requires of { All (IsSeatAt count) seats.items }
+    requires of { All (IsSeatOf count) seats.items }
     requires waiters { (row_sizes_of count).waiters ≡ CONSUMERS }
     requires notifiers { (row_sizes_of count).notifiers ≡ PRODUCERS }
     requires rows { (row_sizes_of count).rows ≡ ROWS }
@@ -309,7 +309,7 @@ fn jobs_go_through<K: At + Sync + Send, R: Threads + Wait + Abort + Sync>(
 
 // The calls name the count by a type.
 fn named<R: Threads + Wait + Abort + Sync>(rt: &R, alloc: Global, count: RowCount, seats: Vec<Seat>)
-    requires of { All (IsSeatAt count) seats.items }
+    requires of { All (IsSeatOf count) seats.items }
     requires waiters { (row_sizes_of count).waiters ≡ CONSUMERS }
     requires notifiers { (row_sizes_of count).notifiers ≡ PRODUCERS }
     requires rows { (row_sizes_of count).rows ≡ ROWS }

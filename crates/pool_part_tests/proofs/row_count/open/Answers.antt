@@ -1,7 +1,8 @@
 use Rattle.std.proofs.Common.{◌≡◌, Bool, true, false, List, [], ◌∷◌, ◌++◌, sym, subst, All, if◌then◌else◌}
 use Rattle.std.proofs.lemmas.List.Elements.{All-head, All-push, All-rest}
+use Rattle.event_count.specs.Seats.{IsSeatOf}
 use Rattle.event_count.specs.declared.seat.Seat.{Seat}
-use Rattle.event_count.specs.Rows.Seats.{IsSeatAt, IsSilent}
+use Rattle.event_count.specs.Rows.Seats.{IsSilent}
 use Rattle.pool_part_tests.specs.declared.row_count.actor.Actor.{Actor}
 use Rattle.pool_part_tests.proofs.row_count.open.Goals as goal
 
@@ -17,8 +18,8 @@ loop-seat-preserved g c =
     let rest = c.next.new.self.rest.items in
     let first = c.in-Some.ensures.steps.0 in
     let held = c.loop-seat.invariant in
-    let is_ours = λ (seat : Seat). IsSeatAt c.in-Ok.count seat in
-    let is_actors = λ (a : Actor). IsSeatAt c.in-Ok.count a.seat in
+    let is_ours = λ (seat : Seat). IsSeatOf c.in-Ok.count seat in
+    let is_actors = λ (a : Actor). IsSeatOf c.in-Ok.count a.seat in
     let ours = subst is_ours (sym c.of.ensures.seat)
     (All-head is_ours c.in-Some.seat rest (subst (All is_ours) first held.ours)) in
     record {

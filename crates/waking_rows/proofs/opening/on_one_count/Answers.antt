@@ -4,8 +4,8 @@ use Rattle.std.proofs.lemmas.List.Elements.{All-take, All-drop, All-weaker}
 use Rattle.event_word.specs.Step.{row_limit}
 use Rattle.event_word.specs.declared.phase.Phase.TheVariants.{Running}
 use Rattle.event_count.specs.declared.seat.Seat.{Seat}
-use Rattle.event_count.specs.Seats.{card_of, seat_id, IsIdle}
-use Rattle.event_count.specs.Rows.Seats.{row_count_id, IsSeatAt}
+use Rattle.event_count.specs.Seats.{card_of, seat_id, IsIdle, IsSeatOf}
+use Rattle.event_count.specs.Rows.Seats.{row_count_id}
 use Rattle.waking_rows.specs.Seats.{first_credits}
 use Rattle.waking_rows.proofs.Opened.{waiter_numbers, all_through, all_credits}
 use Rattle.waking_rows.proofs.opening.on_one_count.Goals as goal
@@ -43,7 +43,7 @@ returns-clause-ours g c =
     let ours = λ (seat : Seat). seat_id seat ≡ row_count_id (arc_value c.in_ok-try_clone.field-0) in
     let is = c.in_ok-waiters.ensures.seats ∙ c.in_ok-others.ensures.items in
     all_through ours _ (subst (All ours) (sym is) (All-take ours _ _
-    (All-weaker (IsSeatAt c.in-Ok.count) _ (λ seat at. at ∙ sym same) _ c.in-Ok.ensures.ours)))
+    (All-weaker (IsSeatOf c.in-Ok.count) _ (λ seat at. at ∙ sym same) _ c.in-Ok.ensures.ours)))
 
 pub returns-clause-credits : goal.returns-clause-credits
 returns-clause-credits g c =

@@ -3,8 +3,8 @@ use Rattle.std.proofs.lemmas.List.Elements.{All-weaker}
 use Rattle.event_word.specs.declared.phase.Phase.TheVariants.{Running}
 use Rattle.event_count.specs.declared.seat.Seat.{Seat}
 use Rattle.std.specs.Arc.{arc_value}
-use Rattle.event_count.specs.Seats.{card_of, seat_id, IsIdle}
-use Rattle.event_count.specs.Rows.Seats.{row_count_id, IsSeatAt}
+use Rattle.event_count.specs.Seats.{card_of, seat_id, IsIdle, IsSeatOf}
+use Rattle.event_count.specs.Rows.Seats.{row_count_id}
 use Rattle.waking_rows.proofs.Opened.{all_numbers, all_through}
 use Rattle.waking_rows.proofs.row_point.RowPointWaitPoint.open.Goals as goal
 
@@ -35,4 +35,4 @@ returns-in-Ok-new-clause-ours g c =
     let same = ap row_count_id c.in-Ok-new.ensures.ok in
     let ours = λ (seat : Seat). seat_id seat ≡ row_count_id (arc_value c.in-Ok-new.count) in
     all_through ours _ (subst (All ours) (sym c.in_ok-list.ensures.seats)
-    (All-weaker (IsSeatAt c.in-Ok.made.0) _ (λ seat at. at ∙ sym same) _ c.in-Ok.ensures.ours))
+    (All-weaker (IsSeatOf c.in-Ok.made.0) _ (λ seat at. at ∙ sym same) _ c.in-Ok.ensures.ours))

@@ -1,7 +1,0 @@
-use Rattle.event_count.proofs.TakingAll.{all_keeps}
-use Rattle.event_count.proofs.counter.Counter.take_all.Goals as goal
-
-pub exchange-requires-clause-allowed : goal.exchange-requires-clause-allowed
-exchange-requires-clause-allowed g c =
-    all_keeps _ _ _ _ c.args.seat.now.alone _ _ c.requires.running c.requires.owes_none
-    c.requires.offered

@@ -1,0 +1,204 @@
+//! What a worker does at the rows and at the point.
+ghost use Rattle.std.specs.Prelude.{◌≡◌, ◌≢◌, ◌↔◌, ◌<◌, ◌++◌, All, IsTrue, IfErr, IfSome, IsNone};
+ghost use Rattle.std.specs.Prelude.{is_ok, option_to_list, true, false, not};
+ghost use Rattle.run_queue.specs.Account.{AddsIfOk};
+ghost use Rattle.steal_walk.specs.Walk.{VisitsEachOnce};
+ghost use Rattle.worker_pool.specs.Seats.{IsOwner, HasEntered};
+ghost use Rattle.worker_pool.specs.Seen.{none_seen, after_stop_look, HasPassedRows};
+ghost use Rattle.worker_pool.specs.Stops.{IsStopSeatOf, jobs_of, stored_of, found_of, open_word};
+
+use crate::working::job_queue::JobQueue;
+use crate::working::job_queue::seen::Seen;
+use crate::working::job_queue::steal::steal;
+use crate::working::stop::{StopSeat, StopWord};
+use event_count::WaitPoint;
+use run_queue::Rows;
+use std::alloc::Allocator;
+use std::marker::PhantomData;
+use std::sync::Wait;
+use steal_walk::Walk;
+
+/// The seats of a worker, and what it knows of those that wait and of the jobs that they wait for.
+#[derive(Drop)]
+pub(crate) struct WorkerSeats<J, A: Allocator, W: WaitPoint<A>, R: Rows<J, A>> {
+    pub(crate) row: R::Seat,
+    pub(crate) waker: W::Seat,
+    /// Whether it has put a job in since it last woke somebody.
+    announcing: bool,
+    seen: Seen,
+    of: PhantomData<(J, A)>,
+}
+
+impl<J, A: Allocator, W: WaitPoint<A>, R: Rows<J, A>> WorkerSeats<J, A, W, R> {
+    pub(crate) fn new(row: R::Seat, waker: W::Seat) -> Self
+        ensures row { result.row ≡ row }
+        ensures waker { result.waker ≡ waker }
+        ensures silent { result.announcing ≡ false }
+    {
+        WorkerSeats {
+            row,
+            waker,
+            announcing: false,
+            seen: Seen::nothing(),
+            of: PhantomData,
+        }
+    }
+
+    /// Puts a job in at the front of its own row, or gives it back. For a job that is in, somebody
+    /// is to be woken.
+    pub(crate) fn put_front<RT: Wait>(
+        &mut self,
+        rt: &RT,
+        queue: &JobQueue<W, R>,
+        job: J,
+    ) -> Result<(), J>
+        requires seats { IsOwner R.Rows W.WaitPoint queue.now self.old.row self.old.waker }
+        requires silent { self.old.announcing ≡ false }
+        ensures seats { IsOwner R.Rows W.WaitPoint queue.now self.new.row self.new.waker }
+        ensures announcing { self.new.announcing ≡ is_ok result }
+        ensures returned { IfErr result (λ back. back ≡ job) }
+        ensures number { R.number_of self.new.row ≡ R.number_of self.old.row }
+        ensures puts { R.keeps_accounts
+            → AddsIfOk result job (R.puts_of self.old.row) (R.puts_of self.new.row) }
+        ensures takes { R.keeps_accounts → R.takes_of self.new.row ≡ R.takes_of self.old.row }
+    {
+        queue.rows.put_front(rt, &mut self.row, job)?;
+        self.announcing = true;
+        Ok(())
+    }
+
+    /// Wakes one of those that wait, if there is one.
+    pub(crate) fn wake_one<RT: Wait>(&mut self, rt: &RT, queue: &JobQueue<W, R>)
+        requires seats { IsOwner R.Rows W.WaitPoint queue.now self.old.row self.old.waker }
+        ensures seats { IsOwner R.Rows W.WaitPoint queue.now self.new.row self.new.waker }
+        ensures silent { self.new.announcing ≡ false }
+        ensures row { self.new.row ≡ self.old.row }
+    {
+        queue.point.wake_one(rt, &mut self.waker);
+        self.announcing = false;
+    }
+
+    /// Takes a job out at the front of its own row.
+    pub(crate) fn take_front<RT: Wait>(&mut self, rt: &RT, queue: &JobQueue<W, R>) -> Option<J>
+        requires seats { IsOwner R.Rows W.WaitPoint queue.now self.old.row self.old.waker }
+        ensures seats { IsOwner R.Rows W.WaitPoint queue.now self.new.row self.new.waker }
+        ensures announcing { self.new.announcing ≡ self.old.announcing }
+        ensures puts { R.keeps_accounts → R.puts_of self.new.row ≡ R.puts_of self.old.row }
+        ensures takes { R.keeps_accounts
+            → R.takes_of self.new.row ≡ R.takes_of self.old.row ++ option_to_list result }
+    {
+        queue.rows.take_front(rt, &mut self.row)
+    }
+
+    /// Takes a job out at the back of a row.
+    pub(crate) fn take_back<RT: Wait>(
+        &mut self,
+        rt: &RT,
+        queue: &JobQueue<W, R>,
+        row: u16,
+    ) -> Option<J>
+        requires seats { IsOwner R.Rows W.WaitPoint queue.now self.old.row self.old.waker }
+        requires row { row < R.row_count queue.now.rows }
+        ensures seats { IsOwner R.Rows W.WaitPoint queue.now self.new.row self.new.waker }
+        ensures announcing { self.new.announcing ≡ self.old.announcing }
+        ensures puts { R.keeps_accounts → R.puts_of self.new.row ≡ R.puts_of self.old.row }
+        ensures takes { R.keeps_accounts
+            → R.takes_of self.new.row ≡ R.takes_of self.old.row ++ option_to_list result }
+    {
+        queue.rows.take_back(rt, &mut self.row, row)
+    }
+
+    /// Takes the last job of the first row of the walk that has one.
+    pub(crate) fn steal<RT: Wait>(
+        &mut self,
+        rt: &RT,
+        queue: &JobQueue<W, R>,
+        walk: Walk,
+    ) -> Option<J>
+        requires seats { IsOwner R.Rows W.WaitPoint queue.now self.old.row self.old.waker }
+        requires walk { All (λ row. row < R.row_count queue.now.rows) walk }
+        ensures seats { IsOwner R.Rows W.WaitPoint queue.now self.new.row self.new.waker }
+        ensures announcing { self.new.announcing ≡ self.old.announcing }
+        ensures puts { R.keeps_accounts → R.puts_of self.new.row ≡ R.puts_of self.old.row }
+        ensures takes { R.keeps_accounts
+            → R.takes_of self.new.row ≡ R.takes_of self.old.row ++ option_to_list result }
+    {
+        steal(rt, &queue.rows, &mut self.row, walk)
+    }
+
+    /// It is about to wait: from now on it is woken. It has yet to look at each row and at the stop
+    /// word.
+    pub(crate) fn enter<RT: Wait>(&mut self, rt: &RT, queue: &JobQueue<W, R>)
+        requires seats { IsOwner R.Rows W.WaitPoint queue.now self.old.row self.old.waker }
+        requires silent { self.old.announcing ≡ false }
+        ensures entered { HasEntered R.Rows W.WaitPoint queue.now self.new.row self.new.waker }
+        ensures silent { self.new.announcing ≡ false }
+        ensures seen { self.new.seen ≡ none_seen }
+        ensures row { self.new.row ≡ self.old.row }
+    {
+        queue.point.enter(rt, &mut self.waker);
+        self.seen = Seen::nothing();
+    }
+
+    /// Whether the pool is closing or cancelled.
+    pub(crate) fn look_at_stop(&mut self, stop: &StopWord<J>, seat: &mut StopSeat<J>) -> bool
+        requires { IsStopSeatOf stop.now seat.old }
+        ensures seen { self.new.seen ≡ after_stop_look (found_of seat.new) }
+        ensures flag { self.new.seen.flag ≡ not result }
+        ensures stopped { self.new.seen.stopped ≡ result }
+        ensures row { self.new.row ≡ self.old.row }
+        ensures waker { self.new.waker ≡ self.old.waker }
+        ensures announcing { self.new.announcing ≡ self.old.announcing }
+        ensures of { IsStopSeatOf stop.now seat.new }
+        ensures same { jobs_of seat.new ≡ jobs_of seat.old }
+        ensures stored { stored_of seat.new ≡ stored_of seat.old }
+        ensures set { IsTrue result ↔ (found_of seat.new ≢ open_word) }
+    {
+        self.seen.look_at_stop(stop, seat)
+    }
+
+    /// The first row of the walk in which it sees a job. It looks at all of them.
+    pub(crate) fn first_full<RT: Wait>(
+        &mut self,
+        rt: &RT,
+        queue: &JobQueue<W, R>,
+        walk: Walk,
+    ) -> Option<u16>
+        requires entered { HasEntered R.Rows W.WaitPoint queue.now self.old.row self.old.waker }
+        requires walk { VisitsEachOnce 0 (R.row_count queue.now.rows) walk }
+        ensures entered { HasEntered R.Rows W.WaitPoint queue.now self.new.row self.new.waker }
+        ensures announcing { self.new.announcing ≡ self.old.announcing }
+        ensures inside { IfSome result (λ row. row < R.row_count queue.now.rows) }
+        ensures passed { IsNone result
+            → HasPassedRows (R.row_count queue.now.rows) self.new.seen }
+        ensures flag { self.new.seen.flag ≡ self.old.seen.flag }
+        ensures stopped { self.new.seen.stopped ≡ self.old.seen.stopped }
+        ensures puts { R.keeps_accounts → R.puts_of self.new.row ≡ R.puts_of self.old.row }
+        ensures takes { R.keeps_accounts → R.takes_of self.new.row ≡ R.takes_of self.old.row }
+    {
+        self.seen.first_full(rt, &queue.rows, &mut self.row, walk)
+    }
+
+    /// Waits until it is woken. Since it entered it has found each row empty and the pool open.
+    pub(crate) fn sleep<RT: Wait>(&mut self, rt: &RT, queue: &JobQueue<W, R>)
+        requires entered { HasEntered R.Rows W.WaitPoint queue.now self.old.row self.old.waker }
+        requires passed { HasPassedRows (R.row_count queue.now.rows) self.old.seen }
+        requires flag { self.old.seen.flag ≡ true }
+        ensures seats { IsOwner R.Rows W.WaitPoint queue.now self.new.row self.new.waker }
+        ensures announcing { self.new.announcing ≡ self.old.announcing }
+        ensures row { self.new.row ≡ self.old.row }
+    {
+        queue.point.sleep(rt, &mut self.waker);
+    }
+
+    /// Gives up waiting.
+    pub(crate) fn leave<RT: Wait>(&mut self, rt: &RT, queue: &JobQueue<W, R>)
+        requires entered { HasEntered R.Rows W.WaitPoint queue.now self.old.row self.old.waker }
+        ensures seats { IsOwner R.Rows W.WaitPoint queue.now self.new.row self.new.waker }
+        ensures announcing { self.new.announcing ≡ self.old.announcing }
+        ensures seen { self.new.seen ≡ self.old.seen }
+        ensures row { self.new.row ≡ self.old.row }
+    {
+        queue.point.leave(rt, &mut self.waker);
+    }
+}

@@ -1,0 +1,100 @@
+//! Running one job to its end.
+ghost use Rattle.std.specs.Prelude.{◌≡◌, ◌+◌, ◌^◌, ◌<◌, ◌≤◌, length};
+ghost use Rattle.worker_pool.specs.Ran.{Ran};
+ghost use Rattle.worker_pool.specs.Laws.{law_of};
+
+use crate::job::{Job, Progress};
+use crate::lists::Lists;
+use crate::working::passes::Passes;
+use std::alloc::Allocator;
+use std::sync::Wait;
+
+/// Takes memory for the job's out, and beside it for as many as are owed, and runs the job. Where
+/// there is none the job is abandoned. The answer counts the jobs that were refused.
+pub(crate) fn begin<RT, J, A, L, P>(
+    rt: &RT,
+    alloc: &A,
+    ctx: &J::Ctx,
+    place: &P::Place,
+    passer: &mut P,
+    outs: &mut L::List,
+    job: J,
+) -> u64
+where
+    RT: Wait,
+    J: Job<A>,
+    A: Allocator + Clone,
+    L: Lists<J::Out, A>,
+    P: Passes<J>,
+    requires { P.is_ready place.now passer.old }
+    ensures ready { P.is_ready place.now passer.new }
+    ensures number { P.number_of passer.new ≡ P.number_of passer.old }
+    ensures takes { P.keeps_accounts → P.takes_of passer.new ≡ P.takes_of passer.old }
+    ensures ran { Ran P.keeps_accounts (law_of J.Job ctx.now) job
+        (P.puts_of passer.old) (P.puts_of passer.new)
+        (L.items_of outs.old) (L.items_of outs.new) result }
+{
+    if L::reserve(outs, 1).is_err() {
+        job.abandon(ctx);
+        return 1;
+    }
+    run::<_, _, _, L, _>(rt, alloc, ctx, place, passer, outs, 0, job)
+}
+
+// Takes steps until the job is done. A kid that isn't passed on is run at once. There is memory for
+// the job's out, and beside it for as many as are owed.
+fn run<RT, J, A, L, P>(
+    rt: &RT,
+    alloc: &A,
+    ctx: &J::Ctx,
+    place: &P::Place,
+    passer: &mut P,
+    outs: &mut L::List,
+    owed: usize,
+    job: J,
+) -> u64
+where
+    RT: Wait,
+    J: Job<A>,
+    A: Allocator + Clone,
+    L: Lists<J::Out, A>,
+    P: Passes<J>,
+    requires ready { P.is_ready place.now passer.old }
+    requires room { length (L.items_of outs.old) + owed + 1 ≤ L.room_of outs.old }
+    requires fits { L.room_of outs.old < 2 ^ 63 }
+    ensures ready { P.is_ready place.now passer.new }
+    ensures number { P.number_of passer.new ≡ P.number_of passer.old }
+    ensures takes { P.keeps_accounts → P.takes_of passer.new ≡ P.takes_of passer.old }
+    ensures room { length (L.items_of outs.new) + owed ≤ L.room_of outs.new }
+    ensures fits { L.room_of outs.new < 2 ^ 63 }
+    ensures ran { Ran P.keeps_accounts (law_of J.Job ctx.now) job
+        (P.puts_of passer.old) (P.puts_of passer.new)
+        (L.items_of outs.old) (L.items_of outs.new) result }
+{
+    let Ok(mine) = alloc.clone() else {
+        job.abandon(ctx);
+        return 1;
+    };
+    match job.step(mine, ctx) {
+        Err(_) => 1,
+        Ok(Progress::Done(out)) => {
+            L::keep(outs, out);
+            0
+        }
+        Ok(Progress::Fork { kid, rest }) => {
+            let Err(kid) = passer.pass(rt, place, kid) else {
+                return run::<_, _, _, L, _>(rt, alloc, ctx, place, passer, outs, owed, rest);
+            };
+            if L::reserve(outs, owed + 2).is_err() {
+                kid.abandon(ctx);
+                return run::<_, _, _, L, _>(
+                    rt, alloc, ctx, place, passer, outs, owed, rest,
+                ).saturating_add(1);
+            }
+            let refused = run::<_, _, _, L, _>(rt, alloc, ctx, place, passer, outs, owed + 1, kid);
+            run::<_, _, _, L, _>(rt, alloc, ctx, place, passer, outs, owed, rest).saturating_add(
+                refused,
+            )
+        }
+    }
+}
