@@ -1,5 +1,5 @@
 -- Facts of each card of each view.
-use Rattle.std.proofs.Common.{◌≡◌, ◌≢◌, ℕ, ◌+◌, ◌<◌, nat_lt, List, [], ◌∷◌, map, length, set, ap}
+use Rattle.std.proofs.Common.{◌≡◌, ◌≢◌, ℕ, ◌+◌, ◌<◌, nat_lt, Bool, true, false, List, [], ◌∷◌, map, length, set, ap}
 use Rattle.std.proofs.Common.{sym, refl, ◌∙◌, subst, ⊎_elim, arith, All}
 use Rattle.std.proofs.lemmas.Bool.{cases_eq, cases_lt, le-ltb}
 use Rattle.std.proofs.lemmas.List.Elements.{All-nil, All-cons, All-head, All-tail}
@@ -11,6 +11,8 @@ use Rattle.event_word.proofs.Lists.{one_if-le-one, one_if-same, one_if-other, ti
 use Rattle.event_count.specs.declared.rule.RowSizes.{RowSizes}
 use Rattle.event_count.specs.declared.view.Card.{Card}
 use Rattle.event_count.specs.declared.view.View.{View}
+use Rattle.event_count.specs.Cards.{rowless, sizes_in}
+use Rattle.event_count.specs.Kinds.{IsKind}
 use Rattle.event_count.specs.Known.{numbers_in, AreDealt, Each}
 use Rattle.event_count.proofs.Totals.{le_total, two_le_total, total-set_at}
 
@@ -84,3 +86,9 @@ module _ (k : RowSizes) (views : List View) (id : ℕ) (v : View) (c : Card) (de
         let after = ap (λ (cs : List Card). length cs) cards in
         let sum = dealt.all in omega arith;
   }
+
+-- a count is of the kind that its type says
+pub is_kind : (rowed : Bool) (k : RowSizes) → (rowed ≡ false → k ≡ rowless (sizes_in k))
+    → IsKind rowed k
+is_kind true k alone = tt
+is_kind false k alone = ap (λ (k : RowSizes). k.rows) (alone refl)

@@ -11,7 +11,6 @@ pub mod First
 pub mod Following
 pub mod Fresh
 pub mod Keeps
-pub mod ByKind
 pub mod Looking
 pub mod PreSeats
 pub mod Retrying

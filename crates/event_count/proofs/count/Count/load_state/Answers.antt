@@ -6,7 +6,7 @@ use Rattle.event_count.specs.Gains.{first_of, behind}
 use Rattle.event_count.specs.Plays.{Sat}
 use Rattle.event_count.proofs.RowSteps.Hearing.{loading_keeps}
 use Rattle.event_count.proofs.Keeps.{look_keeps}
-use Rattle.event_count.proofs.ByKind.{is_kind}
+use Rattle.event_count.proofs.Cards.{is_kind}
 use Rattle.event_count.proofs.count.Count.load_state.Goals as goal
 
 pub load-word-requires : goal.load-word-requires

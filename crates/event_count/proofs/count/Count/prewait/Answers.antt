@@ -1,6 +1,6 @@
 use Rattle.std.proofs.Common.{rules}
 use Rattle.event_count.proofs.Keeps.{prewait_keeps}
-use Rattle.event_count.proofs.ByKind.{is_kind}
+use Rattle.event_count.proofs.Cards.{is_kind}
 use Rattle.event_count.proofs.count.Count.prewait.Goals as goal
 
 pub fetch_add-requires : goal.fetch_add-requires

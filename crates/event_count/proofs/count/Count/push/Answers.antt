@@ -1,5 +1,5 @@
 use Rattle.event_count.proofs.Stacking.{push_keeps}
-use Rattle.event_count.proofs.ByKind.{is_kind}
+use Rattle.event_count.proofs.Cards.{is_kind}
 use Rattle.event_count.proofs.count.Count.push.Goals as goal
 
 pub exchange-requires-clause-allowed : goal.exchange-requires-clause-allowed
