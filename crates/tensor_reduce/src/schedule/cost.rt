@@ -18,7 +18,7 @@ const PRODUCTS: u64 = 400;
 const IN_ROWS: u64 = 250;
 
 /// A thousand that are read in any other order.
-const SCATTERED: u64 = 800;
+const SCATTERED: u64 = 300;
 
 /// A thousand values that are added up.
 const ADDED_UP: u64 = 400;
