@@ -96,9 +96,9 @@ class OneWay:
             cls.open.__exit__(None, None, None)
 
 
-def each_way(names, cases):
-    """Puts a test class for each way of a class of cases into a module's names."""
-    for way in WAYS:
+def each_way(names, cases, ways=tuple(WAYS)):
+    """Puts a test class for each of these ways of a class of cases into a module's names."""
+    for way in ways:
         name = cases.__name__ + "By" + way.title().replace(" ", "")
         made = type(name, (cases, unittest.TestCase), {"way": way, "__module__": names["__name__"]})
         made.__doc__ = f"{cases.__doc__} By {way}."

@@ -23,6 +23,8 @@ from fuzzing.rules import FAULTS
 SIZES = struct.Struct("<QQ")
 MOST, MOST_PLACES = 16_777_216, 10_000_000
 TOO_LONG, BAD_TENSOR, NO_ROOM = b"error 1 TooLong", b"error 7 BadTensor", -100
+# What the first number of a plan of the reference is.
+PLAN = 67
 
 
 def numbers_of(data):
@@ -76,6 +78,8 @@ class Functions:
         self.tensor_evaluate = evaluate(self.evaluate)
         self.tensor_evaluate_arrays = arrays(self.evaluate_arrays)
         self.tensor_dims = dims(self.dims)
+        self.tensor_prepare = dims(self.prepare)
+        self.tensor_run = arrays(self.run)
         self.tensor_fault_name = name(self.fault_name)
         # What was owed, and how often dims alone were asked for.
         self.owed, self.asked_dims = [], 0
@@ -115,6 +119,27 @@ class Functions:
         part = found[first : first + room]
         ctypes.memmove(out, struct.pack(f"<{len(part)}q", *part), 8 * len(part))
         return len(part)
+
+    def prepare(self, header, length, count, plan, plan_room):
+        """The plan is a mark, and the header's length and its bytes, a number each."""
+        self.owe([(header, length, 1)], [(plan, plan_room, 8)])
+        text = ctypes.string_at(header, length)
+        found, _ = answered(text, [0] * count)
+        if fault_number(found):
+            return -fault_number(found)
+        numbers = [PLAN, *text]
+        if len(numbers) > plan_room:
+            return NO_ROOM
+        ctypes.memmove(plan, struct.pack(f"<{len(numbers)}Q", *numbers), 8 * len(numbers))
+        return len(numbers)
+
+    def run(self, plan, length, arrays, count, first, out, room):
+        mark, *text = struct.unpack(f"<{length}Q", ctypes.string_at(plan, 8 * length))
+        if mark != PLAN:
+            self.owed.append("a plan")
+        header = ctypes.create_string_buffer(bytes(text), len(text))
+        place = ctypes.addressof(header)
+        return self.evaluate_arrays(place, len(text), arrays, count, first, out, room)
 
     def dims(self, header, length, count, dims, dims_room):
         self.asked_dims += 1

@@ -8,7 +8,6 @@ import tensor_client as client
 from tensor_client import GREATEST, LEAST, concat, contract, full, tensor, where
 from tensor_client.rules import slid
 from asking import OneWay, each_way
-from calls import FUNCTIONS, METHODS
 from test_asked import documented, method
 
 try:
@@ -314,23 +313,6 @@ class AgainstNumpy(OneWay):
             ):
                 wanted = numpy.asarray(numpy.einsum(labels, *arrays))
                 self.agree(client.einsum(labels, *arrays), wanted, source)
-
-    def test_the_same_call(self):
-        for name, calls in (("functions", FUNCTIONS), ("methods", METHODS)):
-            for source in self.each_trial(name):
-                arrays = source.array([3, 4]), source.array([3, 4])
-                for call in calls:
-                    wanted = numpy.asarray(call(numpy, *arrays))
-                    self.agree(call(client, *map(tensor, arrays)), wanted, source)
-                    if name == "functions":
-                        self.agree(call(client, *arrays), wanted, source)
-
-    def test_every_function_is_here(self):
-        alone = {"run", "request", "answer", "tensor", "contract", "concat", "keep_memory"}
-        named = {it for call in (*FUNCTIONS, *METHODS) for it in call.__code__.co_names}
-        for name, it in vars(client).items():
-            if callable(it) and not isinstance(it, type) and name not in alone:
-                self.assertIn(name, named)
 
     def test_functions_of_numpy(self):
         # Those that call a method; others ask an expression for its values, which it refuses.

@@ -78,6 +78,11 @@ class Asked(OneWay):
             self.assertEqual(self.ask(expr, workers=3, block=2).nested(), nested)
             self.assertEqual(self.ask(expr, workers=256, block=1).nested(), nested)
 
+    def test_truth_is_kept(self):
+        mask = self.ask(tensor([1, 5, 9]) > 3)
+        self.assertEqual(self.ask(~mask & (tensor([1, 0, 1]) == 1)).values, [1, 0, 0])
+        self.assertFalse(self.ask(tensor([1, 5]) + 1).truth)
+
     def test_many_tensors(self):
         # Of the names x0 to x11 the last but one stands third.
         parts = [tensor([it, -it], dims=(2,)) for it in range(12)]

@@ -65,11 +65,11 @@ class Programs(OneWay):
                     numpy.testing.assert_array_equal(found.array(), wanted.astype(numpy.int64))
 
 
-class Twelve(unittest.TestCase):
+class Files(unittest.TestCase):
     """The programs as files."""
 
-    def test_there_are_twelve(self):
-        self.assertEqual(len(list(programs())), 12)
+    def test_all_are_found(self):
+        self.assertEqual(len(list(programs())), 18)
 
 
 each_way(globals(), Programs)

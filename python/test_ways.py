@@ -232,9 +232,12 @@ class Explained(Shell):
         for _ in range(200):
             deep = -deep
         with self.here(TENSOR_EXPLAIN="/no/such/program"):
-            for fault, expr in ((client.NotJson(), deep), (client.TooLarge(), wide)):
+            for fault, expr, said in (
+                (client.NotJson(), deep, "run it in parts"),
+                (client.TooLarge(), wide, "run a part, as <concat"),
+            ):
                 explain(fault, expr, Settings())
-                self.assertIn("run it in parts", str(fault))
+                self.assertIn(said, str(fault))
             fault = client.UnknownOp()
             explain(fault, tensor(1), Settings())
             self.assertEqual(str(fault), "error 9 UnknownOp")

@@ -12,65 +12,35 @@ and in `Tensor.values`. Nested lists and arrays are put into that order and take
 (numpy's order="F"), whatever order they have themselves.
 """
 
-from .expressions import Expr
-from .faults import (
-    BadArgument,
-    BadArity,
-    BadBlock,
-    BadField,
-    BadTensor,
-    BadVersion,
-    BadWorkers,
-    Fault,
-    NoMemory,
-    NotJson,
-    OutOfRange,
-    ProgramFailed,
-    ReadFault,
-    ShapeMismatch,
-    TimedOut,
-    TooLarge,
-    TooLong,
-    UnknownInput,
-    UnknownOp,
-    WriteFault,
-)
-from .functions import (
-    all,
-    any,
-    clip,
-    concat,
-    concatenate,
-    contract,
-    dot,
-    einsum,
-    matmul,
-    max,
-    maximum,
-    min,
-    minimum,
-    ones,
-    pad,
-    prod,
-    reshape,
-    stack,
-    sum,
-    tensordot,
-    transpose,
-    zeros,
-)
-from .requests import answer, request
-from .running import Session, run
-from .tensors import Tensor, full, tensor, where
-from .values import GREATEST, LEAST
+import typing
+
+from .expressions import Expr as Expr  # Before the tensors, which it needs and which need it.
+
+from .compiled import compile as compile
+from .faults import *
+from .functions import *
+from .functions.advice import no_name as _no_name
+from .requests import answer as answer, request as request
+from .running import Session as Session, run as run
+from .tensors import Tensor as Tensor, placeholder as placeholder, tensor as tensor
+from .values import GREATEST as GREATEST, LEAST as LEAST
 
 __version__ = "2.0.0"
-__all__ = [
-    "BadArgument", "BadArity", "BadBlock", "BadField", "BadTensor", "BadVersion", "BadWorkers",
-    "Expr", "Fault", "GREATEST", "LEAST", "NoMemory", "NotJson", "OutOfRange", "ProgramFailed",
-    "ReadFault", "Session", "ShapeMismatch", "Tensor", "TimedOut", "TooLarge", "TooLong",
-    "UnknownInput", "UnknownOp", "WriteFault", "all", "answer", "any", "clip", "concat",
-    "concatenate", "contract", "dot", "einsum", "full", "matmul", "max", "maximum",
-    "min", "minimum", "ones", "pad", "prod", "request", "reshape", "run", "stack", "sum", "tensor",
-    "tensordot", "transpose", "where", "zeros", "__version__",
-]
+
+# As numpy names what makes a new axis of an index, and the dtypes that values can be asked for as.
+newaxis = None
+int64 = int_ = int
+bool_ = bool
+
+if not typing.TYPE_CHECKING:
+    # All of that, but for the modules that it stands in.
+    __all__ = [
+        name
+        for name, it in globals().items()
+        if not name.startswith("_") and (name == "linalg" or not isinstance(it, type(typing)))
+    ]
+    __all__ += ["__version__"]
+
+    def __getattr__(name):
+        """Says what to write in the place of a name of numpy's that isn't here."""
+        raise AttributeError(_no_name("tensor_client", name, __all__))

@@ -8,9 +8,10 @@ import subprocess
 from .expressions import Expr
 from .faults import Fault, NotJson, ProgramFailed, TooLarge
 from .finding import EXPLAIN, built, environment
+from .length import MOST_NODES, too_many_nodes
 from .requests import DEEPEST, Settings, fault_of, request
 
-SECONDS, MOST_NODES = 10, 1_000
+SECONDS = 10
 # What it says behind the fault: the place, a pointer into the text, and the reason.
 SAID = re.compile(r"at (.*?): (.*)")
 
@@ -20,11 +21,11 @@ def explain(fault: Fault, expr: Expr, settings: Settings) -> None:
     Whatever goes wrong on the way, the fault stays what it is."""
     if isinstance(fault, NotJson) and not fault.why:
         fault.tell(f"it nests {expr.depth:,} deep, and may about {DEEPEST}: run it in parts")
+    if isinstance(fault, TooLarge) and not fault.why and expr.nodes > MOST_NODES:
+        fault.tell(too_many_nodes(expr))
     # Behind these come want of memory and streams that fail, which no text tells of.
     if not fault.why and fault.number <= TooLarge.number:
         ask(fault, expr, settings)
-    if isinstance(fault, TooLarge) and not fault.why and expr.nodes > MOST_NODES:
-        fault.tell(f"it has {expr.nodes:,} nodes, and may have {MOST_NODES:,}: run it in parts")
 
 
 def ask(fault: Fault, expr: Expr, settings: Settings) -> None:

@@ -3,18 +3,18 @@ in tensors.py; the examples take their names from the package."""
 
 from __future__ import annotations
 
-from typing import Any, Optional, Sequence
+from typing import TYPE_CHECKING, Any, Optional, Sequence
 
 from . import rules
+from .methods import NumpyMethods
 from .rules import Dims
 from .spreading import alike
-from .values import flag, listed, value_of, whole
-from .ways import NumpyWays
+from .values import flag, is_bool, listed, value_of, whole
 
 MANY = 1_000_000_000
 
 
-class Expr(NumpyWays):
+class Expr(NumpyMethods):
     """An operation on expressions, which `run` has answered. Each operation of the request is a
     method by its own name, each that numpy has by numpy's name too.
 
@@ -26,8 +26,6 @@ class Expr(NumpyWays):
     """
 
     __slots__ = ("operation", "operands", "arguments", "dims", "truth", "depth", "nodes")
-    # What numpy is told: an array on the left leaves an operator to the expression.
-    __array_ufunc__ = None
     __hash__ = object.__hash__
 
     def __init__(
@@ -55,8 +53,38 @@ class Expr(NumpyWays):
         nodes = f"{self.nodes} nodes" if self.nodes <= MANY else "too many nodes"
         return f"<{self.operation}, {dims}, {nodes}>"
 
-    def __bool__(self) -> bool:
-        raise TypeError("an expression is neither true nor false: run it, or use &, | and ~")
+    if not TYPE_CHECKING:
+
+        def __getattr__(self, name: str) -> Any:
+            """Says what to write in the place of a method of numpy's that isn't here."""
+            if name.startswith("__"):
+                raise AttributeError(name)
+            from . import functions
+            from .functions.advice import no_method
+
+            raise AttributeError(no_method(type(self).__name__, name, vars(functions)))
+
+    # What numpy asks, with an expression among what its functions are given.
+
+    def __array_ufunc__(self, function: Any, method: str, *inputs: Any, **more: Any) -> Any:
+        from .functions.protocols import of_ufunc
+
+        return of_ufunc(function, method, inputs, more)
+
+    def __array_function__(self, function: Any, types: Any, inputs: Any, more: Any) -> Any:
+        from .functions.protocols import of_function
+
+        return of_function(function, inputs, more)
+
+    def as_numbers(self) -> Expr:
+        """The same, where values that are 0 and 1 needn't be truth values.
+
+        >>> (tensor([1, 2]) < 2).as_numbers()
+        <lt, dims (2,), 4 nodes>
+        """
+        if not self.truth:
+            return self
+        return Expr(self.operation, self.operands, self.arguments, self.dims)
 
     # One operand, value by value.
 
@@ -98,8 +126,7 @@ class Expr(NumpyWays):
         >>> run(tensor([1, 2]).constant(7)).values
         [7, 7]
         """
-        number = value_of(value)
-        return Expr("constant", [self], [number], self.dims, number in (0, 1))
+        return Expr("constant", [self], [value_of(value)], self.dims, is_bool(value))
 
     # Two and three operands, value by value, repeated by numpy's rule where dims differ.
 

@@ -4,6 +4,12 @@ from __future__ import annotations
 
 from typing import Any, Dict, Tuple, Type
 
+__all__ = [
+    "BadArgument", "BadArity", "BadBlock", "BadField", "BadTensor", "BadVersion", "BadWorkers",
+    "Fault", "NoMemory", "NotJson", "OutOfRange", "ProgramFailed", "ReadFault", "ShapeMismatch",
+    "TimedOut", "TooLarge", "TooLong", "UnknownInput", "UnknownOp", "WriteFault",
+]
+
 
 class ProgramFailed(Exception):
     """There is no program to ask, or it ended without an answer."""

@@ -3,6 +3,7 @@
 from __future__ import annotations
 
 import operator
+from array import array as packed
 from typing import Any, List, Tuple
 
 from .faults import OutOfRange
@@ -17,8 +18,8 @@ def parts_of(index: Tuple[Any, ...], rank: int) -> List[Any]:
     dots = [at for at, it in enumerate(index) if it is Ellipsis]
     if len(dots) > 1:
         raise IndexError("an index may have `..` once")
-    if not all(map(is_index, index)):
-        raise TypeError("an index is numbers and slices: where() and products choose by values")
+    if not all(is_index(it) or is_list(it) for it in index):
+        raise TypeError("an index is numbers, slices, None, `..`, and lists of numbers")
     named = sum(it is not None and it is not Ellipsis for it in index)
     if named > rank:
         raise OutOfRange(f"{named} indices for {rank} axes")
@@ -31,7 +32,17 @@ def is_index(it: Any) -> bool:
     """Whether this names offsets along one axis, or axes: no truth value, no list."""
     if is_bool(it) or getattr(it, "shape", None):
         return False
-    return it is None or it is Ellipsis or isinstance(it, slice) or hasattr(it, "__index__")
+    if it is None or it is Ellipsis or isinstance(it, slice):
+        return True
+    return hasattr(it, "__index__") and not is_list(it)
+
+
+def is_list(it: Any) -> bool:
+    """Whether this is a list of offsets or of truth values, or an expression that has to be
+    answered before it is a number."""
+    if isinstance(it, (list, range, packed)) or getattr(it, "shape", None):
+        return True
+    return getattr(it, "operands", None) not in (None, ())
 
 
 def whole_range(index: Any, dim: int) -> range:

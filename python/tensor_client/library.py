@@ -6,7 +6,7 @@ from __future__ import annotations
 
 import ctypes
 import os
-from typing import Any, Dict, List, Optional
+from typing import Any, Dict, List, Optional, Tuple
 
 from . import finding
 from .expressions import Expr
@@ -20,14 +20,17 @@ from .threads import each, shares
 
 # As include/tensor.h has them.
 NO_ROOM, DIMS_ROOM, NAME_ROOM = -100, 9, 16
+PLAN_ROOM, PLAN_ROOM_EACH = 19_003, 9
 POINTER, SIZE, NUMBER = ctypes.c_void_p, ctypes.c_size_t, ctypes.c_uint64
 DIMS, NAME = NUMBER * DIMS_ROOM, ctypes.c_uint8 * NAME_ROOM
+# A function that is handed arrays, and what it is handed before these: a header, or a plan.
+Asked = Tuple[Any, Any]
 
 
-class Array(ctypes.Structure):
-    """Where an array's values lie, and how many there are."""
-
-    _fields_ = [("values", POINTER), ("length", SIZE)]
+def arrays_of(parts: List[Bytes]) -> Any:
+    """Where the values of each array lie and how many there are, one array behind another."""
+    pairs = [(place_of(it), memoryview(it).nbytes // VALUE) for it in parts]
+    return (NUMBER * (2 * len(pairs)))(*[it for pair in pairs for it in pair])
 
 
 class Library:
@@ -40,30 +43,44 @@ class Library:
             self.evaluate: Any = opened.tensor_evaluate
             self.evaluate_arrays: Any = opened.tensor_evaluate_arrays
             self.dims: Any = opened.tensor_dims
+            self.prepare: Any = opened.tensor_prepare
+            self.run_plan: Any = opened.tensor_run
             self.fault_name: Any = opened.tensor_fault_name
         except (OSError, AttributeError) as fault:
             raise ProgramFailed(f"no library: {by}{path}: {fault}") from fault
         self.evaluate.argtypes = [POINTER, SIZE] * 4
         self.evaluate_arrays.argtypes = [POINTER, SIZE, POINTER, SIZE, NUMBER, POINTER, SIZE]
-        self.dims.argtypes = [POINTER, SIZE, NUMBER, POINTER, SIZE]
+        self.dims.argtypes = self.prepare.argtypes = [POINTER, SIZE, NUMBER, POINTER, SIZE]
+        self.run_plan.argtypes = self.evaluate_arrays.argtypes
         self.fault_name.argtypes = [ctypes.c_uint32, POINTER, SIZE]
-        for it in (self.evaluate, self.evaluate_arrays, self.dims, self.fault_name):
+        for it in (
+            self.evaluate,
+            self.evaluate_arrays,
+            self.dims,
+            self.prepare,
+            self.run_plan,
+            self.fault_name,
+        ):
             it.restype = ctypes.c_int64
 
     def run(self, expr: Expr, settings: Settings, out: Any = None) -> Tensor:
         """The tensor of an expression's values, or its fault."""
-        if out is None and expr.dims is not None and product(expr.dims) < LARGE:
+        few = LARGE if out is not None or expr.dims is None else product(expr.dims)
+        if few < LARGE:
             asked = framed(expr, settings)
-            found = self.answered_at_once(asked, product(expr.dims)) if asked.size < LARGE else None
+            found = self.answered_at_once(asked, few) if asked.size < LARGE else None
             if found is not None:
+                found.truth = expr.truth
                 return found
         result = Result(expr, out)
         expr = result.asked(expr)
         asked = framed(expr, settings)
         parts, dims = [as_memory(it) for it in asked.held], self.dims_of(asked)
         values = result.place(dims, parts)
-        self.fill(asked.header, parts, values, shares(expr, len(values), settings.workers))
-        return result.tensor(values, dims)
+        by_header = self.evaluate_arrays, asked.header
+        places = shares(expr, len(values), settings.workers)
+        self.fill(by_header, arrays_of(parts), len(parts), values, places)
+        return result.tensor(values, dims, expr.truth)
 
     def answered_at_once(self, asked: Framed, room: int) -> Optional[Tensor]:
         """The tensor of a frame of few values, if it has no more values than there is room for."""
@@ -88,23 +105,37 @@ class Library:
             raise self.fault(-size)
         return tuple(dims[1 : 1 + dims[0]])
 
-    def fill(self, header: bytes, parts: List[Bytes], out: memoryview, places: List[range]) -> None:
-        """Writes the values of a frame, each of these shares of its places on a thread."""
-        arrays = (Array * len(parts))()
-        for array, it in zip(arrays, parts):
-            array.values, array.length = place_of(it), memoryview(it).nbytes // VALUE
+    def prepared(self, asked: Framed) -> Any:
+        """The plan of a frame: what its header asks for, as an array of numbers."""
+        header = asked.header
+        room = (NUMBER * (PLAN_ROOM + PLAN_ROOM_EACH * len(asked.held)))()
+        length: int = self.prepare(header, len(header), asked.size, room, len(room))
+        if length < 0:
+            raise self.fault(-length)
+        return (NUMBER * length).from_buffer_copy(room)
+
+    def fill(
+        self, asked: Asked, arrays: Any, many: int, out: memoryview, places: List[range]
+    ) -> None:
+        """Writes the values that are asked for of so many arrays, each of these shares of the
+        places on a thread."""
+        function, text = asked
 
         def write(share: range) -> None:
             part = out[share.start : share.stop]
-            count = self.evaluate_arrays(
-                header, len(header), arrays, len(arrays), share.start, place_of(part), len(part)
+            count = function(
+                text, len(text), arrays, many, share.start, place_of(part), len(part)
             )
-            if count < 0:
-                raise self.fault(-count)
             if count != len(part):
-                raise ProgramFailed(f"{self.path}: {count} values in the place of {len(part)}")
+                raise self.failed(count)
 
         each(write, places)
+
+    def failed(self, count: int) -> Exception:
+        """What is raised where a function returns something else than how many values it wrote."""
+        if NO_ROOM < count < 0:
+            return self.fault(-count)
+        return ProgramFailed(f"{self.path} returned {count}")
 
     def fault(self, number: int) -> Fault:
         name = NAME()

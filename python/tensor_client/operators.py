@@ -5,7 +5,7 @@ from __future__ import annotations
 from typing import TYPE_CHECKING, Any, Callable, NoReturn, Optional, Sequence
 
 from .rules import Dims
-from .values import is_bool, whole
+from .values import is_bool, is_several, whole
 
 if TYPE_CHECKING:
     from .expressions import Expr
@@ -138,28 +138,43 @@ class Operators:
         return self.not_()
 
     def __and__(self, other: Any) -> Expr:
-        self._are_truths("&", "and_", other)
+        self._are_truths("&", "x.and_(y) asks whether values are 0", other)
         return self.and_(other)
 
     def __or__(self, other: Any) -> Expr:
-        self._are_truths("|", "or_", other)
+        self._are_truths("|", "x.or_(y) asks whether values are 0", other)
         return self.or_(other)
 
-    __rand__, __ror__ = __and__, __or__
+    def __xor__(self, other: Any) -> Expr:
+        self._are_truths("^", "x != y tells where values differ", other)
+        return self.ne(other)
 
-    def _are_truths(self, sign: str, method: str, other: Any) -> None:
+    __rand__, __ror__, __rxor__ = __and__, __or__, __xor__
+
+    def __lshift__(self, count: int) -> Expr:
+        """The product with a power of 2, by a number of binary places; of 64 and more, 0.
+
+        >>> run(tensor([1, -2]) << 3).values
+        [8, -16]
+        """
+        if is_several(count):
+            raise TypeError("the runtime has no shifts by values: the count is a number")
+        places = whole(count)
+        if places < 0:
+            raise ValueError("the runtime has no shifts back")
+        return self.mul((2**places + 2**63) % 2**64 - 2**63 if places < 64 else 0)
+
+    def _are_truths(self, sign: str, instead: str, other: Any) -> None:
         """Refuses what is not known to be 0 and 1, where bit by bit and as a whole differ."""
         from .tensors import an_expr
 
         theirs = is_bool(other) or (not isinstance(other, int) and an_expr(other).truth)
         if not (self.truth and theirs):
             raise TypeError(
-                f"the runtime has no bitwise {sign}, which stands for comparisons alone: "
-                f"x.{method}(y) asks whether values are 0"
+                f"the runtime has no bitwise {sign}, which stands for comparisons alone: {instead}"
             )
 
-    __xor__ = __rxor__ = none("bitwise ^", "of comparisons, x != y is the same")
-    __lshift__ = __rlshift__ = none("shifts", "x * 2**n is x << n")
+    __rlshift__ = none("shifts by values")
     __rshift__ = __rrshift__ = none("shifts")
     __truediv__ = __rtruediv__ = none("division")
     __floordiv__ = __rfloordiv__ = none("division")

@@ -12,8 +12,9 @@ from typing import Any, List, Optional, Tuple
 
 from .faults import ProgramFailed, TimedOut
 from .finding import environment
+from .length import MAX_TEXT, MAX_VALUES
 from .memory import FEW, VALUE, Bytes, Held, few_of, memory_for, memory_of, parts_of
-from .requests import MAX_TEXT, MAX_VALUES, Framed, fault_of
+from .requests import Framed, fault_of
 
 SIZES = struct.Struct("<QQ")
 # So many bytes are read at once, and so many parts written.

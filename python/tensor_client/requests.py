@@ -9,21 +9,25 @@ from typing import Any, Callable, Dict, Iterable, List, NamedTuple, Optional, Tu
 
 from .expressions import Expr
 from .faults import Fault, TooLong, fault_made
+from .length import (
+    MAX_TEXT,
+    MAX_VALUES,
+    MOST_NODES,
+    too_long_text,
+    too_many_nodes,
+    too_many_values,
+)
 from .memory import Held
 from .rules import Dims
-from .tensors import Tensor, an_expr
+from .tensors import Placeholder, Tensor, an_expr
 from .values import whole
 
-# So many bytes a text or a frame's header may have, and so many values a frame.
-MAX_TEXT = MAX_VALUES = 16_777_216
 # What version 1 of the request allows; more is asked for by version 2.
 FIRST_RANK, FIRST_WORKERS = 6, 64
 # The version of a request that has an operation, where that isn't 1.
 VERSIONS = dict.fromkeys("stride pad concat convolve".split(), 2)
 # So many arrays in one another a text may have, its own object and an argument's two left out.
 DEEPEST = 120
-# So many nodes an expression may have.
-MOST_NODES = 1_000
 # So many bytes a node of an expression has in a text at least: a name, and a comma behind it.
 LEAST_NODE = 5
 SUMS = frozenset(("add", "sub"))
@@ -133,6 +137,8 @@ class Text:
 
     def begun(self, it: Expr, left: List[Union[Expr, str]]) -> str:
         """The text that an operation begins with; what stands behind that is put on the list."""
+        if isinstance(it, Placeholder):
+            raise TypeError(f"{it!r} has no values: compile(..) takes them at each call")
         high = it.dims is not None and len(it.dims) > FIRST_RANK
         if high or it.operation in VERSIONS:
             self.ask_for(VERSIONS.get(it.operation, 2))
@@ -160,7 +166,7 @@ def text_of(expr: Expr, as_they_lie: bool = False) -> Text:
     """An expression's text, if it isn't too long already; over inputs as they lie in memory, or
     over their values column-major."""
     if expr.nodes > MAX_TEXT // LEAST_NODE:
-        raise TooLong("it was not sent")
+        raise TooLong(too_many_nodes(expr))
     return Text(expr, as_they_lie)
 
 
@@ -173,7 +179,8 @@ def whole_text(found: Text, settings: Settings, inputs: Iterable[str]) -> str:
         f'"block":{whole(settings.block)},"inputs":{{{",".join(inputs)}}},"expr":{found.text}}}'
     )
     if len(text) > MAX_TEXT:
-        raise TooLong("it was not sent")
+        values = sum(len(it.own) for _, it in found.names.values())
+        raise TooLong(too_long_text(len(text), values))
     return text
 
 
@@ -212,12 +219,14 @@ def framed(expr: Expr, settings: Settings) -> Framed:
     if len(named) > 10:
         # Behind "x1" stands "x10".
         named.sort(key=itemgetter(0))
-    lying = [found.lying(it) for _, it in named]
-    held = [it for _, it in lying]
-    size = sum(map(len, held))
+    held, inputs, size = [], [], 0
+    for name, it in named:
+        dims, values = found.lying(it) if it.turned else (it.dims or (), it.own)
+        held.append(values)
+        inputs.append(f"{name[1:]}:{{{dims_text(dims)}}}")
+        size += len(values)
     if size > MAX_VALUES:
-        raise TooLong("it was not sent")
-    inputs = [f"{name[1:]}:{{{dims_text(dims)}}}" for (name, _), (dims, _) in zip(named, lying)]
+        raise TooLong(too_many_values(size))
     return Framed(whole_text(found, settings, inputs).encode(), size, held)
 
 

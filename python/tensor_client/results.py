@@ -6,8 +6,8 @@ from __future__ import annotations
 from typing import Any, Optional, Sequence
 
 from .expressions import Expr
+from .length import MOST_NODES
 from .memory import INT64, Bytes, memory_for, overlap
-from .requests import MOST_NODES
 from .rules import Dims, product
 from .tensors import Tensor
 from .values import numpy
@@ -18,8 +18,11 @@ class Result:
     the last axis fastest: then the expression is asked for with its axes in reverse order, which
     gives them so."""
 
-    def __init__(self, expr: Expr, out: Any = None) -> None:
+    def __init__(self, expr: Expr, out: Any = None, turned: Optional[bool] = None) -> None:
         self.out = None if out is None else checked_out(out)
+        if turned is not None:
+            self.turned = turned
+            return
         # Its axes in reverse order are a node more, as is each input that is turned back.
         can_be_turned = expr.dims is not None and 2 * (expr.nodes + 1) <= MOST_NODES
         is_wanted = are_turned(expr) if self.out is None else not self.out.flags.f_contiguous
@@ -30,7 +33,7 @@ class Result:
         if not self.turned:
             return expr
         dims = (expr.dims or ())[::-1]
-        return Expr("shuffle", [expr], [list(range(len(dims)))[::-1]], dims)
+        return Expr("shuffle", [expr], [list(range(len(dims)))[::-1]], dims, expr.truth)
 
     def place(self, dims: Dims, inputs: Sequence[Bytes]) -> memoryview:
         """Memory for an answer of these dims, which overlaps no input: the array's own, if it can
@@ -45,9 +48,11 @@ class Result:
                     return own
         return memory_for(product(dims))
 
-    def tensor(self, values: memoryview, dims: Dims) -> Tensor:
-        """The tensor of an answer, whose values and dims are as they were asked for."""
-        found = Tensor(values, dims[::-1] if self.turned else dims, turned=self.turned)
+    def tensor(self, values: memoryview, dims: Dims, truth: bool) -> Tensor:
+        """The tensor of an answer, whose values and dims are as they were asked for. What stands in
+        an array that others may write needn't stay truth values."""
+        dims, truth = dims[::-1] if self.turned else dims, truth and self.out is None
+        found = Tensor(values, dims, truth, turned=self.turned)
         if self.out is not None and not overlap(memory_of_out(self.out), values):
             self.out[...] = found.array()
         return found
@@ -68,9 +73,10 @@ def are_turned(expr: Expr) -> bool:
     return found and expr.dims is not None and len(expr.dims) > 1
 
 
-def written(found: Tensor, out: Any) -> Tensor:
+def written(found: Tensor, expr: Expr, out: Any) -> Tensor:
     """The tensor of an answer that came into memory of its own, written into the array too."""
     if out is None:
+        found.truth = expr.truth
         return found
     if checked_out(out).shape != found.dims:
         raise ValueError(f"out has dims {out.shape}, and the answer {found.dims}")

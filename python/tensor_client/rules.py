@@ -31,12 +31,14 @@ def product(numbers: Sequence[int]) -> int:
 def legal(dims: Sequence[int]) -> Dims:
     """Dims that a tensor may have: a 0 counts as 1 where the elements are counted."""
     if len(dims) > MOST_RANK:
-        raise TooLarge(f"{len(dims)} axes, and there may be {MOST_RANK}")
+        raise TooLarge(f"{len(dims)} axes, and there may be {MOST_RANK}: reshape some into one")
     places = 1
     for it in dims:
         places *= it or 1
     if places > MOST_ELEMENTS:
-        raise TooLarge(f"dims {tuple(dims)} have more than {MOST_ELEMENTS:,} places")
+        raise TooLarge(
+            f"dims {tuple(dims)} have more than {MOST_ELEMENTS:,} places: run a part at a time"
+        )
     return tuple(dims)
 
 
@@ -158,5 +160,7 @@ def slid(dims: Dims, kernel: Dims, axes: Sequence[int]) -> Dims:
             raise OutOfRange(f"{it} of a kernel along axis {axis} of dims {dims}")
     found = tuple(it - along.get(axis, 1) + 1 for axis, it in enumerate(dims))
     if product(found) * product(kernel) > MOST_PRODUCTS:
-        raise TooLarge(f"a convolution of more than {MOST_PRODUCTS:,} products")
+        raise TooLarge(
+            f"a convolution of more than {MOST_PRODUCTS:,} products: run a part at a time"
+        )
     return found

@@ -50,7 +50,7 @@ def run(
     try:
         if library is not None:
             return library.run(asked, settings, out)
-        return written(answered(asked, settings, program, timeout, way), out)
+        return written(answered(asked, settings, program, timeout, way), asked, out)
     except Fault as fault:
         explain(fault, asked, settings)
         raise
@@ -151,7 +151,7 @@ class Session:
         )
         try:
             seconds = self.timeout if timeout is None else timeout
-            return written(self._answered(asked, settings, seconds), out)
+            return written(self._answered(asked, settings, seconds), asked, out)
         except Fault as fault:
             explain(fault, asked, settings)
             raise

@@ -4,7 +4,8 @@ a number becomes one."""
 from __future__ import annotations
 
 from array import array as packed
-from typing import Any, List, NoReturn, Optional, Sequence, Union
+from itertools import count
+from typing import Any, Iterator, List, Optional, Sequence, Union
 
 from . import rules
 from .expressions import Expr
@@ -18,20 +19,26 @@ from .memory import (
     memory_of_array,
     memory_of_range,
 )
+from .rules import Dims
+from .showing import shown_as_call, shown_in_rows
 from .values import (
     LISTS,
+    Unanswered,
     are_bools,
     checked,
     checked_array,
+    is_bool,
     listed,
     nested,
+    numbers_of,
     numpy,
     unnested,
     value_of,
     whole,
 )
 
-SHOWN = 8
+# Placeholders are numbered as they are made.
+NUMBERS = count()
 
 
 class Tensor(Expr):
@@ -71,6 +78,14 @@ class Tensor(Expr):
             return columns_of(self.own, self.dims or ())
         return self.own
 
+    def as_numbers(self) -> Tensor:
+        """The same values, which needn't be truth values.
+
+        >>> tensor([True, False]).as_numbers()
+        tensor([1, 0])
+        """
+        return Tensor(self.own, self.dims or (), False, self.shared, self.turned)
+
     @property
     def is_large(self) -> bool:
         """Whether the values are many.
@@ -81,9 +96,25 @@ class Tensor(Expr):
         return len(self.own) >= LARGE
 
     def __repr__(self) -> str:
-        more = f" ({len(self.own):,})" if len(self.own) > SHOWN else ""
-        shown = " ".join(map(str, self.held[:SHOWN])) + (more and " ..")
-        return f"<tensor, dims {self.dims}, values {shown}{more}>"
+        return shown_as_call(self)
+
+    def __str__(self) -> str:
+        return shown_in_rows(self)
+
+    def __format__(self, form: str) -> str:
+        return format(self.item(), form) if form else str(self)
+
+    def at(self, index: Sequence[int]) -> int:
+        """The value at an index list.
+
+        >>> tensor([[1, 2], [3, 4]]).at((1, 0))
+        3
+        """
+        place, step = 0, 1
+        pairs = [*zip(self.dims or (), index)]
+        for dim, offset in reversed(pairs) if self.turned else pairs:
+            place, step = place + offset * step, step * dim
+        return self.own[place]
 
     def __reduce__(self) -> Any:
         # A view of memory can't be pickled, and its bytes can.
@@ -113,8 +144,17 @@ class Tensor(Expr):
 
     tolist = nested
 
-    def __iter__(self) -> NoReturn:
-        raise TypeError("a tensor isn't gone over: x.nested() is a list, x.array() an array")
+    def __iter__(self) -> Iterator[Any]:
+        """The rows: of a list of numbers these, else tensors."""
+        if not self.dims:
+            raise TypeError("a tensor of no axes isn't gone over: x.item() is its value")
+        if len(self.dims) == 1:
+            return iter(self.values)
+        rest, step = self.dims[1:], self.dims[0]
+        return (Tensor(self.values[it::step], rest, self.truth) for it in range(step))
+
+    def __contains__(self, value: Any) -> bool:
+        return value in self.values
 
     def item(self) -> int:
         """The value of a tensor that has one, as int(x) is.
@@ -126,7 +166,10 @@ class Tensor(Expr):
             raise ValueError(f"{len(self.own)} values and not one")
         return self.own[0]
 
-    __int__ = __index__ = item
+    def __int__(self) -> int:
+        return self.item()
+
+    __index__ = __int__
 
     def __bool__(self) -> bool:
         if len(self.own) != 1:
@@ -160,6 +203,28 @@ class Tensor(Expr):
 
     def __array__(self, dtype: Any = None, copy: Any = None) -> Any:
         return self.array().astype(dtype or numpy.int64, copy=bool(copy))
+
+
+class Placeholder(Expr):
+    """An input without values, which a compiled expression takes at each call."""
+
+    __slots__ = ("name", "number")
+
+    def __init__(self, dims: Dims, name: str = "") -> None:
+        super().__init__("placeholder", (), dims=dims)
+        self.name, self.number = name, next(NUMBERS)
+
+    def __repr__(self) -> str:
+        return f"<placeholder{self.name and ' '}{self.name}, dims {self.dims}>"
+
+
+def placeholder(dims: Any = (), name: str = "") -> Placeholder:
+    """An input without values, of these dims, for `compile`.
+
+    >>> placeholder((2, 3), "x")
+    <placeholder x, dims (2, 3)>
+    """
+    return Placeholder(rules.legal(rules.sizes(numbers_of(dims))), name)
 
 
 def tensor_held(values: bytes, dims: Sequence[int], truth: bool) -> Tensor:
@@ -214,7 +279,19 @@ def array_of(values: Any) -> Any:
 
 
 def an_expr(value: Any) -> Expr:
-    return value if isinstance(value, Expr) else tensor(value)
+    """A value as an expression; a list in which expressions stand is one of them all.
+
+    >>> an_expr([tensor([1, 2]).sum(), 7]).dims
+    (2,)
+    """
+    if isinstance(value, Expr):
+        return value
+    try:
+        return tensor(value)
+    except Unanswered:
+        from .functions import stack
+
+        return stack(value)
 
 
 def full(dims: Union[int, Sequence[int]], value: int) -> Expr:
@@ -223,11 +300,10 @@ def full(dims: Union[int, Sequence[int]], value: int) -> Expr:
     >>> full((2, 3), 7)
     <broadcast, dims (2, 3), 2 nodes>
     """
-    numbers = listed([dims] if hasattr(dims, "__len__") else [[dims]], whole)
-    sizes = rules.legal(rules.sizes(numbers))
+    sizes = rules.legal(rules.sizes(numbers_of(dims)))
     if 0 in sizes:
         return Tensor([], sizes)
-    one = Tensor([value_of(value)], [1] * len(sizes), value in (0, 1))
+    one = Tensor([value_of(value)], [1] * len(sizes), is_bool(value))
     return one.broadcast(list(sizes)) if sizes else one
 
 
@@ -236,7 +312,7 @@ def beside(value: Any, expr: Expr) -> Expr:
     if isinstance(value, Expr):
         return value
     if isinstance(value, LISTS) or getattr(value, "shape", None):
-        return tensor(value)
+        return an_expr(value)
     while expr.operands and expr.dims is not None and expr.operands[0].dims == expr.dims:
         expr = expr.operands[0]
     if expr.operands and expr.dims is not None:

@@ -54,13 +54,32 @@ def flag(value: Any) -> bool:
     raise TypeError(f"neither True nor False: {value!r:.60}")
 
 
+def is_several(value: Any) -> bool:
+    """Whether a value is several, as lists and arrays are, and not one.
+
+    >>> is_several([2]), is_several(2), is_several(tensor(2))
+    (True, False, False)
+    """
+    is_text = isinstance(value, str)
+    return hasattr(value, "__len__") and not is_text and getattr(value, "shape", None) != ()
+
+
+def numbers_of(value: Any) -> List[int]:
+    """Whole numbers that are given as a list, or one alone.
+
+    >>> numbers_of((2, 3)), numbers_of(2)
+    ([2, 3], [2])
+    """
+    return [whole(it) for it in value] if is_several(value) else [whole(value)]
+
+
 def listed(items: Sequence[Any], kind: Callable[[Any], Kind]) -> List[Kind]:
     """A list of arguments that was given as one list, or one after another.
 
     >>> listed([2, 3], whole) == listed([(2, 3)], whole)
     True
     """
-    if len(items) == 1 and not isinstance(items[0], str) and hasattr(items[0], "__len__"):
+    if len(items) == 1 and is_several(items[0]):
         items = items[0]
     return [kind(it) for it in items]
 
@@ -100,8 +119,14 @@ def checked_array(array: Any) -> Any:
     return array
 
 
+class Unanswered(TypeError):
+    """An expression stands among values, and has none yet."""
+
+
 def opened(value: Any) -> Any:
     """An array, a tensor or what else gives its values as lists, as these; others as they are."""
+    if getattr(value, "operands", ()):
+        raise Unanswered("an expression has no values yet: stack([..]) puts some together")
     if numpy is not None and isinstance(value, (numpy.ndarray, numpy.generic)):
         return checked_array(numpy.asanyarray(value)).tolist()
     return value.tolist() if hasattr(value, "tolist") else value

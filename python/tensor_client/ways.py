@@ -1,24 +1,19 @@
-"""numpy's ways with expressions, each made of operations of the request: shapes, indexing, axes by
-name, and what numpy's arrays have beside."""
+"""numpy's ways with expressions, each made of operations of the request: shapes, and the parts that
+an index names."""
 
 from __future__ import annotations
 
-from typing import TYPE_CHECKING, Any, List, NoReturn, Sequence, Union
+from typing import TYPE_CHECKING, Any, Iterator, List, NoReturn
 
 from . import rules
 from .faults import ShapeMismatch
-from .indexing import Slice, parts_of, turned, whole_range
+from .indexing import Slice, is_list, parts_of, turned, whole_range
 from .operators import Operators
 from .rules import Dims
-from .values import listed, value_of, whole
+from .values import listed, whole
 
 if TYPE_CHECKING:
     from .expressions import Expr
-
-Axis = Union[None, int, Sequence[int]]
-# Said where numpy asks for an array. It isn't run instead, since numpy asks unseen and at any time:
-# each call of its functions would be a request of its own, and have shared parts worked out again.
-NO_ARRAY = "an expression has no values yet: run(it) has; tensor_client has functions as numpy's"
 
 
 class NumpyWays(Operators):
@@ -79,25 +74,55 @@ class NumpyWays(Operators):
             raise TypeError("a tensor of no axes has no length")
         return self.shape[0]
 
-    def __iter__(self) -> NoReturn:
-        raise TypeError("an expression has no values to go over: run(it).nested() is a list")
+    # What asks for values has them asked for: a truth, a number, lists. An array isn't made, since
+    # numpy asks for one unseen and at any time, each time a request of its own.
 
-    def __contains__(self, value: Any) -> NoReturn:
-        raise TypeError("an expression isn't searched: run((x == value).any())")
-
-    def __array__(self, dtype: Any = None, copy: Any = None) -> Any:
-        raise TypeError(NO_ARRAY)
+    def __bool__(self) -> bool:
+        if self.size != 1:
+            raise TypeError(f"dims {self.shape} are neither true nor false: all() or any() of them")
+        return bool(self._answered())
 
     def __int__(self) -> int:
-        raise TypeError("an expression has no values yet: int(run(it))")
+        return int(self.item())
+
+    __index__ = __int__
 
     def item(self) -> int:
-        """The value of a tensor that has one; an expression has none yet.
+        """The value of an expression that has one; it is run for it.
 
-        >>> run(tensor([1, 2]).sum()).item()
-        3
+        >>> tensor([1, 2]).sum().item(), int(tensor([1, 2]).max())
+        (3, 2)
         """
-        raise TypeError("an expression has no values yet: run(it).item()")
+        if self.size != 1:
+            raise ValueError(f"{self.size} values and not one")
+        found: int = self._answered().item()
+        return found
+
+    def tolist(self) -> Any:
+        """The values as nested lists; an expression is run for them.
+
+        >>> (tensor([[1, 2], [3, 4]]) + 1).tolist()
+        [[2, 3], [4, 5]]
+        """
+        return self._answered().nested()
+
+    def _answered(self) -> Any:
+        """The tensor of the values."""
+        from .running import run
+
+        return run(self)
+
+    def __iter__(self) -> Iterator[Any]:
+        raise TypeError("an expression isn't gone over: run(it) is, and unstack(it) has parts")
+
+    def __contains__(self, value: Any) -> bool:
+        raise TypeError("an expression isn't searched: (x == value).any()")
+
+    def __setitem__(self, index: Any, value: Any) -> NoReturn:
+        raise TypeError("a tensor isn't written: where(condition, value, x) has other values")
+
+    def __array__(self, dtype: Any = None, copy: Any = None) -> Any:
+        raise TypeError("an expression has no values yet: run(it) has")
 
     def reshape(self, *sizes: Any, order: str = "C") -> Expr:
         """The same values in other dims, one of which may be -1, what is left: by numpy's order,
@@ -141,13 +166,20 @@ class NumpyWays(Operators):
         return found
 
     def __getitem__(self, index: Any) -> Any:
-        """The part that numpy's x[..] is: whole numbers, slices with steps of either sign, None
-        and `..`. Lists of numbers or of truth values are refused.
+        """The part that numpy's x[..] is: whole numbers, slices with steps of either sign, None,
+        `..`, lists of offsets, and lists of truth values that are there.
 
         >>> run(tensor([[1, 2, 3], [4, 5, 6]])[::-1, 1:]).nested()
         [[5, 6], [2, 3]]
+        >>> run(tensor([[1, 2, 3], [4, 5, 6]])[:, [2, 0, 0]]).nested()
+        [[3, 1, 1], [6, 4, 4]]
         """
-        parts = parts_of(index if isinstance(index, tuple) else (index,), self.ndim)
+        index = index if isinstance(index, tuple) else (index,)
+        if any(map(is_list, index)):
+            from .functions.gathered import at_lists
+
+            return at_lists(self, index)  # type: ignore[arg-type]
+        parts = parts_of(index, self.ndim)
         slices = [it for it in parts if it is not None]
         ranges = [whole_range(it, dim) for it, dim in zip(slices, self.shape)]
         found: Any = self
@@ -167,131 +199,3 @@ class NumpyWays(Operators):
             left = iter(found.shape)
             found = found.in_dims([1 if it is None else next(left) for it in kept])
         return found
-
-    # Reductions, over all axes where none are named. `out` is what numpy's functions hand over.
-
-    def sum(self, *axes: Any, axis: Axis = None, keepdims: bool = False, out: None = None) -> Expr:
-        """The sums over these axes, or over all: x.sum(0), x.sum(0, 1), x.sum(axis=(0, 1)).
-
-        >>> x = tensor([[1, 2, 3], [4, 5, 6]])
-        >>> run(x.sum()).item(), run(x.sum(axis=-1, keepdims=True)).nested()
-        (21, [[6], [15]])
-        """
-        return self._combined("sum", axes, axis, keepdims, out)
-
-    def prod(self, *axes: Any, axis: Axis = None, keepdims: bool = False, out: None = None) -> Expr:
-        """The products over these axes, or over all.
-
-        >>> run(tensor([[1, 2, 3], [4, 5, 6]]).prod(axis=0)).values
-        [4, 10, 18]
-        """
-        return self._combined("prod", axes, axis, keepdims, out)
-
-    def maximum(
-        self, *axes: Any, axis: Axis = None, keepdims: bool = False, out: None = None
-    ) -> Expr:
-        """The greatest values over these axes, or over all; of nothing, the least number.
-
-        >>> run(tensor([[1, 5], [7, 3]]).max(axis=1)).values
-        [5, 7]
-        """
-        return self._combined("maximum", axes, axis, keepdims, out)
-
-    def minimum(
-        self, *axes: Any, axis: Axis = None, keepdims: bool = False, out: None = None
-    ) -> Expr:
-        """The least values over these axes, or over all; of nothing, the greatest number.
-
-        >>> run(tensor([[1, 5], [7, 3]]).min(axis=1)).values
-        [1, 3]
-        """
-        return self._combined("minimum", axes, axis, keepdims, out)
-
-    def all(self, *axes: Any, axis: Axis = None, keepdims: bool = False, out: None = None) -> Expr:
-        """1 where no value over these axes is 0, else 0.
-
-        >>> run(tensor([[1, 0], [7, 3]]).all(axis=1)).values
-        [0, 1]
-        """
-        return self._combined("all", axes, axis, keepdims, out)
-
-    def any(self, *axes: Any, axis: Axis = None, keepdims: bool = False, out: None = None) -> Expr:
-        """1 where a value over these axes isn't 0, else 0.
-
-        >>> run(tensor([[1, 0], [0, 0]]).any(axis=1)).values
-        [1, 0]
-        """
-        return self._combined("any", axes, axis, keepdims, out)
-
-    max, min = maximum, minimum
-
-    def _combined(
-        self, operation: str, axes: Sequence[Any], axis: Axis, keepdims: bool, out: None
-    ) -> Expr:
-        if out is not None:
-            raise TypeError("an expression is written nowhere: run(it).array()")
-        if axes and axis is not None:
-            raise TypeError(f"the axes of {operation} are named twice")
-        if axis is not None:
-            axes = [axis] if hasattr(axis, "__len__") else [[axis]]
-        if axes in ((None,), [None]):
-            axes = []
-        if not axes and self.dims is None:
-            raise ValueError(f"name the axes of {operation}: the dims of {self!r} aren't known")
-        numbers = listed(axes, whole) if axes else list(range(self.ndim))
-        found = self.reduced(operation, numbers)
-        if not keepdims:
-            return found
-        gone = rules.axes_of(numbers, self.ndim)
-        return found.in_dims([1 if at in gone else it for at, it in enumerate(self.shape)])
-
-    # What numpy's arrays have beside.
-
-    def clip(self, min: Any = None, max: Any = None, out: None = None) -> Any:
-        """The values, none of them below the one and above the other.
-
-        >>> run(tensor([1, 5, 9]).clip(2, 8)).values, run(tensor([1, 5, 9]).clip(max=6)).values
-        ([2, 5, 8], [1, 5, 6])
-        """
-        if out is not None:
-            raise TypeError("an expression is written nowhere: run(it).array()")
-        found = self if min is None else self.cwise_max(min)
-        return found if max is None else found.cwise_min(max)
-
-    def dot(self, other: Any) -> Expr:
-        """numpy's dot: the sums of products over the last axis and the other's last but one.
-
-        >>> run(tensor([1, 2]).dot([3, 4])).item()
-        11
-        """
-        from .functions import dot
-
-        return dot(self, other)
-
-    def pad(self, widths: Any, mode: str = "constant", constant_values: int = 0) -> Expr:
-        """A value around, by numpy's widths: one number, (before, behind) for all axes, or a pair
-        for each.
-
-        >>> run(tensor([[1, 2], [3, 4]]).pad(1)).nested()
-        [[0, 0, 0, 0], [0, 1, 2, 0], [0, 3, 4, 0], [0, 0, 0, 0]]
-        >>> run(tensor([7]).pad([(1, 2)], constant_values=9)).values
-        [9, 7, 9, 9]
-        """
-        if mode != "constant":
-            raise ValueError(f'the mode of a pad is "constant" and not {mode!r}')
-        value = value_of(constant_values)
-        if not hasattr(widths, "__len__"):
-            widths = (widths, widths)
-        widths = list(widths)
-        if len(widths) == 2 and not any(hasattr(it, "__len__") for it in widths):
-            widths = [widths] * self.ndim
-        pairs = [listed([it], whole) if hasattr(it, "__len__") else [whole(it)] for it in widths]
-        pairs = [it * 2 if len(it) == 1 else it for it in pairs]
-        if any(len(it) != 2 for it in pairs):
-            raise ValueError(f"a width is a number before and one behind: {widths!r:.60}")
-        if len(pairs) == 1:
-            pairs = pairs * self.ndim
-        if not value:
-            return self.zeros_around(pairs)
-        # Zeros stand for the value where it is taken away before and added behind.
-        return self.sub(value).zeros_around(pairs).add(value)

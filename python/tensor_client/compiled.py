@@ -1,0 +1,274 @@
+"""Expressions that are made once and answered over many arrays: their text is written, read and
+checked once, and a call hands over arrays alone."""
+
+from __future__ import annotations
+
+import ctypes
+import functools
+import inspect
+import struct
+from typing import Any, Callable, Dict, Iterable, List, Sequence, Tuple
+
+from .explaining import explain
+from .expressions import Expr
+from .faults import Fault, ShapeMismatch
+from .library import Library, library_of
+from .length import MOST_NODES
+from .memory import INT64, VALUE, as_memory, memory_for, numbers, place_of
+from .requests import Settings, framed
+from .results import Result, checked_out, memory_of_out
+from .rules import Dims, product
+from .running import run
+from .tensors import Placeholder, Tensor, an_expr, placeholder, tensor
+from .threads import shares
+from .values import numpy
+
+# Up to so many values an answer is a list, which costs less than memory of its own.
+FEW = 64
+ARRAY = None if numpy is None else numpy.ndarray
+addressof: Callable[[Any], int] = ctypes.addressof
+from_buffer: Callable[[Any], Any] = ctypes.c_char.from_buffer
+
+
+def compile(what: Any = None, *, workers: int = 1) -> Any:
+    """A function of arrays that gives the tensor of an expression's values. It takes an array for
+    each placeholder, in the order in which these were made, or by its name; `out=` as `run` does.
+
+    Of a function of expressions it makes one of arrays, which is traced once for each dims that
+    its arguments have. Where there is no library each call is a `run`.
+
+    >>> x, y = placeholder(2), placeholder(2)
+    >>> f = compile(x * 10 + y)
+    >>> f([1, 2], [3, 4]).values, f([5, 6], [7, 8]).values
+    ([13, 24], [57, 68])
+    >>> @compile
+    ... def total(x, y):
+    ...     return (x * y).sum()
+    >>> int(total([1, 2], [3, 4])), int(total([1, 2, 3], 10))
+    (11, 60)
+    """
+    if what is None:
+        return functools.partial(compile, workers=workers)
+    if isinstance(what, Expr):
+        return Compiled(what, placeholders_of(what), Settings(workers))
+    if callable(what):
+        return Traced(what, Settings(workers))
+    raise TypeError(f"an expression or a function is compiled, and no {type(what).__name__}")
+
+
+def placeholders_of(expr: Expr) -> List[Placeholder]:
+    """The placeholders of an expression, in the order in which they were made."""
+    found: Dict[int, Placeholder] = {}
+    left, seen = [expr], set()
+    while left:
+        it = left.pop()
+        if isinstance(it, Placeholder):
+            found[it.number] = it
+        elif id(it) not in seen:
+            seen.add(id(it))
+            left += it.operands
+    return [found[it] for it in sorted(found)]
+
+
+def filled(expr: Expr, given: Dict[int, Tensor]) -> Expr:
+    """An expression with tensors in the place of its placeholders, by their numbers."""
+    made: Dict[int, Expr] = {}
+    left = [expr]
+    while left:
+        it = left[-1]
+        missing = [operand for operand in it.operands if id(operand) not in made]
+        if missing and id(it) not in made:
+            left += missing
+            continue
+        left.pop()
+        if isinstance(it, Placeholder):
+            made[id(it)] = given[it.number]
+        elif it.operands:
+            operands = [made[id(operand)] for operand in it.operands]
+            made[id(it)] = Expr(it.operation, operands, it.arguments, it.dims, it.truth)
+        else:
+            made[id(it)] = it
+    return made[id(expr)]
+
+
+class Plan:
+    """What the library has prepared for an expression whose inputs lie in these orders, and what it
+    is handed beside the arrays of a call: those that stand in the expression itself, as they lie
+    when it is prepared."""
+
+    def __init__(
+        self, library: Library, expr: Expr, inputs: Sequence[Tensor], settings: Settings, out: Any
+    ) -> None:
+        result = Result(expr, out)
+        # Few values are a list, which stands column-major.
+        if out is None and product(expr.dims or ()) <= FEW:
+            result.turned = False
+        self.is_turned, self.truth = result.turned, expr.truth
+        expr = result.asked(expr)
+        frame = framed(expr, settings)
+        self.dims = library.dims_of(frame)
+        self.size, self.numbers = product(self.dims), library.prepared(frame)
+        self.length = len(self.numbers)
+        self.places = shares(expr, self.size, settings.workers)
+        self.room = ctypes.c_int64 * self.size
+        # Where each array lies and how many values it has, one behind another; and where among
+        # these numbers the arrays of a call stand.
+        own = {id(it.own): at for at, it in enumerate(inputs)}
+        which = [own.get(id(it)) for it in frame.held]
+        self.slots = [(2 * at, it) for at, it in enumerate(which) if it is not None]
+        self.kept = [b"" if id(it) in own else as_memory(it) for it in frame.held]
+        pairs = [(place_of(it), len(held)) for it, held in zip(self.kept, frame.held)]
+        self.pairs = [it for pair in pairs for it in pair]
+        self.many, self.packed = len(pairs), struct.Struct(f"@{2 * len(pairs)}Q").pack
+
+    def arrays_at(self, places: Sequence[int]) -> bytes:
+        """The arrays of a call, which lie at these places, among all that the library takes."""
+        pairs = self.pairs[:]
+        for at, which in self.slots:
+            pairs[at] = places[which]
+        return self.packed(*pairs)
+
+
+class Compiled:
+    """An expression that is answered at each call, over the arrays of the call."""
+
+    def __init__(self, expr: Expr, inputs: Sequence[Placeholder], settings: Settings) -> None:
+        self.expr, self.inputs, self.settings = expr, list(inputs), settings
+        self.dims: List[Dims] = [it.dims or () for it in inputs]
+        # Each input that lies in numpy's order is a node more; where there are too many it is
+        # copied into the request's.
+        self.as_they_lie = 2 * (expr.nodes + 1) <= MOST_NODES
+        self.library = library_of()
+        self.plans: Dict[Any, Plan] = {}
+
+    def __repr__(self) -> str:
+        return f"<compiled {self.expr!r} of {len(self.inputs)} arrays>"
+
+    def __call__(self, *values: Any, out: Any = None, **named: Any) -> Tensor:
+        """The tensor of the expression's values over these arrays."""
+        if named or len(values) != len(self.inputs):
+            values = self._in_order(values, named)
+        library = self.library
+        if library is None:
+            return run(self._filled(map(tensor, values)), *self.settings, out=out)
+        places, kept, key = [], [], 1
+        for value, dims in zip(values, self.dims):
+            place, memory, is_turned = self._lying(value, dims)
+            places.append(place)
+            kept.append(memory)
+            key += key + is_turned
+        plan = self.plans.get(key)
+        if plan is None or plan.size > FEW or out is not None:
+            return self._at_length(library, key, places, kept, out)
+        room, arrays = plan.room(), plan.arrays_at(places)
+        count = library.run_plan(
+            plan.numbers, plan.length, arrays, plan.many, 0, room, plan.size
+        )
+        if count != plan.size:
+            raise library.failed(count)
+        return Tensor(room[:], plan.dims, plan.truth)
+
+    def _in_order(self, values: Sequence[Any], named: Dict[str, Any]) -> Tuple[Any, ...]:
+        """The values of a call, where some are named, in the order of the placeholders."""
+        left = dict(named)
+        behind = [left.pop(it.name) for it in self.inputs[len(values) :] if it.name in left]
+        if left or len(values) + len(behind) != len(self.inputs):
+            raise TypeError(f"{self!r} takes an array for each of {self.inputs!r}")
+        return (*values, *behind)
+
+    def _filled(self, tensors: Iterable[Tensor]) -> Expr:
+        """The expression over tensors in the place of its placeholders."""
+        given = {}
+        for it, found in zip(self.inputs, tensors):
+            if found.dims != it.dims:
+                raise ShapeMismatch(f"an array of dims {found.dims} for {it!r}")
+            given[it.number] = found
+        return filled(self.expr, given)
+
+    def _lying(self, value: Any, dims: Dims) -> Tuple[int, Any, bool]:
+        """Where a value of a call lies, what keeps it there, and whether it lies in numpy's order;
+        if it has these dims."""
+        if type(value) is ARRAY and value.dtype is INT64 and value.shape == dims:
+            is_turned = len(dims) > 1 and not value.flags.f_contiguous
+            try:
+                # A buffer is taken in numpy's common order, without gaps, if it can be written.
+                place = addressof(from_buffer(value if is_turned or len(dims) < 2 else value.T))
+                if not place % VALUE and (self.as_they_lie or not is_turned):
+                    return place, value, is_turned
+            except (TypeError, ValueError):
+                pass
+        elif type(value) is list and dims == (len(value),) and {*map(type, value)} == {int}:
+            try:
+                packed = bytearray(numbers(len(value)).pack(*value))
+                return addressof(from_buffer(packed)), packed, False
+            except struct.error:
+                pass  # A number past the range, which is refused below.
+        found = tensor(value)
+        if found.dims != dims:
+            raise ShapeMismatch(f"an array of dims {found.dims} where a placeholder has {dims}")
+        is_turned = found.turned and self.as_they_lie
+        memory = as_memory(found.own if is_turned else found.held)
+        return place_of(memory), memory, is_turned
+
+    def _at_length(
+        self, library: Library, key: int, places: List[int], kept: List[Any], out: Any
+    ) -> Tensor:
+        """An answer of many values, one into an array that is there, or the first one of its
+        kind."""
+        order = None if out is None else bool(checked_out(out).flags.f_contiguous)
+        named = key if out is None else (key, order)
+        plan = self.plans.get(named)
+        if plan is None:
+            plan = self.plans[named] = self._planned(library, key, out)
+        result = Result(self.expr, out, plan.is_turned)
+        # An answer that goes where an input lies is written beside it first.
+        inputs = [] if out is None else [*kept, *plan.kept]
+        memories = [memory_of_out(it) if type(it) is ARRAY else it for it in inputs]
+        values = result.place(plan.dims, memories)
+        prepared = library.run_plan, plan.numbers
+        library.fill(prepared, plan.arrays_at(places), plan.many, values, plan.places)
+        return result.tensor(values, plan.dims, plan.truth)
+
+    def _planned(self, library: Library, key: int, out: Any) -> Plan:
+        """The plan of arrays that lie in these orders, a binary place of the key for each."""
+        orders = [it == "1" for it in bin(key)[3:]]
+        stand_ins = [
+            Tensor(memory_for(product(dims)), dims, turned=is_turned)
+            for dims, is_turned in zip(self.dims, orders)
+        ]
+        expr = self._filled(stand_ins)
+        try:
+            return Plan(library, expr, stand_ins, self.settings, out)
+        except Fault as fault:
+            explain(fault, expr, self.settings)
+            raise
+
+
+class Traced:
+    """A function of expressions as one of arrays: it is called once for each dims that its
+    arguments have, with placeholders of these dims."""
+
+    def __init__(self, function: Callable[..., Any], settings: Settings) -> None:
+        functools.update_wrapper(self, function)
+        self.function, self.settings = function, settings
+        self.made: Dict[Any, Compiled] = {}
+
+    def __call__(self, *values: Any, out: Any = None, **named: Any) -> Tensor:
+        """The tensor of what the function gives of these arrays."""
+        if named:
+            values = inspect.signature(self.function).bind(*values, **named).args
+        values = tuple(it if type(it) is ARRAY else tensor(it) for it in values)
+        shapes = tuple([it.shape for it in values])
+        found = self.made.get(shapes)
+        if found is None:
+            found = self.made[shapes] = self.traced(shapes)
+        return found(*values, out=out)
+
+    def traced(self, shapes: Sequence[Dims]) -> Compiled:
+        """The function's expression over placeholders of these dims.
+
+        >>> compile(lambda x, y: x + y).traced([(2,), (2,)]).expr
+        <add, dims (2,), 3 nodes>
+        """
+        inputs = [placeholder(it) for it in shapes]
+        return Compiled(an_expr(self.function(*inputs)), inputs, self.settings)

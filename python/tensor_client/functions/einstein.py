@@ -1,0 +1,99 @@
+"""numpy's einsum: sums of products by letters that name axes."""
+
+from __future__ import annotations
+
+from typing import Any, List, Set, Tuple
+
+from ..expressions import Expr
+from ..faults import ShapeMismatch
+from ..tensors import an_expr
+from .matrices import diagonal
+
+__all__ = [
+    "einsum",
+]
+
+LETTERS = frozenset("abcdefghijklmnopqrstuvwxyzABCDEFGHIJKLMNOPQRSTUVWXYZ")
+# An operand, and a letter for each of its axes.
+Named = Tuple[str, Expr]
+
+
+def einsum(labels: str, *operands: Any) -> Expr:
+    """The sums of the products over all axes whose letter isn't in the result. Two operands are
+    contracted where the letters of both are summed over; a letter of both that is in the result
+    takes all products, of which there are up to 1,048,576 then.
+
+    >>> run(einsum("ij,kj->ki", [[1, 2], [3, 4]], [[5, 6]])).nested()
+    [[17, 39]]
+    """
+    if not isinstance(labels, str):
+        raise TypeError("einsum asks for its letters first, as in einsum('ij,jk->ik', x, y)")
+    told, exprs = labels.replace(" ", ""), [an_expr(it) for it in operands]
+    inputs = told.split("->")[0].split(",")
+    if len(inputs) != len(exprs) or not exprs:
+        raise ValueError(f"einsum of {labels!r} with {len(exprs)} operands")
+    letters = "".join(inputs)
+    result = "".join(sorted(it for it in {*letters} if letters.count(it) == 1))
+    if "->" in told:
+        result = told.split("->")[1]
+    if len({*result}) != len(result) or not {*result} <= {*letters}:
+        raise ValueError(f"the result of {labels!r} has each letter once, of the operands'")
+    left = [on_diagonals(*it, labels) for it in zip(inputs, exprs)]
+    found = summed(left.pop(0), {*result}.union(*(it[0] for it in left)))
+    while left:
+        other = left.pop(0)
+        wanted = {*result}.union(*(it[0] for it in left))
+        found = multiplied(found, summed(other, wanted | {*found[0]}), wanted)
+    return in_letters(found, result)
+
+
+def on_diagonals(words: str, expr: Expr, labels: str) -> Named:
+    """An operand, along the diagonal of axes that have the same letter."""
+    if not {*words} <= LETTERS:
+        raise ValueError(f"letters name axes, and nothing else does here: {labels!r}")
+    if len(words) != expr.ndim:
+        raise ShapeMismatch(f"{words!r} for dims {expr.shape}")
+    for it in words:
+        while words.count(it) > 1:
+            one, other = words.index(it), words.rindex(it)
+            if expr.shape[one] != expr.shape[other]:
+                raise ShapeMismatch(f"{words!r} for dims {expr.shape}")
+            expr = diagonal(expr, 0, one, other)
+            words = words[:one] + words[one + 1 : other] + words[other + 1 :] + it
+    return words, expr
+
+
+def summed(named: Named, wanted: Set[str]) -> Named:
+    """An operand, summed over the axes whose letters aren't wanted."""
+    words, expr = named
+    gone = [at for at, it in enumerate(words) if it not in wanted]
+    left = "".join(it for it in words if it in wanted)
+    return left, expr.reduced("sum", gone) if gone else expr
+
+
+def multiplied(left: Named, right: Named, wanted: Set[str]) -> Named:
+    """The sums of the products of two operands over the axes whose letters aren't wanted."""
+    both = [it for it in left[0] if it in right[0]]
+    if not {*both} & wanted:
+        pairs = [(left[0].index(it), right[0].index(it)) for it in both]
+        return summed(
+            ("".join(it for it in left[0] + right[0] if it not in both),
+             left[1].contract(right[1], pairs)),
+            wanted,
+        )
+    words = left[0] + "".join(it for it in right[0] if it not in both)
+    product = over_letters(left, words).mul(over_letters(right, words))
+    return summed((words, product), wanted)
+
+
+def over_letters(named: Named, words: str) -> Expr:
+    """An operand with an axis for each of these letters, of one place where it has none."""
+    expr = in_letters(named, "".join(it for it in words if it in named[0]))
+    sizes = iter(expr.shape)
+    return expr.in_dims([next(sizes) if it in named[0] else 1 for it in words])
+
+
+def in_letters(named: Named, words: str) -> Expr:
+    """An operand with its axes in the order of these letters, which are its own."""
+    order: List[int] = [named[0].index(it) for it in words]
+    return named[1] if order == sorted(order) else named[1].shuffle(order)

@@ -1,0 +1,41 @@
+"""What numpy.linalg has of whole numbers, by its names."""
+
+from __future__ import annotations
+
+from typing import TYPE_CHECKING, Any
+
+from ..expressions import Expr
+from . import matrices
+from .advice import no_name
+from .products import cross, matmul, matrix_power, multi_dot, outer, tensordot, vecdot
+from .rearranged import matrix_transpose
+
+__all__ = [
+    "cross", "diagonal", "matmul", "matrix_power", "matrix_transpose", "multi_dot", "outer",
+    "tensordot", "trace", "vecdot",
+]
+
+
+def diagonal(x: Any, *, offset: int = 0) -> Expr:
+    """The values along a diagonal of the last two axes.
+
+    >>> run(diagonal([[1, 2], [3, 4]])).values
+    [1, 4]
+    """
+    return matrices.diagonal(x, offset, -2, -1)
+
+
+def trace(x: Any, *, offset: int = 0, dtype: Any = None) -> Expr:
+    """The sum along a diagonal of the last two axes.
+
+    >>> run(trace([[1, 2], [3, 4]])).item()
+    5
+    """
+    return matrices.trace(x, offset, -2, -1, dtype)
+
+
+if not TYPE_CHECKING:
+
+    def __getattr__(name: str) -> Any:
+        """Says what to write in the place of a name that isn't here."""
+        raise AttributeError(no_name("linalg", name, __all__))

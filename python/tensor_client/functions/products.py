@@ -1,0 +1,231 @@
+"""Sums of products, as numpy's functions of these names have them."""
+
+from __future__ import annotations
+
+from typing import Any, Sequence
+
+from ..expressions import Expr
+from ..faults import ShapeMismatch
+from ..spreading import alike
+from ..tensors import an_expr
+from ..values import is_several, numbers_of, whole
+from .common import all_pairs
+from .matrices import eye
+from .rearranged import broadcast_to, roll
+
+__all__ = [
+    "contract", "convolve", "correlate", "cross", "dot", "inner", "kron", "matmul",
+    "matrix_power", "multi_dot", "outer", "tensordot", "vdot", "vecdot",
+]
+
+
+def contract(x: Any, y: Any, pairs: Sequence[Any]) -> Expr:
+    """The sums of products over paired axes, each pair an axis of x and one of y.
+
+    >>> run(contract([[1, 2], [3, 4]], [5, 6], [(1, 0)])).values
+    [17, 39]
+    """
+    return an_expr(x).contract(y, pairs)
+
+
+def tensordot(x: Any, y: Any, axes: Any = 2) -> Expr:
+    """numpy's tensordot: by how many axes, or by two lists of axes.
+
+    >>> run(tensordot([[1, 2], [3, 4]], [[5, 6], [7, 8]], axes=([0], [1]))).nested()
+    [[23, 31], [34, 46]]
+    """
+    left, right = an_expr(x), an_expr(y)
+    if not is_several(axes):
+        count = whole(axes)
+        return left.contract(right, [(left.ndim - count + at, at) for at in range(count)])
+    ours, theirs = map(numbers_of, axes)
+    if len(ours) != len(theirs):
+        raise ShapeMismatch(f"axes {ours} with axes {theirs}")
+    return left.contract(right, list(zip(ours, theirs)))
+
+
+def dot(x: Any, y: Any) -> Expr:
+    """numpy's dot: the sums of products over the last axis of x and the last but one of y.
+
+    >>> run(dot([[1, 2], [3, 4]], [5, 6])).values
+    [17, 39]
+    """
+    left, right = an_expr(x), an_expr(y)
+    if not left.shape or not right.shape:
+        return left.mul(right)
+    return left.contract(right, [(left.ndim - 1, right.ndim - 2 if right.ndim > 1 else 0)])
+
+
+def matmul(x: Any, y: Any) -> Expr:
+    """numpy's x @ y: of matrices and lists a contraction; of stacks of matrices the products of
+    all pairs of numbers, summed, since a contraction pairs no axis that it keeps.
+
+    >>> matmul(ones((5, 2, 3)), ones((5, 3, 4))).dims
+    (5, 2, 4)
+    """
+    left, right = an_expr(x), an_expr(y)
+    if not left.shape or not right.shape:
+        raise ShapeMismatch("x @ y asks for axes: x * y multiplies by a number")
+    if left.ndim <= 2 and right.ndim <= 2:
+        return dot(left, right)
+    if right.ndim <= 2:
+        return dot(left, right)
+    if left.ndim == 1:
+        return matmul(left[None, :], right).in_dims([*right.shape[:-2], right.shape[-1]])
+    if left.shape[-1] != right.shape[-2]:
+        raise ShapeMismatch(f"dims {left.shape} @ dims {right.shape}")
+    with all_pairs("a product of stacks of matrices"):
+        every: Expr = left[..., None].mul(right[..., None, :, :])
+    return every.sum(axis=-2)
+
+
+def vecdot(x1: Any, x2: Any, axis: int = -1) -> Expr:
+    """The sums of products along an axis of both.
+
+    >>> run(vecdot([[1, 2], [3, 4]], [5, 6])).values
+    [17, 39]
+    """
+    return an_expr(x1).mul(x2).sum(axis=axis)
+
+
+def outer(a: Any, b: Any) -> Expr:
+    """The products of each value with each of the other's.
+
+    >>> run(outer([1, 2], [3, 4])).nested()
+    [[3, 4], [6, 8]]
+    """
+    return an_expr(a).ravel().contract(an_expr(b).ravel(), [])
+
+
+def inner(a: Any, b: Any) -> Expr:
+    """The sums of products over the last axis of both.
+
+    >>> run(inner([1, 2], [3, 4])).item()
+    11
+    """
+    left, right = an_expr(a), an_expr(b)
+    if not left.shape or not right.shape:
+        return left.mul(right)
+    return left.contract(right, [(left.ndim - 1, right.ndim - 1)])
+
+
+def vdot(a: Any, b: Any) -> Expr:
+    """The sum of the products of all values, as they stand in numpy's order.
+
+    >>> run(vdot([[1, 2], [3, 4]], [[5, 6], [7, 8]])).item()
+    70
+    """
+    return inner(an_expr(a).ravel(), an_expr(b).ravel())
+
+
+def kron(a: Any, b: Any) -> Expr:
+    """The other's values in the place of each value, times it.
+
+    >>> run(kron([1, 10], [1, 2])).values
+    [1, 2, 10, 20]
+    """
+    left, right = an_expr(a), an_expr(b)
+    rank = max(left.ndim, right.ndim)
+    ours, theirs = ([1] * (rank - it.ndim) + [*it.shape] for it in (left, right))
+    # Column-major, the other's axis stands before ours.
+    wide = left.in_dims([it for dim in ours for it in (1, dim)])
+    each = right.in_dims([it for dim in theirs for it in (dim, 1)])
+    return wide.mul(each).in_dims([it * other for it, other in zip(ours, theirs)])
+
+
+def cross(a: Any, b: Any, axis: int = -1) -> Expr:
+    """The cross product of vectors of three numbers along an axis, or of two.
+
+    >>> run(cross([1, 0, 0], [0, 1, 0])).values
+    [0, 0, 1]
+    """
+    left, right = alike(an_expr(a), an_expr(b))
+    length = left.shape[axis]
+    if length == 2:
+        (x, y), (z, w) = (
+            (it.chip(0, axis), it.chip(1, axis)) for it in (left, right)
+        )
+        return x.mul(w).sub(y.mul(z))
+    if length != 3:
+        raise ShapeMismatch(f"a cross product of dims {left.shape} along axis {axis}")
+    forth = roll(left, -1, axis).mul(roll(right, -2, axis))
+    return forth.sub(roll(left, -2, axis).mul(roll(right, -1, axis)))
+
+
+def matrix_power(a: Any, n: int) -> Any:
+    """A matrix, or each of a stack, times itself so often. A request shares no parts, so the matrix
+    stands so often in it: large powers are run by squares, as the program of powers does.
+
+    >>> run(matrix_power([[1, 1], [1, 0]], 10)).nested()
+    [[89, 55], [55, 34]]
+    """
+    expr, times = an_expr(a), whole(n)
+    if expr.ndim < 2 or expr.shape[-1] != expr.shape[-2]:
+        raise ShapeMismatch(f"a power of dims {expr.shape}, which are no square matrix's")
+    if times < 0:
+        raise ValueError("whole numbers have no inverse")
+    if times == 0:
+        return broadcast_to(eye(expr.shape[-1]), expr.shape)
+    found, square = None, expr
+    while times:
+        if times % 2:
+            found = square if found is None else matmul(found, square)
+        times //= 2
+        square = matmul(square, square) if times else square
+    return found
+
+
+def multi_dot(arrays: Sequence[Any]) -> Any:
+    """The product of several matrices, from the first on.
+
+    >>> run(multi_dot([[1, 2], [[1, 0], [0, 1]], [3, 4]])).item()
+    11
+    """
+    exprs = [an_expr(it) for it in arrays]
+    if len(exprs) < 2:
+        raise ValueError("multi_dot of less than two")
+    found = exprs[0]
+    for it in exprs[1:]:
+        found = dot(found, it)
+    return found
+
+
+# Slid along one another.
+
+
+def slid(a: Expr, v: Expr, before: int, behind: int) -> Expr:
+    return a.zeros_around([(before, behind)]).convolve(v, 0)
+
+
+def correlate(a: Any, v: Any, mode: str = "valid") -> Expr:
+    """The sums of products of a list and what lies under it: where all of the shorter one does
+    ("valid"), as many as the longer one has ("same"), or wherever any does ("full").
+
+    >>> run(correlate([1, 2, 3], [1, 10])).values
+    [21, 32]
+    """
+    left, right = an_expr(a), an_expr(v)
+    if left.ndim != 1 or right.ndim != 1 or not left.size or not right.size:
+        raise ValueError(f"two lists of numbers, and not dims {left.shape} and {right.shape}")
+    if mode not in ("valid", "same", "full"):
+        raise ValueError(f'a mode is "valid", "same" or "full" and not {mode!r}')
+    if right.size > left.size:
+        return correlate(right, left, mode).reverse(True)
+    most = right.size - 1
+    before, behind = {"valid": (0, 0), "full": (most, most)}.get(
+        mode, (right.size // 2, most - right.size // 2)
+    )
+    return slid(left, right, before, behind)
+
+
+def convolve(a: Any, v: Any, mode: str = "full") -> Expr:
+    """numpy's convolve of two lists, which turns the second one round; the method x.convolve slides
+    a kernel along axes, and doesn't turn it.
+
+    >>> run(convolve([1, 2, 3], [1, 10])).values
+    [1, 12, 23, 30]
+    """
+    left, right = an_expr(a), an_expr(v)
+    if right.size > left.size:
+        left, right = right, left
+    return correlate(left, right.reverse(True) if right.ndim == 1 else right, mode)

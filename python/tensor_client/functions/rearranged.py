@@ -1,0 +1,384 @@
+"""The same values in other dims, orders and numbers, as numpy's functions of these names have
+them."""
+
+from __future__ import annotations
+
+from typing import Any, List, Optional, Sequence, Tuple
+
+from .. import rules
+from ..expressions import Expr
+from ..faults import ShapeMismatch, TooLarge
+from ..rules import Dims
+from ..spreading import alike, spread
+from ..tensors import an_expr
+from ..values import numbers_of, whole
+from .common import beside_axis, flat, moved, named_axes, part
+
+__all__ = [
+    "atleast_1d", "atleast_2d", "atleast_3d", "broadcast_arrays", "broadcast_shapes",
+    "broadcast_to", "expand_dims", "flip", "fliplr", "flipud", "matrix_transpose", "moveaxis",
+    "ndim", "permute_dims", "ravel", "repeat", "reshape", "resize", "roll", "rollaxis", "rot90",
+    "shape", "size", "squeeze", "swapaxes", "tile", "transpose",
+]
+
+
+def reshape(x: Any, shape: Any, order: str = "C") -> Expr:
+    """The same values in other dims, as the method.
+
+    >>> run(reshape([[1, 2], [3, 4], [5, 6]], (2, -1))).nested()
+    [[1, 2, 3], [4, 5, 6]]
+    """
+    return an_expr(x).reshape(numbers_of(shape), order=order)
+
+
+def ravel(x: Any, order: str = "C") -> Expr:
+    """The values along one axis.
+
+    >>> run(ravel([[1, 2], [3, 4]])).values
+    [1, 2, 3, 4]
+    """
+    return an_expr(x).ravel(order)
+
+
+def resize(a: Any, new_shape: Any) -> Expr:
+    """The values in other dims, again from the first where there are too few.
+
+    >>> run(resize([1, 2, 3], (2, 4))).nested()
+    [[1, 2, 3, 1], [2, 3, 1, 2]]
+    """
+    line = an_expr(a).ravel()
+    sizes = rules.legal(rules.sizes(numbers_of(new_shape)))
+    count = rules.product(sizes)
+    if count and not line.size:
+        raise ValueError("nothing fills no place")
+    often = -(-count // max(line.size, 1))
+    return part(tile(line, often), 0, 0, count).reshape(sizes)
+
+
+# Axes.
+
+
+def transpose(x: Any, axes: Any = None) -> Any:
+    """The axes in this order, or from the last to the first.
+
+    >>> run(transpose([[1, 2], [3, 4]])).nested()
+    [[1, 3], [2, 4]]
+    """
+    return an_expr(x).transpose(axes)
+
+
+permute_dims = transpose
+
+
+def matrix_transpose(x: Any) -> Expr:
+    """The last two axes, one in the other's place.
+
+    >>> matrix_transpose([[[1, 2, 3]]]).dims
+    (1, 3, 1)
+    """
+    return swapaxes(x, -1, -2)
+
+
+def swapaxes(a: Any, axis1: int, axis2: int) -> Expr:
+    """Two axes, one in the other's place.
+
+    >>> swapaxes([[[1, 2, 3]]], 0, 2).dims
+    (3, 1, 1)
+    """
+    expr = an_expr(a)
+    order = [*range(expr.ndim)]
+    one, other = (rules.axis_of(whole(it), expr.ndim) for it in (axis1, axis2))
+    order[one], order[other] = other, one
+    return expr.shuffle(order)
+
+
+def moveaxis(a: Any, source: Any, destination: Any) -> Expr:
+    """Axes moved to other places; the others keep their order.
+
+    >>> moveaxis([[[1, 2, 3]]], -1, 0).dims
+    (3, 1, 1)
+    """
+    expr = an_expr(a)
+    taken, put = named_axes(source, expr.ndim), named_axes(destination, expr.ndim)
+    if len(taken) != len(put):
+        raise ShapeMismatch(f"axes {taken} to {put}")
+    order = [it for it in range(expr.ndim) if it not in taken]
+    for to, axis in sorted(zip(put, taken)):
+        order.insert(to, axis)
+    return expr.shuffle(order)
+
+
+def rollaxis(a: Any, axis: int, start: int = 0) -> Expr:
+    """One axis moved before another.
+
+    >>> rollaxis([[[1, 2, 3]]], 2).dims
+    (3, 1, 1)
+    """
+    expr = an_expr(a)
+    along, to = rules.axis_of(whole(axis), expr.ndim), whole(start)
+    # The place behind the last axis has a number too, and none from behind.
+    to = to if to == expr.ndim else rules.axis_of(to, expr.ndim)
+    return moved(expr, along, to - 1 if along < to else to)
+
+
+def squeeze(a: Any, axis: Any = None) -> Expr:
+    """Without the axes of one place, or without these.
+
+    >>> squeeze([[[1], [2]]]).dims
+    (2,)
+    """
+    expr = an_expr(a)
+    dims = expr.shape
+    gone = named_axes(axis, expr.ndim) if axis is not None else [
+        at for at, it in enumerate(dims) if it == 1
+    ]
+    if any(dims[it] != 1 for it in gone):
+        raise ShapeMismatch(f"axes {gone} of dims {dims} have more or less than one place")
+    return expr.in_dims(rules.without(dims, gone))
+
+
+def expand_dims(a: Any, axis: Any) -> Expr:
+    """With new axes of one place.
+
+    >>> expand_dims([1, 2], 0).dims
+    (1, 2)
+    """
+    expr = an_expr(a)
+    rank = expr.ndim + len(numbers_of(axis))
+    new, left = named_axes(axis, rank), iter(expr.shape)
+    return expr.in_dims([1 if at in new else next(left) for at in range(rank)])
+
+
+def with_axes(x: Any, rank: int) -> Expr:
+    """With new axes of one place before, up to so many axes."""
+    expr = an_expr(x)
+    return expr if expr.ndim >= rank else expr.in_dims([1] * (rank - expr.ndim) + [*expr.shape])
+
+
+def one_or_all(found: List[Expr]) -> Any:
+    return found[0] if len(found) == 1 else found
+
+
+def atleast_1d(*parts: Any) -> Any:
+    """Each with an axis at least.
+
+    >>> atleast_1d(5).dims
+    (1,)
+    """
+    return one_or_all([with_axes(it, 1) for it in parts])
+
+
+def atleast_2d(*parts: Any) -> Any:
+    """Each with two axes at least, new ones before.
+
+    >>> atleast_2d([5, 6]).dims
+    (1, 2)
+    """
+    return one_or_all([with_axes(it, 2) for it in parts])
+
+
+def atleast_3d(*parts: Any) -> Any:
+    """Each with three axes at least, the last of two axes first.
+
+    >>> atleast_3d([5, 6]).dims, atleast_3d([[5, 6]]).dims
+    ((1, 2, 1), (1, 2, 1))
+    """
+    flats = [with_axes(it, 2) for it in parts]
+    return one_or_all([it if it.ndim > 2 else it.in_dims([*it.shape, 1]) for it in flats])
+
+
+# Repeated.
+
+
+def broadcast_to(array: Any, shape: Any) -> Expr:
+    """Repeated over dims by numpy's rule.
+
+    >>> run(broadcast_to([1, 2], (2, 2))).nested()
+    [[1, 2], [1, 2]]
+    """
+    expr = an_expr(array)
+    dims = rules.legal(rules.sizes(numbers_of(shape)))
+    if len(expr.shape) > len(dims) or rules.fitted(expr.shape, dims) != dims:
+        raise ShapeMismatch(f"dims {expr.shape} don't fit into {dims}")
+    return spread(expr, dims)
+
+
+def broadcast_arrays(*parts: Any) -> List[Expr]:
+    """All parts, repeated over the dims that fit all.
+
+    >>> [it.dims for it in broadcast_arrays([1, 2], [[3], [4]])]
+    [(2, 2), (2, 2)]
+    """
+    return alike(*map(an_expr, parts))
+
+
+def broadcast_shapes(*shapes: Any) -> Dims:
+    """The dims that fit all of these.
+
+    >>> broadcast_shapes((2, 1), (3,))
+    (2, 3)
+    """
+    each = [tuple(numbers_of(it)) for it in shapes]
+    return rules.fitted(*each) if each else ()
+
+
+def tile(A: Any, reps: Any) -> Expr:
+    """Repeated so often along each axis, the last ones first.
+
+    >>> run(tile([1, 2], (2, 2))).nested()
+    [[1, 2, 1, 2], [1, 2, 1, 2]]
+    """
+    counts = rules.sizes(numbers_of(reps))
+    expr = with_axes(A, len(counts))
+    counts = [1] * (expr.ndim - len(counts)) + counts
+    # None of what is repeated no times is taken.
+    kept = [it if count else 0 for it, count in zip(expr.shape, counts)]
+    if kept != [*expr.shape]:
+        expr = expr.slice([0] * expr.ndim, kept)
+    return expr if {*counts} <= {0, 1} else expr.broadcast([max(it, 1) for it in counts])
+
+
+def repeat(a: Any, repeats: Any, axis: Any = None) -> Expr:
+    """Each value so often, along an axis or along one of all values; or as often as a list says of
+    each.
+
+    >>> run(repeat([1, 2], 2)).values, run(repeat([1, 2], [1, 3])).values
+    ([1, 1, 2, 2], [1, 2, 2, 2])
+    """
+    expr, along = flat(a, axis)
+    dims = expr.shape
+    counts = rules.sizes(numbers_of(repeats))
+    if len(counts) != 1:
+        from .chosen import take
+
+        if len(counts) != dims[along]:
+            raise ShapeMismatch(f"{len(counts)} counts for {dims[along]} places")
+        return take(expr, [at for at, it in enumerate(counts) for _ in range(it)], along)
+    often = counts[0]
+    # Column-major, an axis before this one goes over the places between two of its values.
+    wide = expr.in_dims(beside_axis(dims, along, [1, dims[along]]))
+    found = tile(wide, [often if at == along else 1 for at in range(wide.ndim)])
+    return found.in_dims(beside_axis(dims, along, [often * dims[along]]))
+
+
+# Turned.
+
+
+def flip(m: Any, axis: Any = None) -> Expr:
+    """From the other end, along these axes or along all.
+
+    >>> run(flip([[1, 2], [3, 4]], 1)).nested()
+    [[2, 1], [4, 3]]
+    """
+    expr = an_expr(m)
+    axes = [*range(expr.ndim)] if axis is None else named_axes(axis, expr.ndim)
+    return expr.reverse([it in axes for it in range(expr.ndim)])
+
+
+def of_two_axes(m: Any) -> Expr:
+    expr = an_expr(m)
+    if expr.ndim < 2:
+        raise ShapeMismatch(f"dims {expr.shape} have no rows and columns")
+    return expr
+
+
+def fliplr(m: Any) -> Expr:
+    """The columns from the last to the first.
+
+    >>> run(fliplr([[1, 2], [3, 4]])).nested()
+    [[2, 1], [4, 3]]
+    """
+    return flip(of_two_axes(m), 1)
+
+
+def flipud(m: Any) -> Expr:
+    """The rows from the last to the first.
+
+    >>> run(flipud([[1, 2], [3, 4]])).nested()
+    [[3, 4], [1, 2]]
+    """
+    return flip(m, 0)
+
+
+def rot90(m: Any, k: int = 1, axes: Tuple[int, int] = (0, 1)) -> Expr:
+    """Turned by so many quarters, from the first of two axes towards the second.
+
+    >>> run(rot90([[1, 2], [3, 4]])).nested()
+    [[2, 4], [1, 3]]
+    """
+    expr = of_two_axes(m)
+    first, second = named_axes(axes, expr.ndim)
+    quarters = whole(k) % 4
+    if quarters == 2:
+        return flip(expr, (first, second))
+    if quarters == 0:
+        return expr
+    turned = flip(expr, second) if quarters == 1 else expr
+    turned = swapaxes(turned, first, second)
+    return turned if quarters == 1 else flip(turned, second)
+
+
+def roll(a: Any, shift: Any, axis: Any = None) -> Expr:
+    """Moved along axes; what leaves at one end comes in at the other.
+
+    >>> run(roll([1, 2, 3, 4], 1)).values
+    [4, 1, 2, 3]
+    """
+    expr = an_expr(a)
+    if axis is None:
+        return rolled(expr.ravel(), whole(shift), 0).reshape(expr.shape)
+    shifts, axes = numbers_of(shift), numbers_of(axis)
+    if len(shifts) == 1:
+        shifts = shifts * len(axes)
+    if len(axes) == 1:
+        axes = axes * len(shifts)
+    if len(shifts) != len(axes):
+        raise ShapeMismatch(f"{len(shifts)} shifts along {len(axes)} axes")
+    for by, along in zip(shifts, axes):
+        expr = rolled(expr, by, rules.axis_of(along, expr.ndim))
+    return expr
+
+
+def rolled(expr: Expr, shift: int, axis: int) -> Expr:
+    """Moved along one axis: what stands twice in a row, from another offset on."""
+    dims: Sequence[int] = expr.shape
+    begin = -shift % dims[axis] if dims[axis] else 0
+    if not begin:
+        return expr
+    try:
+        twice = expr.broadcast([2 if it == axis else 1 for it in range(len(dims))])
+    except TooLarge:
+        end = part(expr, axis, begin, dims[axis])
+        return end.concat(part(expr, axis, 0, begin), axis)
+    return part(twice, axis, begin, begin + dims[axis])
+
+
+# Dims.
+
+
+def shape(a: Any) -> Dims:
+    """The dims.
+
+    >>> shape([[1, 2, 3]])
+    (1, 3)
+    """
+    return an_expr(a).shape
+
+
+def ndim(a: Any) -> int:
+    """How many axes there are.
+
+    >>> ndim([[1, 2, 3]])
+    2
+    """
+    return an_expr(a).ndim
+
+
+def size(a: Any, axis: Optional[int] = None) -> int:
+    """How many places there are, or how many along an axis.
+
+    >>> size([[1, 2, 3]]), size([[1, 2, 3]], 0)
+    (3, 1)
+    """
+    dims = an_expr(a).shape
+    return rules.product(dims) if axis is None else dims[rules.axis_of(whole(axis), len(dims))]

@@ -1,0 +1,144 @@
+"""numpy's functions that make fewer values of many."""
+
+from __future__ import annotations
+
+from typing import Any, Callable
+
+from .. import rules
+from ..expressions import Expr
+from ..faults import ShapeMismatch
+from ..tensors import an_expr, tensor, where
+from ..values import whole
+from .common import beside_axis, flat, part
+from .rearranged import broadcast_to
+
+__all__ = [
+    "all", "amax", "amin", "any", "argmax", "argmin", "array_equal", "array_equiv",
+    "count_nonzero", "diff", "ediff1d", "max", "min", "prod", "ptp", "sum",
+]
+
+
+def combining(name: str) -> Callable[..., Expr]:
+    def function(x: Any, axis: Any = None, **more: Any) -> Expr:
+        found: Expr = getattr(an_expr(x), name)(axis=axis, **more)
+        return found
+
+    function.__name__ = function.__qualname__ = name
+    function.__doc__ = getattr(Expr, name).__doc__
+    return function
+
+
+# As numpy's functions of these names; inside this module the builtins aren't needed.
+sum, prod, max, min, all, any = map(combining, ("sum", "prod", "max", "min", "all", "any"))
+amax, amin = max, min
+
+
+def count_nonzero(a: Any, axis: Any = None, keepdims: bool = False) -> Expr:
+    """How many values aren't 0.
+
+    >>> run(count_nonzero([0, 5, 7])).item()
+    2
+    """
+    expr = an_expr(a)
+    return (expr if expr.truth else expr.ne(0)).sum(axis=axis, keepdims=keepdims)
+
+
+def ptp(a: Any, axis: Any = None, keepdims: bool = False) -> Expr:
+    """The greatest value less the least.
+
+    >>> run(ptp([3, 9, 5])).item()
+    6
+    """
+    expr = an_expr(a)
+    return expr.max(axis=axis, keepdims=keepdims).sub(expr.min(axis=axis, keepdims=keepdims))
+
+
+def array_equal(a1: Any, a2: Any) -> Expr:
+    """1 where the dims are the same, and all values, else 0.
+
+    >>> bool(array_equal([1, 2], [1, 2]))
+    True
+    """
+    one, other = an_expr(a1), an_expr(a2)
+    return one.eq(other).all() if one.shape == other.shape else tensor(False)
+
+
+def array_equiv(a1: Any, a2: Any) -> Expr:
+    """1 where all values are the same, repeated where dims differ, else 0.
+
+    >>> bool(array_equiv([1, 1], 1))
+    True
+    """
+    try:
+        return an_expr(a1).eq(an_expr(a2)).all()
+    except ShapeMismatch:
+        return tensor(False)
+
+
+def argmax(a: Any, axis: Any = None, out: None = None, keepdims: bool = False) -> Expr:
+    """The offset of the greatest value along an axis, or in all values; the first of several.
+
+    >>> run(argmax([3, 9, 9])).item()
+    1
+    """
+    return first_offset("max", a, axis, keepdims)
+
+
+def argmin(a: Any, axis: Any = None, out: None = None, keepdims: bool = False) -> Expr:
+    """The offset of the least value along an axis, or in all values; the first of several.
+
+    >>> run(argmin([3, 1, 1])).item()
+    1
+    """
+    return first_offset("min", a, axis, keepdims)
+
+
+def first_offset(best: str, a: Any, axis: Any, keepdims: bool) -> Expr:
+    expr, along = flat(a, axis)
+    length = expr.shape[along]
+    if not length:
+        raise ValueError(f"arg{best} of nothing")
+    is_best = expr.eq(getattr(expr, best)(axis=along, keepdims=True))
+    offsets = tensor(range(length)).in_dims([length] + [1] * (expr.ndim - along - 1))
+    found = where(is_best, offsets, length).min(axis=along, keepdims=keepdims)
+    return found.in_dims([1] * an_expr(a).ndim) if keepdims and axis is None else found
+
+
+# Over an axis.
+
+
+def diff(a: Any, n: int = 1, axis: int = -1, prepend: Any = None, append: Any = None) -> Expr:
+    """The differences of neighbours along an axis, and of these, so often.
+
+    >>> run(diff([1, 4, 9, 16])).values, run(diff([1, 4, 9, 16], 2)).values
+    ([3, 5, 7], [2, 2])
+    """
+    expr, times = an_expr(a), whole(n)
+    if times < 0:
+        raise ValueError(f"differences taken {times} times")
+    along = rules.axis_of(whole(axis), expr.ndim)
+    for at, it in enumerate((prepend, append)):
+        if it is not None:
+            beside = an_expr(it)
+            if not beside.shape:
+                beside = broadcast_to(beside, beside_axis(expr.shape, along, [1]))
+            expr = expr.concat(beside, along) if at else beside.concat(expr, along)
+    if times >= expr.shape[along]:
+        return part(expr, along, 0, 0) if times else expr
+    # One product with what the differences come to: 1 -1, 1 -2 1, and so on.
+    weights = [1]
+    for _ in range(times):
+        weights = [(x - y + 2**63) % 2**64 - 2**63 for x, y in zip([0, *weights], [*weights, 0])]
+    return expr.convolve(weights, along) if times else expr
+
+
+def ediff1d(ary: Any, to_end: Any = None, to_begin: Any = None) -> Expr:
+    """The differences of neighbours in all values, with values before and behind.
+
+    >>> run(ediff1d([1, 4, 9], to_end=0)).values
+    [3, 5, 0]
+    """
+    found = diff(an_expr(ary).ravel())
+    if to_begin is not None:
+        found = an_expr(to_begin).ravel().concat(found, 0)
+    return found if to_end is None else found.concat(an_expr(to_end).ravel(), 0)

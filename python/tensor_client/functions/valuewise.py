@@ -1,0 +1,205 @@
+"""numpy's functions of each value, and of each two."""
+
+from __future__ import annotations
+
+from typing import Any, Callable, NoReturn
+
+from ..tensors import an_expr
+from ..values import whole
+from .common import as_dtype
+from .scans import SCANS, scanned
+
+__all__ = [
+    "abs", "absolute", "add", "around", "astype", "bitwise_and", "bitwise_invert",
+    "bitwise_left_shift", "bitwise_not", "bitwise_or", "bitwise_xor", "clip", "conj",
+    "conjugate", "equal", "fmax", "fmin", "greater", "greater_equal", "invert", "left_shift",
+    "less", "less_equal", "logical_and", "logical_not", "logical_or", "logical_xor", "maximum",
+    "minimum", "multiply", "negative", "not_equal", "positive", "pow", "power", "real", "round",
+    "sign", "signbit", "square", "subtract",
+]
+
+
+# The reductions that combine as a function of two values does.
+REDUCED = {
+    "add": "sum",
+    "multiply": "prod",
+    "maximum": "max",
+    "minimum": "min",
+    "logical_and": "all",
+    "logical_or": "any",
+}
+
+
+def told(function: Callable[..., Any], name: str, what: str, example: str, wanted: str) -> Any:
+    """A function with a name, and a docstring with an example."""
+    function.__name__ = function.__qualname__ = name
+    function.__doc__ = f"{what}\n\n    >>> run({name}({example})).values\n    {wanted}\n    "
+    return function
+
+
+def of_one(name: str, method: str, *text: str) -> Callable[[Any], Any]:
+    """A function of each value, by a method of expressions."""
+
+    def function(x: Any) -> Any:
+        return getattr(an_expr(x), method)()
+
+    found: Callable[[Any], Any] = told(function, name, *text)
+    return found
+
+
+def of_two(name: str, method: str, *text: str) -> Any:
+    """A function of each two values, by a method of expressions. As numpy's have it has functions
+    of its own: `outer`, of each value with each, `reduce`, which combines all along an axis, and
+    `accumulate`, up to each place of it."""
+
+    def function(x1: Any, x2: Any) -> Any:
+        return getattr(an_expr(x1), method)(x2)
+
+    def outer(A: Any, B: Any) -> Any:
+        left, right = an_expr(A), an_expr(B)
+        return function(left.in_dims([*left.shape] + [1] * right.ndim), right)
+
+    def reduce(array: Any, axis: Any = 0, **more: Any) -> Any:
+        if name not in REDUCED:
+            raise TypeError(f"the runtime has no reduction by {name}")
+        return getattr(an_expr(array), REDUCED[name])(axis=axis, **more)
+
+    def accumulate(array: Any, axis: int = 0) -> Any:
+        if name not in SCANS:
+            raise TypeError(f"the runtime has no reduction by {name}")
+        return scanned(SCANS[name], array, axis)
+
+    def refused(*_: Any, **more: Any) -> NoReturn:
+        raise TypeError("a tensor isn't written: where, bincount and products combine at offsets")
+
+    found = told(function, name, *text)
+    found.outer, found.reduce, found.accumulate = outer, reduce, accumulate
+    found.at = found.reduceat = refused
+    return found
+
+
+negative = of_one("negative", "neg", "The negated values: -x.", "[1, -2]", "[-1, 2]")
+absolute = of_one("absolute", "abs", "The absolute values.", "[1, -2]", "[1, 2]")
+square = of_one("square", "square", "Each value times itself.", "[1, -2]", "[1, 4]")
+logical_not = of_one("logical_not", "not_", "1 where a value is 0, else 0.", "[0, 5]", "[1, 0]")
+invert = of_one("invert", "__invert__", "1 for 0 and 0 for 1.", "tensor([1, 2]) < 2", "[0, 1]")
+
+add = of_two("add", "add", "The sums: x + y.", "[1, 2], 3", "[4, 5]")
+subtract = of_two("subtract", "sub", "The differences: x - y.", "[1, 2], 3", "[-2, -1]")
+multiply = of_two("multiply", "mul", "The products: x * y.", "[1, 2], 3", "[3, 6]")
+maximum = of_two(
+    "maximum",
+    "cwise_max",
+    "The greater of each two values; the method x.maximum() is the greatest of all.",
+    "[1, 5], 3",
+    "[3, 5]",
+)
+minimum = of_two(
+    "minimum",
+    "cwise_min",
+    "The lesser of each two values; the method x.minimum() is the least of all.",
+    "[1, 5], [3, 4]",
+    "[1, 4]",
+)
+less = of_two("less", "lt", "1 where x < y, else 0.", "[1, 2], 2", "[1, 0]")
+less_equal = of_two("less_equal", "le", "1 where x <= y, else 0.", "[2, 3], 2", "[1, 0]")
+equal = of_two("equal", "eq", "1 where x == y, else 0.", "[1, 2], 2", "[0, 1]")
+not_equal = of_two("not_equal", "ne", "1 where x != y, else 0.", "[1, 2], 2", "[1, 0]")
+greater = of_two("greater", "gt", "1 where x > y, else 0.", "[2, 3], 2", "[0, 1]")
+greater_equal = of_two("greater_equal", "ge", "1 where x >= y, else 0.", "[1, 2], 2", "[0, 1]")
+logical_and = of_two(
+    "logical_and", "and_", "1 where neither value is 0, else 0.", "[0, 5], 7", "[0, 1]"
+)
+logical_or = of_two(
+    "logical_or", "or_", "1 where one value is not 0, else 0.", "[0, 5], 0", "[0, 1]"
+)
+bitwise_and = of_two(
+    "bitwise_and", "__and__", "x & y, of truth values.", "tensor([1, 2]) < 2, True", "[1, 0]"
+)
+bitwise_or = of_two(
+    "bitwise_or", "__or__", "x | y, of truth values.", "tensor([1, 2]) < 2, True", "[1, 1]"
+)
+bitwise_xor = of_two(
+    "bitwise_xor", "__xor__", "x ^ y, of truth values.", "tensor([1, 2]) < 2, True", "[0, 1]"
+)
+left_shift = of_two(
+    "left_shift", "__lshift__", "x << n, by a number of places.", "[1, -2], 3", "[8, -16]"
+)
+power = of_two("power", "__pow__", "Powers by a whole number from 0 up.", "[2, 3], 5", "[32, 243]")
+
+# By numpy's other names.
+abs, pow, bitwise_not, bitwise_invert = absolute, power, invert, invert
+fmax, fmin, bitwise_left_shift = maximum, minimum, left_shift
+
+
+def logical_xor(x1: Any, x2: Any) -> Any:
+    """1 where one of two values is 0 and the other isn't, else 0.
+
+    >>> run(logical_xor([0, 5], 7)).values
+    [1, 0]
+    """
+    return as_dtype(x1, bool).ne(as_dtype(x2, bool))
+
+
+def positive(x: Any) -> Any:
+    """The values as they are.
+
+    >>> run(positive([1, -2])).values
+    [1, -2]
+    """
+    return an_expr(x)
+
+
+# What numpy does to fractions and to imaginary parts, which whole numbers haven't.
+conj = conjugate = real = positive
+
+
+def round(x: Any, decimals: int = 0) -> Any:
+    """The values as they are: whole numbers are round, to 0 places and to more.
+
+    >>> run(round([14, 16])).values
+    [14, 16]
+    """
+    if whole(decimals) < 0:
+        raise TypeError("rounding to tens takes a division, which the runtime doesn't have")
+    return an_expr(x)
+
+
+around = round
+
+
+def sign(x: Any) -> Any:
+    """-1, 0 or 1, as a value is below 0, 0, or above.
+
+    >>> run(sign([-5, 0, 7])).values
+    [-1, 0, 1]
+    """
+    return an_expr(x).clip(-1, 1)
+
+
+def signbit(x: Any) -> Any:
+    """1 where a value is below 0, else 0.
+
+    >>> run(signbit([-5, 0])).values
+    [1, 0]
+    """
+    return an_expr(x).lt(0)
+
+
+def clip(x: Any, a_min: Any = None, a_max: Any = None, min: Any = None, max: Any = None) -> Any:
+    """The values, none of them below the one and above the other.
+
+    >>> run(clip([1, 5, 9], 2, 8)).values
+    [2, 5, 8]
+    """
+    below, above = a_min if min is None else min, a_max if max is None else max
+    return an_expr(x).clip(below, above)
+
+
+def astype(x: Any, dtype: Any) -> Any:
+    """The values as a dtype: as int64 what they are, as bool 1 where they aren't 0.
+
+    >>> run(astype([0, 5], bool)).values
+    [0, 1]
+    """
+    return as_dtype(x, dtype)

@@ -1,0 +1,204 @@
+"""Tests of tensors where numpy's arrays are expected: printed, as numbers and truth values, gone
+over, and in numpy's own functions."""
+
+import random
+import unittest
+import unittest.mock
+
+from tensor_client import Expr, Tensor, tensor
+from asking import by_reference
+
+try:
+    import numpy
+except ImportError:
+    numpy = None
+
+
+def rows(*dims):
+    """Numbers of several lengths, as nested lists."""
+    source = random.Random(repr(dims))
+    if not dims:
+        return source.choice([source.randrange(-9, 10), source.randrange(-(10**6), 10**6)])
+    return [rows(*dims[1:]) for _ in range(dims[0])]
+
+
+class Shown(unittest.TestCase):
+    """What print and repr show."""
+
+    def test_rows(self):
+        x = tensor([[1, -20], [3, 4]])
+        self.assertEqual(str(x), "[[  1 -20]\n [  3   4]]")
+        self.assertEqual(repr(x), "tensor([[  1, -20],\n        [  3,   4]])")
+        self.assertEqual((str(tensor(7)), repr(tensor(7))), ("7", "tensor(7)"))
+        self.assertEqual(repr(tensor([[], []])), "tensor([], dims=(2, 0))")
+        self.assertEqual(f"{tensor([7]):3}|{x[0]!r}", "  7|<chip, dims (2,), 3 nodes>")
+        made = {"tensor": tensor}
+        self.assertEqual(eval(repr(x), made).nested(), x.nested())
+        self.assertLess(len(repr(tensor(range(10**6)))), 80)
+
+    @unittest.skipIf(numpy is None, "numpy isn't installed")
+    def test_rows_as_numpy_shows_them(self):
+        for dims in (
+            (),
+            (3,),
+            (60,),
+            (2, 3),
+            (3, 30),
+            (2, 2, 3),
+            (2, 1, 2, 2),
+            (2000,),
+            (1001, 2),
+            (8, 200),
+            (30, 4, 10),
+            (1, 0),
+            (1, 1),
+        ):
+            source = numpy.random.default_rng(sum(dims))
+            for most in (10, 10**9, 2**62):
+                array = source.integers(-most, most, dims)
+                for order in "CF":
+                    x = tensor(array.copy(order))
+                    with self.subTest(dims=dims, most=most):
+                        self.assertEqual(str(x), str(array))
+                        if array.size:
+                            told = {"separator": ", ", "prefix": "tensor(", "suffix": ")"}
+                            shown = numpy.array2string(array, **told)
+                            self.assertEqual(repr(x), f"tensor({shown})")
+
+
+class Values(unittest.TestCase):
+    """Expressions and tensors as numbers, as truth values and as lists."""
+
+    def setUp(self):
+        asked = by_reference()
+        ask = asked.__enter__()
+        self.addCleanup(asked.__exit__, None, None, None)
+        patched = unittest.mock.patch("tensor_client.running.run", ask)
+        patched.start()
+        self.addCleanup(patched.stop)
+
+    def test_what_is_run_for_its_value(self):
+        d = tensor([[0, 3], [3, 0]])
+        if (d == d.T).all():
+            self.assertEqual(int(d.max()), 3)
+        else:
+            self.fail("not the same")
+        self.assertFalse((d + d).sum() == 11)
+        self.assertEqual([*range(d.max())], [0, 1, 2])
+        self.assertEqual("abcd"[d.max()], "d")
+        self.assertEqual((d.sum().item(), (d + 1).tolist()), (6, [[1, 4], [4, 1]]))
+        self.assertEqual(float(d.sum()), 6.0)
+        for wrong in (lambda: bool(d == d), lambda: bool(d.sum(axis=0))):
+            self.assertRaises(TypeError, wrong)
+        for wrong in (lambda: int(d), lambda: int(d + 1)):
+            self.assertRaises(ValueError, wrong)
+
+    def test_tensors_are_gone_over(self):
+        self.assertEqual([*tensor([5, 6])], [5, 6])
+        found = [*tensor([[1, 2], [3, 4], [5, 6]])]
+        self.assertEqual([it.values for it in found], [[1, 2], [3, 4], [5, 6]])
+        self.assertTrue(all(isinstance(it, Tensor) for it in found))
+        a, b = tensor([[1, 2], [3, 4]])
+        self.assertEqual((a + b).tolist(), [4, 6])
+        self.assertTrue(3 in tensor([[1, 2], [3, 4]]) and 7 not in tensor([1]))
+
+    def test_tensors_are_not_written(self):
+        x = tensor([1, 2])
+        with self.assertRaisesRegex(TypeError, "where"):
+            x[0] = 5
+        y = x
+        y += 1
+        self.assertEqual((x.values, y.tolist()), ([1, 2], [2, 3]))
+
+
+@unittest.skipIf(numpy is None, "numpy isn't installed")
+class Functions(unittest.TestCase):
+    """numpy's own functions, over tensors and over what isn't answered."""
+
+    def test_tensors_are_arrays(self):
+        array = numpy.array([[3, 1, 2], [9, 8, 7]])
+        x = tensor(array)
+        for call in (
+            lambda it: numpy.sort(it),
+            lambda it: numpy.mean(it),
+            lambda it: numpy.unique(it),
+            lambda it: numpy.nonzero(it),
+            lambda it: numpy.sum(it, axis=0),
+            lambda it: numpy.concatenate([it, it], axis=1),
+            lambda it: numpy.vstack([array, it]),
+            lambda it: numpy.sqrt(it),
+            lambda it: numpy.add(it, 1),
+            lambda it: numpy.floor_divide(it, 2),
+            lambda it: numpy.bitwise_xor(it, 5),
+            lambda it: numpy.add.reduce(it),
+            lambda it: numpy.maximum.accumulate(it, axis=1),
+            lambda it: numpy.linalg.norm(it),
+            lambda it: numpy.array_equal(it, array),
+            lambda it: numpy.where(numpy.asarray(it) > 2, it, 0),
+            lambda it: numpy.einsum("ij->j", it),
+            lambda it: numpy.median(it, axis=1),
+            lambda it: numpy.allclose(array, it),
+            lambda it: numpy.arange(12)[it],
+        ):
+            found, wanted = call(x), call(array)
+            self.assertNotIsInstance(found, Expr)
+            numpy.testing.assert_equal(found, wanted)
+        numpy.testing.assert_array_equal(x, array)
+        total = numpy.zeros((2, 3), int)
+        total += x
+        numpy.add(total, x, out=total)
+        numpy.testing.assert_array_equal(total, array * 2)
+        self.assertEqual(numpy.asarray(x, dtype=float).dtype, float)
+
+    def test_an_operator_is_an_expression(self):
+        array = numpy.array([1, 2])
+        for x in (tensor([3, 4]), tensor([3, 4]) * 1):
+            for found in (
+                array + x,
+                array - x,
+                array * x,
+                array @ x,
+                array < x,
+                array == x,
+                numpy.int64(3) - x,
+                array**2 * x,
+            ):
+                self.assertIsInstance(found, Expr)
+
+    def test_what_is_not_answered(self):
+        array = numpy.array([[3, 1, 2], [9, 8, 7]])
+        x = tensor(array) + 0
+        with by_reference() as ask:
+            for call in (
+                lambda it: numpy.sort(it),
+                lambda it: numpy.concatenate([it, array], axis=1),
+                lambda it: numpy.add(it, 1),
+                lambda it: numpy.multiply(array, it),
+                lambda it: numpy.where(it > 2, it, 0),
+                lambda it: numpy.argmax(it, axis=1),
+                lambda it: numpy.cumsum(it, axis=1),
+                lambda it: numpy.roll(it, 1),
+                lambda it: numpy.pad(it, 1, mode="edge"),
+                lambda it: numpy.tensordot(it, it),
+                lambda it: numpy.linalg.matrix_power(it[:, :2], 3),
+                lambda it: numpy.add.reduce(it),
+                lambda it: numpy.maximum.accumulate(it, axis=1),
+            ):
+                found = call(x)
+                self.assertIsInstance(found, Expr)
+                numpy.testing.assert_array_equal(ask(found).array(), call(array))
+        for wrong in (
+            lambda: numpy.sqrt(x),
+            lambda: numpy.mean(x),
+            lambda: numpy.unique(x),
+            lambda: numpy.sqrt(array, out=x),
+            lambda: numpy.add(array, x, out=array),
+            lambda: numpy.floor_divide(array, x),
+            lambda: array // x,
+            lambda: numpy.asarray(x),
+        ):
+            self.assertRaisesRegex(TypeError, r"run\(", wrong)
+
+
+if __name__ == "__main__":
+    unittest.main()

@@ -1,0 +1,182 @@
+"""Tests of the lines in lines/, as numpy's users write them: each gives what numpy gives, or says
+why it doesn't. They are skipped where numpy isn't installed."""
+
+import glob
+import inspect
+import os
+import re
+import unittest
+import unittest.mock
+import warnings
+
+import tensor_client as client
+from tensor_client import GREATEST, LEAST, Expr, tensor
+from tensor_client.functions import advice
+from asking import OneWay, each_way
+
+try:
+    import numpy
+except ImportError:
+    numpy = None
+
+FOLDER = os.path.join(os.path.dirname(os.path.realpath(__file__)), "lines")
+# What isn't written alike for numpy and for the client, over arrays of a few values.
+OTHERS = "over_many_values", "of_some_versions", "refused"
+DIMS = {"a": (3, 4), "b": (3, 4), "c": (2, 3, 4), "m": (4, 4), "v": 5, "w": 5}
+# Functions that are the client's own.
+OWN = {"answer", "compile", "contract", "placeholder", "request", "run", "tensor"}
+
+
+def lines_of(name):
+    """The lines of a file, but for its first, which says what they are."""
+    with open(os.path.join(FOLDER, f"{name}.txt"), encoding="utf-8") as text:
+        return text.read().split("\n")[1:-1]
+
+
+def lines():
+    """The lines of all files that are written alike."""
+    names = sorted(os.path.basename(it)[:-4] for it in glob.glob(os.path.join(FOLDER, "*.txt")))
+    return [line for it in names if it not in OTHERS for line in lines_of(it)]
+
+
+def paired(name):
+    """The lines of a file, and what stands behind each."""
+    return [line.rsplit(" | ", 1) for line in lines_of(name)]
+
+
+def arrays(seed):
+    """Random arrays, small numbers at first, and then of the whole range too."""
+    source = numpy.random.default_rng(seed)
+    found = {name: source.integers(-3, 4, dims) for name, dims in DIMS.items()}
+    if seed:
+        for it in found.values():
+            it.flat[:2] = source.permutation([LEAST, GREATEST])
+    return {**found, "n": source.integers(0, 4, 6)}
+
+
+def evaluated(line, module, names):
+    """What a line gives, with the names of a module and of arrays."""
+    with warnings.catch_warnings(), numpy.errstate(over="ignore"):
+        # numpy says so where scalars wrap.
+        warnings.simplefilter("ignore")
+        return eval(line, {"np": module, "numpy": numpy, **names})
+
+
+def parts(found):
+    """What stands in lists, one after another."""
+    if isinstance(found, (list, tuple)):
+        return [part for it in found for part in parts(it)]
+    return [found]
+
+
+class Alike(OneWay):
+    """What is answered, and what numpy gives."""
+
+    def agree(self, found, wanted):
+        self.assertEqual(len(parts(found)), len(parts(wanted)))
+        for it, by_numpy in zip(parts(found), parts(wanted)):
+            by_numpy = numpy.asarray(by_numpy)
+            if isinstance(it, Expr):
+                answered = self.ask(it)
+                self.assertEqual(it.dims, answered.dims)
+                it = answered.array()
+            self.assertEqual(numpy.shape(it), by_numpy.shape)
+            numpy.testing.assert_array_equal(it, by_numpy.astype(numpy.int64))
+
+
+@unittest.skipIf(numpy is None, "numpy isn't installed")
+class Lines(Alike):
+    """Each line over tensors and over arrays, and by numpy."""
+
+    def test_lines(self):
+        for seed in range(2):
+            given = arrays(seed)
+            tensors = {name: tensor(it) for name, it in given.items()}
+            with unittest.mock.patch("tensor_client.running.run", self.ask):
+                for line in lines():
+                    with self.subTest(line=line, seed=seed):
+                        wanted = evaluated(line, numpy, given)
+                        self.agree(evaluated(line, client, tensors), wanted)
+                        if not seed and line.startswith("np."):
+                            self.agree(evaluated(line, client, given), wanted)
+
+    def test_names_of_some_versions(self):
+        given = arrays(1)
+        tensors = {name: tensor(it) for name, it in given.items()}
+        for line, other in paired("of_some_versions"):
+            with self.subTest(line=line):
+                wanted = evaluated(other, numpy, given)
+                self.agree(evaluated(line, client, tensors), wanted)
+                if hasattr(numpy, line[3:].partition("(")[0]):
+                    self.agree(evaluated(line, client, tensors), evaluated(line, numpy, given))
+
+
+@unittest.skipIf(numpy is None, "numpy isn't installed")
+class Many(Alike):
+    """Lines over many values, which the reference would take minutes for."""
+
+    def test_lines_over_many_values(self):
+        source = numpy.random.default_rng(5)
+        given = {
+            "g": source.choice([-1, 1], 5_000),
+            "h": source.choice([-1, 1], (3, 2_000)),
+            "k": source.integers(0, 10, 300_000),
+            "t": source.integers(-(2**63), 2**63, 1_000_000, dtype=numpy.int64),
+        }
+        tensors = {name: tensor(it) for name, it in given.items()}
+        for line in lines_of("over_many_values"):
+            with self.subTest(line=line):
+                wanted = evaluated(line, numpy, given)
+                self.agree(evaluated(line, client, tensors), wanted)
+
+
+class Refused(unittest.TestCase):
+    """What is refused, and names that aren't here."""
+
+    @unittest.skipIf(numpy is None, "numpy isn't installed")
+    def test_refused(self):
+        given = arrays(0)
+        names = {name: tensor(it) for name, it in given.items()}
+        for line, word in paired("refused"):
+            with self.subTest(line=line):
+                with self.assertRaises((TypeError, ValueError, AttributeError)) as raised:
+                    evaluated(line, client, names)
+                self.assertIn(word, str(raised.exception))
+
+    def test_no_name_is_refused_without_advice(self):
+        x = tensor([1, 2])
+        for name in advice.ADVICE:
+            self.assertNotIn(name, client.__all__)
+            for owner in (client, x, x + 1, client.linalg):
+                if not hasattr(owner, name):
+                    with self.assertRaisesRegex(AttributeError, f"has no '{name}': .."):
+                        getattr(owner, name)
+
+    @unittest.skipIf(numpy is None, "numpy isn't installed")
+    def test_each_name_of_numpy(self):
+        functions = [it for it in dir(numpy) if inspect.isroutine(getattr(numpy, it, None))]
+        for owner, names in ((client, functions), (tensor(1), dir(numpy.ndarray))):
+            for name in names:
+                if not name.startswith("_") and not hasattr(owner, name):
+                    with self.assertRaisesRegex(AttributeError, f"has no '{name}': .."):
+                        getattr(owner, name)
+
+    def test_a_name_that_is_none(self):
+        with self.assertRaisesRegex(AttributeError, "'arange'"):
+            client.arrange
+        self.assertFalse(hasattr(client, "no_name_of_this_form"))
+        self.assertFalse(hasattr(tensor(1) + 1, "_no_name_of_this_form"))
+
+    def test_every_function_has_a_line(self):
+        text = "\n".join([*lines(), *(it[0] for it in paired("of_some_versions"))])
+        for name in client.__all__:
+            it = getattr(client, name)
+            if inspect.isroutine(it) and name not in OWN:
+                self.assertTrue(re.search(rf"\bnp\.(linalg\.)?{name}\(", text), name)
+
+
+each_way(globals(), Lines, ("library", "frames", "reference library"))
+each_way(globals(), Many, ("library", "frames"))
+
+if __name__ == "__main__":
+    unittest.main()
