@@ -9,6 +9,8 @@ JUNK += [2**63 - 1, 2**63, 2**64 - 1, 2**64, -(2**63), -(2**63) - 1, 1.0, 0.5, 1
 JUNK += [[], {}, [0], [1], [[]], [0, 0], [[0, 0]], [True], ["a"], ["neg", "a"], ["add", "a"]]
 JUNK += [["div"], {"a": 1}, {"dims": [], "data": [5]}, {"dims": [0], "data": []}]
 JUNK += [{"dims": [1] * rank, "data": [1]} for rank in (7, 8, 9)]
+# A tree of many nodes stands over an input of so few places.
+MOST_NODES, SMALL = 1_000, 8
 ENDS = [0, 1, 5, 6, 7, 8, 9, 1_024, 1_048_576, 1_048_577, 2**63 - 1, 2**63]
 WORDS = ["neg", "add", "select", "constant", "broadcast", "slice", "shuffle", "reshape", "chip"]
 WORDS += ["reverse", "sum", "prod", "all", "contract", "div", "Add", "stride", "pad", "concat"]
@@ -119,26 +121,36 @@ def broken_strides(x, steps):
 
 
 def broken_pads(x, pairs):
-    far = [[it, 2**63 - 1] for it, _ in pairs]
-    return [["pad", x, it] for it in ([*pairs, [0, 0]], pairs[1:], far, [it[:1] for it in pairs])]
+    far, past = [[it, 2**63 - 1] for it, _ in pairs], [[2**63, it] for _, it in pairs]
+    broken = ([*pairs, [0, 0]], pairs[1:], far, past, [it[:1] for it in pairs])
+    return [["pad", x, it] for it in broken]
+
+
+def broken_contractions(x, y, pairs):
+    past = [[2**63, it] for _, it in pairs], [[it, 2**63] for it, _ in pairs]
+    return [["contract", x, y, it] for it in (pairs * 2, pairs[1:], [*pairs, [8, 0]], *past)]
 
 
 def broken_concats(x, y, axis):
     broken = [["concat", x, ["sum", y, [0]], axis], ["concat", ["sum", x, [0]], y, axis]]
+    broken += [["concat", x, ["sum", y, [0]], 8]]
     broken += [["concat", x, y, it] for it in (axis + 1, max(axis - 1, 0), 8, 2**63 - 1)]
     return [*broken, ["concat", LARGE, LARGE, 0], ["concat", LARGE, HALF, 1]]
 
 
 def broken_convolutions(x, kernel, axes):
     none, other_axes = [0] * len(axes), [axes[1:], axes * 2, [*axes, 8], [7, *axes[1:]]]
+    # Only the last dimension of a kernel is 0, or too long.
+    one_zero, one_long = [1] * len(axes[1:]) + [0], [1] * len(axes[1:]) + [2_000]
     other_kernels = [["sum", kernel, [0]], ["slice", kernel, none, none], x]
+    other_kernels += [["slice", kernel, none, one_zero], ["broadcast", kernel, one_long]]
     broken = [["convolve", x, kernel, it] for it in other_axes]
     broken += [["convolve", x, it, axes] for it in other_kernels]
     return [*broken, ["convolve", kernel, x, axes], ["convolve", LARGE, HALF, [0]]]
 
 
 # By name: what an operation may be replaced by, most of which fails one of its checks.
-BROKEN = {"stride": broken_strides, "pad": broken_pads}
+BROKEN = {"stride": broken_strides, "pad": broken_pads, "contract": broken_contractions}
 BROKEN.update({"concat": broken_concats, "convolve": broken_convolutions})
 
 
@@ -159,9 +171,45 @@ def with_broken_check(random, request):
     return request
 
 
+def nodes_in(tree):
+    """About how many nodes a tree has: names in lists of arguments count too."""
+    if isinstance(tree, list) and tree and isinstance(tree[0], str):
+        return 1 + sum(map(nodes_in, tree[1:]))
+    return int(isinstance(tree, str))
+
+
+def grown(name, count):
+    """A tree of so many nodes over one input, which has its dims."""
+    if count % 2 == 0:
+        return ["neg", grown(name, count - 1)]
+    if count == 1:
+        return name
+    half = (count - 1) // 2
+    return ["add", grown(name, half), grown(name, count - 1 - half)]
+
+
+def with_many_nodes(random, request):
+    """A request whose expression has about as many nodes as it may, by a tree in a leaf's place."""
+    inputs = request["inputs"]
+    small = {name for name, it in inputs.items() if len(it["data"]) <= SMALL}
+    leaves = [way for way in in_tree(request) if way[-1] != 0 and is_leaf(request, way, small)]
+    if not leaves:
+        return with_changes(random, request)
+    way = random.choice(leaves)
+    count = random.randint(-2, 2) + MOST_NODES - nodes_in(request["expr"]) + 1
+    at_end(request, way[:-1])[way[-1]] = grown(at_end(request, way), count)
+    return request
+
+
+def is_leaf(request, way, names):
+    it = at_end(request, way)
+    return isinstance(it, str) and it in names
+
+
 # What is done to a request, one after the other.
 SPOILERS = [[with_changes]] * 6 + [[of_other_version], [of_other_version, with_changes]]
 SPOILERS += [[with_broken_check]] * 3 + [[with_broken_check, with_changes]]
+SPOILERS = SPOILERS * 2 + [[with_many_nodes]]
 
 
 def nearly(random, request):

@@ -1,0 +1,88 @@
+"""Contracts in the sources of crates: the clauses of what is public, and the names in them."""
+
+import os
+import re
+
+from .modules import Module, words_of
+from .names import CRATES
+from .resting import Scan
+
+FUNCTION = re.compile(r'\s*(pub |pub\(\w+\) )?(?:const |unsafe |final |extern "C" )*fn (\w+)')
+CLAUSE = re.compile(r"\s*(requires|ensures|(?:pub )?ghost) +(\w+)?[^{]*\{")
+TRAIT = re.compile(r"(?:pub )?(trait|impl)\b")
+
+
+class Clause:
+    """A clause of a contract: `requires` or `ensures`, or a ghost member of a type."""
+
+    def __init__(self, source, function, kind, name, lines):
+        self.source, self.function, self.kind, self.name = source, function, kind, name
+        self.lines = lines
+
+    def text(self):
+        """The clause as it stands, moved to the left."""
+        indent = len(self.lines[0]) - len(self.lines[0].lstrip())
+        return [it[min(indent, len(it) - len(it.lstrip())) :] for it in self.lines]
+
+    def uses(self, names):
+        """What the names of the clause stand for, but for those of the code."""
+        scan = Scan(names, self.source, [])
+        words = words_of(enumerate(self.lines))
+        scan.words(words[words.index("{") :])
+        return scan.found
+
+
+class Source(Module):
+    """A file of src/, with what its lines `ghost use` bring in."""
+
+    def __init__(self, crate, path):
+        self.crate, self.path = crate, path
+        self.items, self.constructors, self.opened, self.aliases = {}, {}, {}, {}
+        with open(os.path.join(CRATES, crate, path), encoding="utf-8") as file:
+            self.lines = file.read().split("\n")
+        for line in self.lines:
+            brought = re.match(r"\s*(?:pub )?ghost use (.*);", line)
+            if brought:
+                self.bring_in(words_of([(0, brought[1])]))
+
+    def clauses(self):
+        """The clauses of its public functions, of its traits' functions, and ghost members."""
+        within, function, at = "", None, 0
+        while at < len(self.lines):
+            line = self.lines[at]
+            block = TRAIT.match(line)
+            within = block[1] if block else "" if line == "}" else within
+            begun = FUNCTION.match(line)
+            if begun:
+                is_public = begun[1] == "pub " or within == "trait"
+                function = begun[2] if is_public and not line.endswith("{") else None
+            clause = CLAUSE.match(line)
+            if clause:
+                end = self.end_of(at)
+                is_ghost = clause[1].endswith("ghost")
+                if function or is_ghost and within:
+                    named = None if is_ghost else function
+                    yield Clause(self, named, clause[1], clause[2], self.lines[at : end + 1])
+                at = end
+            elif function and line.strip() == "{" or line.startswith("}"):
+                # Behind it stands a body, which may have closures with clauses of their own.
+                function = None
+            at += 1
+
+    def end_of(self, at):
+        """The line in which the brace that opens first on a line is closed."""
+        depth = 0
+        for end in range(at, len(self.lines)):
+            depth += self.lines[end].count("{") - self.lines[end].count("}")
+            if depth <= 0:
+                return end
+        raise ValueError(f"{self.crate}/{self.path}: line {at + 1}")
+
+
+def sources_of(crate):
+    """The files of a crate's src/, in order."""
+    folder, found = os.path.join(CRATES, crate), []
+    for at, _, files in os.walk(os.path.join(folder, "src")):
+        paths = [os.path.join(at, it) for it in files if it.endswith(".rt")]
+        found += [os.path.relpath(it, folder) for it in paths]
+    return [Source(crate, path) for path in sorted(found)]

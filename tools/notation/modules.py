@@ -1,0 +1,132 @@
+"""Files of the notation: what each brings in by name, and the definitions and types that it has."""
+
+import re
+
+NAME = r'[^\s(){};,."]+'
+WORD = re.compile(r'"(?:[^"\\]|\\.)*"|[(){};,]|\.?%s(?:\.%s)*|\.' % (NAME, NAME))
+COMMENT = re.compile(r"(?:^|(?<=\s))--(?=\s|$)")
+MODIFIERS = ("abbrev", "unfoldable", "pub")
+# Lines that say nothing of a meaning.
+SILENT = ("mod", "open", "infix", "infixl", "infixr", "unfolding")
+
+
+def uncommented(line):
+    """A line without its comment; two dashes inside of a string begin none."""
+    for it in COMMENT.finditer(line):
+        if len(re.findall(r'(?<!\\)"', line[: it.start()])) % 2 == 0:
+            return line[: it.start()].rstrip()
+    return line.rstrip()
+
+
+def words_of(chunk):
+    """The words of numbered lines. A name is one word with all that its dots lead to."""
+    return [word for _, line in chunk for word in WORD.findall(line)]
+
+
+def indent_of(line):
+    return len(line) - len(line.lstrip())
+
+
+def chunks_of(lines):
+    """Lines in chunks: what stands further right, or closes a bracket, goes with those above."""
+    chunks = []
+    for at, line in lines:
+        if indent_of(line) == indent_of(lines[0][1]) and line.strip() != "}":
+            chunks.append([])
+        chunks[-1].append((at, line))
+    return chunks
+
+
+def head_of(chunk):
+    """How many lines of a chunk go to the word `where`."""
+    return 1 + next(at for at, (_, line) in enumerate(chunk) if line.split()[-1] == "where")
+
+
+def closing(words, at):
+    """Where the bracket that opens at a place is closed."""
+    depth = 0
+    for end in range(at, len(words)):
+        depth += (words[end] in "({") - (words[end] in ")}")
+        if depth == 0:
+            return end
+    raise ValueError(" ".join(words))
+
+
+def parameters(words):
+    """How many arguments a constructor of this type takes, without those in braces."""
+    text, last = " ".join(words), ""
+    while text != last:
+        # From the inside: (x y : T) stands for two types, and any other (T) for one.
+        last, text = text, re.sub(r"\{[^(){}]*\} →", "", text)
+        text = re.sub(r"\(([^(){}:]*):[^(){}]*\)", lambda it: " → ".join(it[1].split()), text)
+        text = re.sub(r"\([^(){}:]*\)", "it", text)
+    return text.count("→")
+
+
+class Item:
+    """A definition, a data type or a record: its lines, without comments, in chunks."""
+
+    def __init__(self, module, kind, name, section, chunk):
+        self.module, self.kind, self.name, self.section = module, kind, name, section
+        self.chunks, self.code, self.cases = [chunk], None, None
+
+    @property
+    def path(self):
+        return f"{self.module.path}.{self.name}"
+
+    def lines(self):
+        return [it for chunk in self.chunks for it in chunk]
+
+
+class Module:
+    """A file, read as far as the chunks that its lines are."""
+
+    def __init__(self, path, file):
+        self.path, self.file = path, file
+        self.items, self.constructors, self.opened, self.aliases = {}, {}, {}, {}
+        with open(file, encoding="utf-8") as text:
+            self.text = text.read().split("\n")
+        lines = [(at, uncommented(line)) for at, line in enumerate(self.text, 1)]
+        self.read([it for it in lines if it[1]], [])
+
+    def read(self, lines, section):
+        last = None
+        for chunk in chunks_of(lines):
+            words = words_of(chunk)
+            while words[0] in MODIFIERS:
+                words.pop(0)
+            head = words[0]
+            if head == "use":
+                self.bring_in(words[1:])
+            elif head == "module":
+                end = head_of(chunk)
+                names = re.findall(r"\(([^(){}:]+) : ", " ".join(words_of(chunk[:end])))
+                own = [(it, chunk[0][0]) for it in " ".join(names).split()]
+                self.read(chunk[end:], section + own)
+            elif head == "mutual":
+                self.read(chunk[1:], section)
+            elif head in ("data", "record"):
+                self.items[words[1]] = Item(self, head, words[1], section, chunk)
+                behind = chunks_of(chunk[head_of(chunk) :]) if head == "data" else ()
+                for made in map(words_of, behind):
+                    count = parameters(made[made.index(":") + 1 :])
+                    for name in made[: made.index(":")]:
+                        self.constructors[name] = (self.items[words[1]], count)
+            elif head not in SILENT:
+                # A signature, which begins a definition, or a case of the last one.
+                at = closing(words, 1) + 1 if words[1:2] == ["{"] else 1
+                if words[at : at + 1] == [":"]:
+                    last = self.items[head] = Item(self, "definition", head, section, chunk)
+                elif last is not None:
+                    last.chunks.append(chunk)
+
+    def bring_in(self, words):
+        """A line `use`: of some names of a module, or of a module under a name of its own."""
+        path = words[0]
+        if "{" in words:
+            for name in " ".join(words[words.index("{") + 1 : words.index("}")]).split(","):
+                parts = name.split()
+                if parts:
+                    self.opened[parts[-1]] = (path, parts[0])
+        else:
+            self.aliases[words[2] if words[1:] else path.rpartition(".")[2]] = path

@@ -1,0 +1,154 @@
+"""docs/HEADLINE.md: the clauses of the headline and the definitions that they rest on, by chapters.
+
+headline.md, beside this file, has the words, and in braces what is put there:
+{clause CRATE FUNCTION NAME} a clause as it stands; {first} and {second} what each rests on;
+{definitions CRATE/FILE.. CRATE/FILE.NAME..} those definitions, each behind what it uses;
+{types NAME..} types of the code; {line CRATE/FILE.NAME: TEXT} the plain line of a definition that
+has none of its own in its file.
+"""
+
+import os
+import re
+import textwrap
+
+from .resting import Closure, heads_of
+
+WORDS = os.path.join(os.path.dirname(os.path.abspath(__file__)), "headline.md")
+DIRECTIVE = re.compile(r"\{(\w+) ?([^}]*)\}$")
+OPENED = re.compile(r"(?:pub )?(enum|struct|trait) (\w+)")
+GHOST = re.compile(r" +(?:// |ghost (?!use))")
+
+
+class Unprinted(Exception):
+    """What the page would leave out or can't find."""
+
+
+def key_of(item):
+    """A definition as the page's words name it: its crate and its file, and its name there."""
+    _, crate, _, *within = item.module.path.split(".")
+    return f"{crate}/{'/'.join(within)}", item.name
+
+
+def line_above(item):
+    """The comment above a definition in its file."""
+    first, found = item.chunks[0][0][0] - 1, []
+    while item.module.text[first - 1].strip().startswith("-- "):
+        first -= 1
+        found.insert(0, item.module.text[first])
+    return found
+
+
+def type_of_code(item):
+    """A type as the code has it: without attributes, and of a trait its ghost members alone."""
+    lines = item.module.text.split("\n")
+    heads = [OPENED.match(it) for it in lines]
+    first = next(at for at, it in enumerate(heads) if it and it[2] == item.name)
+    is_trait, last, begin = heads[first][1] == "trait", lines.index("}", first), first
+    while lines[begin - 1].startswith(("///", "#[")):
+        begin -= 1
+    kept = [it for it in lines[begin : last + 1] if not it.strip().startswith("#[")]
+    if is_trait:
+        kept = [it for it in kept if not it or it[0] != " " or GHOST.match(it)]
+    # One empty line between two members, and none at an end.
+    text = re.sub(r"\{\n\n+", "{\n", re.sub(r"\n\n+(?=\n|\})", "\n", "\n".join(kept)))
+    return text.split("\n")
+
+
+def block(lines):
+    return ["```text", *lines, "```"]
+
+
+class Page:
+    """What is put in place of the words in braces."""
+
+    def __init__(self, names, find):
+        self.names, self.find = names, find
+        with open(WORDS, encoding="utf-8") as file:
+            self.words = file.read().split("\n")
+        self.closure, self.halves = Closure(names), []
+        self.plain, self.printed, self.bare = {}, set(), []
+        for line in self.words:
+            kind, rest = self.directive(line)
+            if kind == "clause":
+                self.rest(find(*rest.split()))
+            elif kind == "line":
+                key, _, text = rest.partition(": ")
+                self.plain[key] = text
+        self.named = {it for line in self.words for it in self.directive(line)[1].split()}
+
+    @staticmethod
+    def directive(line):
+        found = DIRECTIVE.match(line)
+        return (found[1], found[2]) if found else ("", "")
+
+    def rest(self, clause):
+        """Takes up what a clause rests on."""
+        before = len(self.closure.items)
+        for it in clause.uses(self.names):
+            self.closure.add(*it)
+        new = [it for it in self.closure.items[before:] if it.kind != "declared"]
+        count = sum(len(it.lines()) for it in new)
+        self.halves.append(f"{len(new)} definitions in {count} lines")
+
+    def definition(self, item):
+        """A definition with its plain line above it."""
+        key, lines = ".".join(key_of(item)), line_above(item)
+        if key in self.plain:
+            lines = [f"-- {it}" for it in textwrap.wrap(self.plain[key], 95)]
+        if not lines:
+            self.bare.append(key)
+        self.printed.add(item.path)
+        text = [line for _, line in item.lines()]
+        # It stands further right where it takes the names of a module around it.
+        indent = "  " * len({at for _, at in item.section})
+        plain, text = (textwrap.dedent("\n".join(it)).split("\n") for it in (lines, text))
+        return [indent + line for line in plain + text]
+
+    def definitions(self, asked):
+        """The definitions of some files, or single ones, as a block."""
+        lines, heads = [], []
+        for item in self.closure.items:
+            key = key_of(item)
+            is_single = ".".join(key) in self.named
+            if item.kind == "declared" or (".".join(key) if is_single else key[0]) not in asked:
+                continue
+            lines += [""] if lines else []
+            above = [line for head in heads_of(item) for _, line in head]
+            lines += [line for line in above if line not in heads]
+            heads = above
+            lines += self.definition(item)
+        if not lines:
+            raise Unprinted(f"there is no definition of {' '.join(asked)}")
+        return block(lines)
+
+    def types(self, asked):
+        lines = []
+        for item in self.closure.items:
+            if item.kind == "declared" and item.name in asked:
+                lines += ([""] if lines else []) + type_of_code(item)
+                self.printed.add(item.path)
+        return block(lines)
+
+    def put(self, kind, rest):
+        if kind == "clause":
+            return block(self.find(*rest.split()).text())
+        if kind in ("definitions", "types"):
+            return getattr(self, kind)(rest.split())
+        raise Unprinted(f"{{{kind}}}")
+
+    def text(self):
+        """The whole page."""
+        lines = []
+        for line in self.words:
+            kind, rest = self.directive(line)
+            if kind == "line":
+                continue
+            filled = line.replace("{first}", self.halves[0]).replace("{second}", self.halves[1])
+            lines += [""] if kind and lines[-1] == "```" else []
+            lines += self.put(kind, rest) if kind else [filled]
+        left = [".".join(key_of(it)) for it in self.closure.items if it.path not in self.printed]
+        spoken = " ".join(self.words).replace("\\|", "|")
+        unsaid = [it for it in self.closure.of_kit.values() if f"`{it}`" not in spoken]
+        if left or unsaid or self.bare:
+            raise Unprinted(f"headline.md leaves out {' '.join(left + unsaid + self.bare)}")
+        return "\n".join(lines).rstrip("\n") + "\n"

@@ -1,0 +1,166 @@
+"""On which definitions a definition or a contract's clause rests: all that its words name, and what
+those name in turn."""
+
+import functools
+
+from .modules import MODIFIERS, chunks_of, closing, head_of, words_of
+
+# Words that stand for no definition.
+MARKS = set("( ) { } ; , . = : → × λ ? ∀ _ | @".split())
+KEYWORDS = {"if", "then", "else", "let", "in", "record", "data", "where", "Type", "mutual"}
+
+
+class Scan:
+    """Goes over words of a file, and finds the names that they don't bind themselves."""
+
+    def __init__(self, names, module, bound):
+        self.names, self.module = names, module
+        self.scopes, self.found = [set(bound)], []
+
+    def is_bound(self, name):
+        return any(name in it for it in self.scopes)
+
+    def lookup(self, word):
+        """What a word stands for in the module, where it isn't bound."""
+        parts = word.strip(".").split(".")
+        if word[0] in '."' or self.is_bound(parts[0]):
+            return None
+        for name in (parts, [f"◌{word}◌"], [f"{word}◌"], [f"◌{word}"]):
+            found, _ = self.names.lookup(self.module, name)
+            if found:
+                return found
+        return None
+
+    def use(self, word):
+        if word in MARKS or word in KEYWORDS or word.isdigit():
+            if word == "if":
+                self.use("if◌then◌else◌")
+            return
+        found = self.lookup(word)
+        if found:
+            self.found.append((word, found))
+
+    def words(self, words):
+        at = 0
+        while at < len(words):
+            word, following = words[at], words[at + 1 : at + 2]
+            if word in "({":
+                at += self.open(words, at)
+            elif word in ")}":
+                self.scopes.pop()
+            elif word in ("λ", "let"):
+                end = words.index("." if word == "λ" else "=", at)
+                self.scopes[-1].update(names_before_colons(words[at + 1 : end]))
+                at = end
+            elif following != ["="]:
+                # Else it is the name of a record's field.
+                self.use(word)
+            at += 1
+
+    def open(self, words, at):
+        """A bracket: it may bind names, which count up to where the one around it is closed."""
+        end = closing(words, at)
+        inside = words[at + 1 : end]
+        count = inside.index(":") if ":" in inside else 0
+        names = inside[:count]
+        if count and not any(it in MARKS or it in KEYWORDS for it in names):
+            self.scopes[-1].update(names)
+        else:
+            count = 0
+        self.scopes.append(set())
+        return count
+
+    def case(self, words):
+        """A case of a definition: what stands before `=` is bound, but for constructors."""
+        depth, end = 0, 0
+        while words[end] != "=" or depth:
+            depth += (words[end] in "({") - (words[end] in ")}")
+            end += 1
+        self.scopes.append(set())
+        for word in words[:end]:
+            found = None if word in MARKS else self.lookup(word)
+            if found and found[0] in ("constructor", "primitive"):
+                self.found.append((word, found))
+            elif word not in MARKS:
+                self.scopes[-1].add(word)
+        self.words(words[end + 1 :])
+        self.scopes.pop()
+
+    def fields(self, chunk):
+        """The head of a type, and its fields or constructors, each a name and its own type."""
+        end = head_of(chunk)
+        self.words(words_of(chunk[:end])[2:])
+        for words in map(words_of, chunks_of(chunk[end:])):
+            words = [it for it in words if it not in MODIFIERS]
+            colon = words.index(":")
+            self.scopes[-1].update(words[:colon])
+            self.scopes.append(set())
+            self.words(words[colon + 1 :])
+            self.scopes.pop()
+
+
+def names_before_colons(words):
+    """The names that a λ or a let binds."""
+    names, at = [], 0
+    while at < len(words):
+        if words[at] == "(":
+            names += words[at + 1 : words.index(":", at)]
+            at = closing(words, at)
+        elif words[at] == ":":
+            break
+        else:
+            names.append(words[at])
+        at += 1
+    return names
+
+
+def heads_of(item):
+    """The heads of the modules with parameters that a definition stands in, as their lines."""
+    text = item.module.text
+    for at in sorted({at for _, at in item.section}):
+        lines = list(enumerate(text[at - 1 :], at))
+        yield lines[: head_of(lines)]
+
+
+@functools.lru_cache(None)
+def used_by(names, item):
+    """What the words of a definition or a type stand for, in the order in which they do."""
+    if item.kind == "declared":
+        return []
+    bound = {item.name, *(name for name, _ in item.section)}
+    scan = Scan(names, item.module, bound)
+    for head in heads_of(item):
+        scan.words(words_of(head)[2:])
+    if item.kind in ("data", "record"):
+        scan.fields(item.chunks[0])
+        return scan.found
+    words = [it for it in words_of(item.chunks[0]) if it not in MODIFIERS]
+    scan.words(words[1:])
+    for chunk in item.chunks[1:]:
+        scan.case(words_of(chunk))
+    return scan.found
+
+
+class Closure:
+    """What some clauses rest on: definitions of this repository, each behind all that it uses, and
+    the words of the kit at which these end."""
+
+    def __init__(self, names):
+        self.names = names
+        self.items, self.of_kit, self.seen = [], {}, set()
+
+    def add(self, word, found):
+        """What a word stands for, and all that it rests on."""
+        kind = found[0]
+        if kind == "primitive":
+            self.of_kit.setdefault(found[1], word)
+            return
+        item = found[1] if kind == "item" else found[2]
+        if not self.names.is_ours(item.module):
+            path = item.path if kind == "item" else f"{item.module.path}.{found[1]}"
+            self.of_kit.setdefault(path, word)
+        elif item.path not in self.seen:
+            self.seen.add(item.path)
+            for it in used_by(self.names, item):
+                self.add(*it)
+            self.items.append(item)
