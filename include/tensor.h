@@ -13,16 +13,20 @@
    change nothing.
 
    What a caller owes:
-   - Each pointer is to as many elements as its length says, aligned as its type is; it may not be
-     null, even where the length is 0. No list takes 2^63 bytes or more: so the lengths of
-     `values`, `out`, `dims` and `plan` are below 2^60, and that of `arrays` is below 2^59.
-   - What is written to, `out`, `dims`, `name` and `plan` of tensor_prepare, overlaps nothing else that the call is given, and
-     nobody else reads or writes it during the call. What is read, nobody writes during the call.
+   - Each pointer is to as many elements as its length says, aligned as its type is; where the
+     length is 0 it may be null. No list takes 2^63 bytes or more: so the lengths of `values`,
+     `out`, `dims` and `plan` are below 2^60, and that of `arrays` is below 2^59.
+   - What is written to, `out`, `dims`, `name` and `plan` of tensor_prepare, overlaps nothing else
+     that the call is given, and nobody else reads or writes it during the call. What is read,
+     nobody writes during the call.
    - Calls may be made from any number of threads at once, but not from a signal handler, and not
      from the forked child of a process with threads.
    - The processor has all of x86-64-v2, or x86-64-v3 where the library was built for it
      (`./build/library` chooses by the processor that it runs on). The library does not check it.
    - The program's malloc, realloc and free are of one allocator, as the C library's are.
+
+   The library itself takes no null pointer: the functions at the end of this file stand between.
+   Who calls it from another language, or by a function's address, passes some place for nothing.
 
    Link libtensor.a or libtensor.so, and nothing else: cc program.c -Iinclude out/libtensor.a */
 
@@ -31,6 +35,7 @@
 
 #include <stddef.h>
 #include <stdint.h>
+#include <stdlib.h>
 
 #ifdef __cplusplus
 extern "C" {
@@ -56,6 +61,9 @@ extern "C" {
 
 /* What is returned where the numbers of `plan` are no plan. */
 #define TENSOR_NO_PLAN (-101)
+
+/* What is returned where there is no memory: fault 15. */
+#define TENSOR_NO_MEMORY (-15)
 
 /* The values of one tensor, where they lie. */
 struct tensor_array {
@@ -102,8 +110,8 @@ int64_t tensor_evaluate_arrays(const uint8_t *header, size_t header_length,
                                uint64_t first, int64_t *out, size_t out_length);
 
 /* Writes the plan of a header whose tensors have `count` values together, whatever these are, and
-   returns how many numbers it has: 15 for `add` of two tensors of one axis. Faults, and too little room, as of
-   tensor_evaluate; then nothing is written.
+   returns how many numbers it has: 15 for `add` of two tensors of one axis. Faults, and too little
+   room, as of tensor_evaluate; then nothing is written.
 
    A plan is what the header asks for, once it is read and checked: the tensors' dims and the
    expression, as numbers in the caller's memory. It is no handle, nothing belongs to it, and there
@@ -133,6 +141,109 @@ int64_t tensor_dims(const uint8_t *header, size_t header_length, uint64_t count,
    the name has; 0 where no fault has this number, and TENSOR_NO_ROOM where `name` has too little
    room. In both cases nothing is written. */
 int64_t tensor_fault_name(uint32_t number, uint8_t *name, size_t name_length);
+
+/* What stands between a caller in C or C++ and the library: a place for each list of nothing. */
+static inline void *tensor_place(const void *list, size_t length)
+{
+    static uint64_t nothing;
+    return length == 0 ? (void *)&nothing : (void *)(uintptr_t)list;
+}
+
+/* These arrays; or, where one of no values is null, a copy in which it isn't, and where there is no
+   memory for that null. */
+static inline struct tensor_array *tensor_places(struct tensor_array *arrays, size_t count)
+{
+    struct tensor_array *copy;
+    size_t at = 0;
+    while (at < count && (arrays[at].values != NULL || arrays[at].length > 0))
+        at++;
+    if (at == count)
+        return arrays;
+    copy = (struct tensor_array *)malloc(count * sizeof *copy);
+    for (at = 0; copy != NULL && at < count; at++) {
+        copy[at].values = (const int64_t *)tensor_place(arrays[at].values, arrays[at].length);
+        copy[at].length = arrays[at].length;
+    }
+    return copy;
+}
+
+static inline int64_t tensor_evaluate_nullable(const uint8_t *header, size_t header_length,
+                                               const int64_t *values, size_t values_length,
+                                               int64_t *out, size_t out_length,
+                                               uint64_t *dims, size_t dims_length)
+{
+    return tensor_evaluate((const uint8_t *)tensor_place(header, header_length), header_length,
+                           (const int64_t *)tensor_place(values, values_length), values_length,
+                           (int64_t *)tensor_place(out, out_length), out_length,
+                           (uint64_t *)tensor_place(dims, dims_length), dims_length);
+}
+
+static inline int64_t tensor_evaluate_part_nullable(const uint8_t *header, size_t header_length,
+                                                    const int64_t *values, size_t values_length,
+                                                    uint64_t first, int64_t *out, size_t out_length)
+{
+    return tensor_evaluate_part((const uint8_t *)tensor_place(header, header_length), header_length,
+                                (const int64_t *)tensor_place(values, values_length), values_length,
+                                first, (int64_t *)tensor_place(out, out_length), out_length);
+}
+
+static inline int64_t tensor_evaluate_arrays_nullable(
+    const uint8_t *header, size_t header_length, const struct tensor_array *arrays, size_t count,
+    uint64_t first, int64_t *out, size_t out_length)
+{
+    struct tensor_array *given = (struct tensor_array *)tensor_place(arrays, count);
+    struct tensor_array *all = tensor_places(given, count);
+    int64_t result = TENSOR_NO_MEMORY;
+    if (all != NULL)
+        result = tensor_evaluate_arrays((const uint8_t *)tensor_place(header, header_length),
+                                        header_length, all, count, first,
+                                        (int64_t *)tensor_place(out, out_length), out_length);
+    if (all != given)
+        free(all);
+    return result;
+}
+
+static inline int64_t tensor_prepare_nullable(const uint8_t *header, size_t header_length,
+                                              uint64_t count, uint64_t *plan, size_t plan_length)
+{
+    return tensor_prepare((const uint8_t *)tensor_place(header, header_length), header_length,
+                          count, (uint64_t *)tensor_place(plan, plan_length), plan_length);
+}
+
+static inline int64_t tensor_run_nullable(const uint64_t *plan, size_t plan_length,
+                                          const struct tensor_array *arrays, size_t count,
+                                          uint64_t first, int64_t *out, size_t out_length)
+{
+    struct tensor_array *given = (struct tensor_array *)tensor_place(arrays, count);
+    struct tensor_array *all = tensor_places(given, count);
+    int64_t result = TENSOR_NO_MEMORY;
+    if (all != NULL)
+        result = tensor_run((const uint64_t *)tensor_place(plan, plan_length), plan_length, all,
+                            count, first, (int64_t *)tensor_place(out, out_length), out_length);
+    if (all != given)
+        free(all);
+    return result;
+}
+
+static inline int64_t tensor_dims_nullable(const uint8_t *header, size_t header_length,
+                                           uint64_t count, uint64_t *dims, size_t dims_length)
+{
+    return tensor_dims((const uint8_t *)tensor_place(header, header_length), header_length,
+                       count, (uint64_t *)tensor_place(dims, dims_length), dims_length);
+}
+
+static inline int64_t tensor_fault_name_nullable(uint32_t number, uint8_t *name, size_t name_length)
+{
+    return tensor_fault_name(number, (uint8_t *)tensor_place(name, name_length), name_length);
+}
+
+#define tensor_evaluate(...) tensor_evaluate_nullable(__VA_ARGS__)
+#define tensor_evaluate_part(...) tensor_evaluate_part_nullable(__VA_ARGS__)
+#define tensor_evaluate_arrays(...) tensor_evaluate_arrays_nullable(__VA_ARGS__)
+#define tensor_prepare(...) tensor_prepare_nullable(__VA_ARGS__)
+#define tensor_run(...) tensor_run_nullable(__VA_ARGS__)
+#define tensor_dims(...) tensor_dims_nullable(__VA_ARGS__)
+#define tensor_fault_name(...) tensor_fault_name_nullable(__VA_ARGS__)
 
 #ifdef __cplusplus
 }

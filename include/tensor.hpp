@@ -1,5 +1,5 @@
 /* Tensor expressions over wrapping 64-bit integers, from C++20: the calls of tensor.h with spans,
-   threads and exceptions. What a caller owes stands there; here a span of nothing may be null.
+   threads and exceptions. What a caller owes stands there.
 
    Link libtensor.a or libtensor.so: c++ -std=c++20 -pthread program.cpp -Iinclude out/libtensor.a */
 
@@ -43,23 +43,14 @@ private:
 
 namespace detail {
 
-/* What a pointer to nothing is: it may not be null. */
-inline std::int64_t nothing = 0;
-
-inline std::int64_t *written(std::span<std::int64_t> out)
-{
-    return out.empty() ? &nothing : out.data();
-}
-
-/* Where arrays lie, and how long they are; a place more than there are, so that it isn't null. */
+/* Where arrays lie, and how long they are. */
 inline std::vector<tensor_array> lying(std::span<const Values> arrays)
 {
-    std::vector<tensor_array> found(arrays.size() + 1);
+    std::vector<tensor_array> found(arrays.size());
     for (std::size_t i = 0; i < arrays.size(); i++)
-        found[i] = {arrays[i].empty() ? &nothing : arrays[i].data(), arrays[i].size()};
+        found[i] = {arrays[i].data(), arrays[i].size()};
     return found;
 }
-
 
 inline std::size_t answered(std::int64_t result)
 {
@@ -70,7 +61,7 @@ inline std::size_t answered(std::int64_t result)
 
 inline const std::uint8_t *bytes(std::string_view header)
 {
-    return reinterpret_cast<const std::uint8_t *>(header.empty() ? "" : header.data());
+    return reinterpret_cast<const std::uint8_t *>(header.data());
 }
 
 /* Has `write` write a list in so many parts, each on a thread of its own, by its first place. */
@@ -111,9 +102,9 @@ inline std::size_t evaluate_part(std::string_view header, std::span<const Values
                                  std::uint64_t first, std::span<std::int64_t> out)
 {
     const auto lying = detail::lying(arrays);
-    return detail::answered(tensor_evaluate_arrays(
-        detail::bytes(header), header.size(), lying.data(), arrays.size(), first,
-        detail::written(out), out.size()));
+    return detail::answered(tensor_evaluate_arrays(detail::bytes(header), header.size(),
+                                                   lying.data(), lying.size(), first, out.data(),
+                                                   out.size()));
 }
 
 /* Writes the values of a frame's tensor, of which there are as many as `out` has room for, in so many
@@ -147,7 +138,7 @@ public:
     {
         const auto lying = detail::lying(arrays);
         return detail::answered(tensor_run(plan_.data(), plan_.size(), lying.data(), arrays.size(),
-                                           first, detail::written(out), out.size()));
+                                           first, out.data(), out.size()));
     }
 
     void run(std::span<const Values> arrays, std::span<std::int64_t> out, unsigned threads = 1) const

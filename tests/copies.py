@@ -7,9 +7,9 @@ import subprocess
 
 from hostile import TOP
 
-SECONDS = 60
+SECONDS = 300
 ANSWERED, REFUSED = 0, 2
-CPU = "x86-64-v2"
+CPU, OTHER = "x86-64-v2", "x86-64-v3"
 LEFT_OUT = ("out", "edits", "must-fail", ".git", "bench", "tests", "pictures", "__pycache__")
 IGNORED = shutil.ignore_patterns(*LEFT_OUT)
 PROGRAM = """#!/bin/sh
@@ -31,6 +31,15 @@ LINKER = """#!/bin/sh
 while [ "$1" != -o ]; do shift; done
 cp "$STAND_IN" "$2"
 chmod +x "$2"
+"""
+# What makes the library of what is proved: an archiver and a linker.
+MAKER = """#!/bin/sh
+name=$2
+while [ $# -gt 0 ]; do
+    [ "$1" != -o ] || name=$2
+    shift
+done
+echo made >"$name"
 """
 
 
@@ -128,5 +137,7 @@ def kit_in(room):
     script(os.path.join(folder, "bin", "rt"), f"#!/bin/sh\necho {folder}/START-HERE.md\n")
     script(os.path.join(folder, "bin", "rattle"), PROVER)
     script(os.path.join(folder, "bin", "rattle-link"), LINKER)
+    for name in "llvm-ar", "ld.lld":
+        script(os.path.join(folder, "toolchain", "bin", name), MAKER)
     written(os.path.join(folder, "KIT-ID"), "a kit that stands in\n")
     script(os.path.join(room, "stand_in"), f"#!/bin/sh\necho built\nexec {shutil.which('cat')}\n")

@@ -1,5 +1,5 @@
-"""What the scripts of tests/ share: the programs, some requests, and the library that counts and
-refuses memory and threads."""
+"""What the scripts of tests/ share: the programs, some requests, how they say what they skip and what
+failed, and the library that counts and refuses memory and threads."""
 
 import os
 import resource
@@ -21,9 +21,9 @@ FRAMES_PROGRAM = os.path.join(TOP, "crates", "tensor_frames", "out", "tensor_fra
 REFUSALS = os.path.join(TOP, "tests", "refusals.c")
 COMPILERS = ("cc", "gcc", "clang")
 COUNTS = struct.Struct("5Q")
-SECONDS = 20
-# No script here takes longer.
-MOST_SECONDS = 900
+# What takes longer never ends: no run does, however busy the machine is, and no script here.
+SECONDS = 120
+MOST_SECONDS = 1_800
 
 NO_MEMORY = "error 15 NoMemory\n"
 
@@ -58,6 +58,35 @@ def need_program(program=PROGRAM):
         fail(f"{sys.argv[0]}: {name} isn't built: ./run --check-all builds all programs")
 
 
+def skip(what, why, packages=""):
+    """Says what isn't tried, since something isn't here that it takes, and which packages of Debian
+    have that; .ci/tests counts these lines. Nothing failed: 0."""
+    wanted = f" (Debian's {packages})" if packages else ""
+    line = f"tests/{os.path.basename(sys.argv[0])}: skipped: {what}: {why}{wanted}"
+    print(line, flush=True)
+    noted = os.environ.get("TESTS_SKIPPED")
+    if noted:
+        with open(noted, "a", encoding="utf-8") as file:
+            file.write(f"{line}\n")
+    return 0
+
+
+class Failures:
+    """How many cases a script has tried, and how many failed, each of which it prints."""
+
+    def __init__(self):
+        self.count, self.failed = 0, 0
+
+    def see(self, what, is_right, got=""):
+        self.count += 1
+        if not is_right:
+            self.failed += 1
+            print(f"tests/{os.path.basename(sys.argv[0])}: {what}: {got!r:.600}")
+
+    def compare(self, what, got, wanted):
+        self.see(f"{what}, which is to be {wanted!r:.200}", got == wanted, got)
+
+
 # An operation over an operation, as deep as a text may be: 126 lists in an object.
 DEEPEST = '["neg",' * 126 + '"a"' + "]" * 126
 # How few bytes of stack are enough for any request.
@@ -89,9 +118,7 @@ class Refusals:
     """The library of tests/refusals.c, and what it counted in the last run."""
 
     def __init__(self):
-        compiler = next(filter(shutil.which, COMPILERS), None)
-        if compiler is None:
-            fail(f"{sys.argv[0]}: there is no C compiler here, of {', '.join(COMPILERS)}")
+        compiler = next(filter(shutil.which, COMPILERS))
         self.room = tempfile.TemporaryDirectory()
         self.library = os.path.join(self.room.name, "refusals.so")
         self.counts = os.path.join(self.room.name, "counts")
@@ -111,3 +138,11 @@ class Refusals:
             counts = COUNTS.unpack(file.read())
         self.requests, self.refused, self.starts, self.starts_refused, self.interrupted = counts
         return ran
+
+
+def by_refusals(*parts):
+    """How many failed of what takes the library of tests/refusals.c; skipped with no compiler."""
+    if not any(map(shutil.which, COMPILERS)):
+        return skip("what tests/refusals.c counts and refuses", "no C compiler", "gcc")
+    refusals = Refusals()
+    return sum(part(refusals) for part in parts)

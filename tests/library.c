@@ -1,13 +1,15 @@
 /* Calls the library on frames for tests/library, which builds it of this file and libtensor.a:
-     library FILE                  prints the answer of each frame of the file, a line each
-     library FILE THREADS SECONDS  answers each of them by a part a thread, on so many threads; then
-                                   each whole and by a part on each thread, and again for so long
-     library FILE refuse           refuses each request for memory of each call in turn
+     library FILE                 prints the answer of each frame of the file, a line each
+     library FILE THREADS PASSES  answers each of them by a part a thread, on so many threads; and
+                                  each whole and by a part on each thread, in so many passes, and
+                                  in as many again, behind which there is no more memory
+     library FILE refuse          refuses each request for memory of each call in turn
    Before that each is answered whole, and by parts of drawn sizes, with the values joined, with an
-   array a tensor, and by its plan; and plans are spoilt, cut, and run over arrays of others. FILE has frames: two numbers of 64 bits, h and v, then h bytes of header, then
-   v values; FILE.arrays how many arrays each has, and how long each is, or 2^64 - 1. The
-   memory that the library takes is counted, and refused, by --wrap=malloc,realloc,free. The status
-   is 0 where all is well, and else 1, with a line on standard error. */
+   array a tensor, and by its plan; and plans are spoilt, cut, and run over arrays of others. A list
+   of nothing is null. FILE has frames: two numbers of 64 bits, h and v, then h bytes of header, then
+   v values; FILE.arrays how many arrays each has, and how long each is, or 2^64 - 1. The memory that
+   the library takes is counted, and refused, by --wrap=malloc,realloc,free. The status is 0 where
+   all is well, and else 1, with a line on standard error. */
 
 #define _GNU_SOURCE
 #include <inttypes.h>
@@ -18,7 +20,6 @@
 #include <stdio.h>
 #include <stdlib.h>
 #include <string.h>
-#include <time.h>
 
 #include "tensor.h"
 
@@ -106,14 +107,22 @@ static uint8_t *contents(const char *path, size_t *size)
     return bytes;
 }
 
-/* A copy of so many elements in a block of its own, so that a read past its end is noticed. */
+/* A copy of so many bytes in a block of its own, so that a read past its end is noticed; of none it
+   is null. */
 static void *copied(const uint8_t *bytes, size_t size)
 {
-    void *block = __real_malloc(size + (size == 0));
-    if (!block)
+    void *block = size == 0 ? NULL : __real_malloc(size);
+    if (!block && size > 0)
         fail("no memory");
-    memcpy(block, bytes, size);
+    if (size > 0)
+        memcpy(block, bytes, size);
     return block;
+}
+
+/* A list of no elements, as it may be given too. */
+static int64_t *or_null(int64_t *list, size_t room)
+{
+    return room > 0 ? list : NULL;
 }
 
 static void read_frames(const char *path)
@@ -177,7 +186,7 @@ static int64_t answer(const struct frame *it, int64_t *out, size_t room, uint64_
         out[place] = SENTINEL;
     int64_t before = held;
     int64_t result = tensor_evaluate(it->header, it->header_length, it->values, it->values_length,
-                                     out, room, dims, TENSOR_DIMS_ROOM);
+                                     or_null(out, room), room, dims, TENSOR_DIMS_ROOM);
     if (held != before)
         fail("a call keeps memory");
     for (size_t place = room; place < room + SPARE; place++)
@@ -248,14 +257,14 @@ static int64_t answer_part(const struct frame *it, enum way way, uint64_t first,
 {
     int64_t before = held, result;
     if (way == PLANNED)
-        result = tensor_run(it->plan, it->plan_length, it->arrays, it->array_count, first, out,
-                            room);
+        result = tensor_run(it->plan, it->plan_length, it->arrays, it->array_count, first,
+                            or_null(out, room), room);
     else if (way == APART)
         result = tensor_evaluate_arrays(it->header, it->header_length, it->arrays,
-                                        it->array_count, first, out, room);
+                                        it->array_count, first, or_null(out, room), room);
     else
         result = tensor_evaluate_part(it->header, it->header_length, it->values,
-                                      it->values_length, first, out, room);
+                                      it->values_length, first, or_null(out, room), room);
     if (held != before)
         fail("a call for a part keeps memory");
     return result;
@@ -370,7 +379,8 @@ static void first_plan(struct frame *it)
 static int64_t run_numbers(const struct frame *it, const uint64_t *plan, size_t length, size_t room)
 {
     int64_t *out = guarded(room), before = held;
-    int64_t result = tensor_run(plan, length, it->arrays, it->array_count, 0, out, room);
+    int64_t result = tensor_run(plan, length, it->arrays, it->array_count, 0, or_null(out, room),
+                                room);
     if (held != before)
         fail("a call that runs numbers keeps memory");
     if (result > (int64_t)room)
@@ -474,11 +484,12 @@ static int64_t again(const struct frame *it, bool *is_same)
     return result;
 }
 
-static atomic_bool is_over;
 static atomic_ullong calls;
-static uint64_t thread_count;
+static uint64_t thread_count, pass_count;
 static pthread_barrier_t turn;
 static int64_t *shared;
+/* The memory that the process had behind each round of passes. */
+static long memory[2];
 
 /* Works a frame's answer out with the other threads, each of which writes its part of one list. */
 static void answer_together(const struct frame *it, uint64_t thread)
@@ -512,23 +523,12 @@ static void answer_both(size_t at, uint64_t *state)
     calls += 2;
 }
 
-static void *answer_once(void *number)
+/* Answers all frames so many times, of which parts are drawn. */
+static void answer_passes(uint64_t *state)
 {
-    uint64_t thread = (uint64_t)(uintptr_t)number, state = thread;
-    for (size_t at = 0; at < frame_count; at++) {
-        answer_together(&frames[at], thread);
-        answer_both(at, &state);
-    }
-    return NULL;
-}
-
-static void *answer_on(void *number)
-{
-    uint64_t state = (uint64_t)(uintptr_t)number;
-    while (!is_over)
-        for (size_t at = 0; at < frame_count && !is_over; at++)
-            answer_both(at, &state);
-    return NULL;
+    for (uint64_t pass = 0; pass < pass_count; pass++)
+        for (size_t at = 0; at < frame_count; at++)
+            answer_both(at, state);
 }
 
 /* How much memory the process has, in KiB. */
@@ -542,42 +542,40 @@ static long resident(void)
     return 4 * pages;
 }
 
-static void sleep_for(double seconds)
+/* Answers all frames with the other threads, and then alone in two rounds of the same passes. After
+   each round all wait while the process's memory is looked at. */
+static void *answer_on(void *number)
 {
-    struct timespec time = {(time_t)seconds, (long)((seconds - (double)(time_t)seconds) * 1e9)};
-    nanosleep(&time, NULL);
+    uint64_t thread = (uint64_t)(uintptr_t)number;
+    for (size_t at = 0; at < frame_count; at++)
+        answer_together(&frames[at], thread);
+    for (int round = 0; round < 2; round++) {
+        uint64_t state = thread;
+        answer_passes(&state);
+        pthread_barrier_wait(&turn);
+        if (thread == 0)
+            memory[round] = resident();
+        pthread_barrier_wait(&turn);
+    }
+    return NULL;
 }
 
-static void start(pthread_t *threads, void *(*work)(void *))
-{
-    for (uint64_t i = 0; i < thread_count; i++)
-        if (pthread_create(&threads[i], NULL, work, (void *)(uintptr_t)i))
-            fail("no thread");
-}
-
-static void join(pthread_t *threads)
-{
-    for (uint64_t i = 0; i < thread_count; i++)
-        pthread_join(threads[i], NULL);
-}
-
-static void answer_on_threads(int count, double seconds)
+static void answer_on_threads(int count, int passes)
 {
     pthread_t threads[MOST_THREADS];
     /* Large blocks go back to the system where they are freed, so what stays is what is held. */
     mallopt(M_MMAP_THRESHOLD, FROM_SYSTEM);
     thread_count = (uint64_t)count;
-    if (count > MOST_THREADS || pthread_barrier_init(&turn, NULL, (unsigned)count))
-        fail("no threads");
-    start(threads, answer_once);
-    join(threads);
-    long before = resident();
-    start(threads, answer_on);
-    sleep_for(seconds);
-    is_over = true;
-    join(threads);
-    printf("%llu calls on %d threads, %ld KiB more than when all was answered once\n", calls,
-           count, resident() - before);
+    pass_count = (uint64_t)passes;
+    if (count > MOST_THREADS || passes < 1 || pthread_barrier_init(&turn, NULL, (unsigned)count))
+        fail("no threads, or no passes");
+    for (uint64_t i = 0; i < thread_count; i++)
+        if (pthread_create(&threads[i], NULL, answer_on, (void *)(uintptr_t)i))
+            fail("no thread");
+    for (uint64_t i = 0; i < thread_count; i++)
+        pthread_join(threads[i], NULL);
+    printf("%llu calls on %d threads, %ld KiB more behind %d passes than behind as many before\n",
+           calls, count, memory[1] - memory[0], passes);
 }
 
 /* A call of the library that is right, or finds no memory where that is refused. */
@@ -667,7 +665,7 @@ int main(int count, char **words)
     }
     spoil_plans(&state);
     if (count == 4)
-        answer_on_threads(atoi(words[2]), atof(words[3]));
+        answer_on_threads(atoi(words[2]), atoi(words[3]));
     else if (count == 3)
         refuse_all();
     else

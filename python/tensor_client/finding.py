@@ -36,6 +36,9 @@ FRAMES = Program("TENSOR_FRAMES", "tensor_frames", os.path.join(TOP, "frames"))
 EXPLAIN = Program("TENSOR_EXPLAIN", "tensor_explain", os.path.join(TOP, "explain"))
 
 LIBRARY_VARIABLE, LIBRARY = "TENSOR_LIBRARY", "libtensor.so"
+# The library of processors of the level x86-64-v3, beside this package, and what these have.
+LIBRARY_V3 = "libtensor-x86-64-v3.so"
+HAVE_V3 = {"avx", "avx2", "bmi1", "bmi2", "f16c", "fma", "abm", "movbe", "xsave"}
 
 
 def installed(program: Program) -> Optional[str]:
@@ -69,16 +72,29 @@ def built(program: Program) -> Optional[str]:
     return found(program) if os.access(made, os.X_OK) else installed(program)
 
 
+def is_v3() -> bool:
+    """Whether this processor is of the level x86-64-v3, by what the kernel says of the first."""
+    try:
+        with open("/proc/cpuinfo", encoding="ascii", errors="replace") as file:
+            flags = next((it for it in file if it.startswith("flags")), "")
+    except OSError:
+        flags = ""
+    return set(flags.split()) >= HAVE_V3
+
+
 def libraries() -> Iterator[str]:
     """Where the library may be: beside this package, in the folder lib/ that this package is
     installed below, where the loader looks, in the repository."""
+    if is_v3():
+        yield os.path.join(HERE, LIBRARY_V3)
     yield os.path.join(HERE, LIBRARY)
     above = HERE
     while os.path.basename(above) and os.path.basename(above) != "lib":
         above = os.path.dirname(above)
     if os.path.basename(above):
         yield os.path.join(above, LIBRARY)
-    yield LIBRARY
+    # Without what is for compilers alone there is the name that programs are linked to.
+    yield from (LIBRARY, f"{LIBRARY}.1")
     if IS_IN_REPOSITORY:
         yield os.path.join(TOP, "out", LIBRARY)
 

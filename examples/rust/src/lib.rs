@@ -82,7 +82,7 @@ fn in_parts(
         tensor_dims(text.as_ptr(), text.len(), count, dims.as_mut_ptr(), dims.len())
     })?;
     let mut values = vec![0; size];
-    let share = size.div_ceil(threads.max(1)).max(1);
+    let share = size / threads.max(1) + 1;
     thread::scope(|scope| {
         let begun: Vec<_> = (0u64..)
             .step_by(share)

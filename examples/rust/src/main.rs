@@ -1,4 +1,5 @@
-//! Adds two arrays, and asks for one that isn't there: `cargo run`, after ./build/library.
+//! Adds two arrays, and asks for one that isn't there: `cargo run` in examples/rust, once
+//! ./build/library has made the library at the top of the repository.
 
 use tensor::{evaluate, Header};
 

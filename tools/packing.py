@@ -1,0 +1,88 @@
+"""What tools/release packs with: archives and Debian packages that are the same bytes whenever and
+wherever they are made of the same files."""
+
+import gzip
+import hashlib
+import io
+import lzma
+import os
+import tarfile
+
+
+class File:
+    """A file of a package: its path there, its mode, and its contents, or where it is a link to."""
+
+    def __init__(self, path, contents, mode=0o644, link=None):
+        self.path, self.contents, self.mode, self.link = path, contents, mode, link
+
+
+def files_of(folder):
+    """All files below a folder, of which only whether they can be run is taken over."""
+    for at, folders, names in os.walk(folder):
+        folders.sort()
+        for path in (os.path.join(at, it) for it in sorted(names)):
+            name = os.path.relpath(path, folder)
+            if os.path.islink(path):
+                yield File(name, b"", 0o777, os.readlink(path))
+                continue
+            mode = 0o755 if os.stat(path).st_mode & 0o100 else 0o644
+            with open(path, "rb") as file:
+                yield File(name, file.read(), mode)
+
+
+def folders_of(paths):
+    """The folders that these paths lie in, each behind the one that it lies in."""
+    found = set()
+    for it in paths:
+        while it := os.path.dirname(it):
+            found.add(it)
+    return sorted(found)
+
+
+def tar(files, when, top="", folders=True):
+    """The bytes of a tar archive, all of whose files are root's and of this time."""
+    packed = io.BytesIO()
+    with tarfile.open(fileobj=packed, mode="w", format=tarfile.GNU_FORMAT) as archive:
+
+        def put(name, kind, mode, contents=b"", link=""):
+            entry = tarfile.TarInfo(name)
+            entry.type, entry.mode, entry.mtime, entry.size = kind, mode, when, len(contents)
+            entry.uname = entry.gname = "root"
+            entry.linkname = link
+            archive.addfile(entry, io.BytesIO(contents))
+
+        files = sorted(files, key=lambda it: it.path)
+        for it in folders_of([top + it.path for it in files]) if folders else ():
+            put(it, tarfile.DIRTYPE, 0o755)
+        for it in files:
+            kind = tarfile.SYMTYPE if it.link else tarfile.REGTYPE
+            put(top + it.path, kind, it.mode, it.contents, it.link or "")
+    return packed.getvalue()
+
+
+def gzipped(found, when=0):
+    return gzip.compress(found, 9, mtime=when)
+
+
+def deb(control, files, when):
+    """The bytes of a Debian package of these control files, texts by their names, and files."""
+    sums = "".join(
+        f"{hashlib.md5(it.contents).hexdigest()}  {it.path}\n"
+        for it in sorted(files, key=lambda it: it.path)
+        if not it.link
+    )
+    scripts = {"postinst", "prerm"}
+    about = [
+        File(name, text.encode(), 0o755 if name in scripts else 0o644)
+        for name, text in {**control, "md5sums": sums}.items()
+    ]
+    members = {
+        "debian-binary": b"2.0\n",
+        "control.tar.xz": lzma.compress(tar(about, when, "./", folders=False), preset=9),
+        "data.tar.xz": lzma.compress(tar(files, when, "./"), preset=9),
+    }
+    packed = b"!<arch>\n"
+    for name, found in members.items():
+        packed += f"{name:16}{when:<12}{0:<6}{0:<6}{0o100644:<8o}{len(found):<10}`\n".encode()
+        packed += found + b"\n" * (len(found) % 2)
+    return packed
