@@ -104,14 +104,15 @@ def status_of(line):
 
 def run(text, env=None, seconds=SECONDS, program=PROGRAM):
     """Standard output, standard error and the status of a program; a signal is a number below 0,
-    and None stands for no end in time."""
+    and None stands for no end in time. Bytes that are no UTF-8 come as Python's surrogates."""
     try:
         ran = subprocess.run(
             [program], input=text, env=env or {}, capture_output=True, timeout=seconds, check=False
         )
     except subprocess.TimeoutExpired:
         return "", f"no end in {seconds} s", None
-    return ran.stdout.decode(), ran.stderr.decode(), ran.returncode
+    out, complaint = (it.decode(errors="surrogateescape") for it in (ran.stdout, ran.stderr))
+    return out, complaint, ran.returncode
 
 
 class Refusals:
