@@ -14,7 +14,7 @@ from .faults import Fault, ProgramFailed, fault_made
 from .memory import LARGE, VALUE, Bytes, as_memory, joined, place_of
 from .requests import Framed, Settings, framed
 from .results import Result
-from .rules import Dims, product
+from .rules import MOST_ELEMENTS, Dims, product
 from .tensors import Tensor
 from .threads import each, shares
 
@@ -75,7 +75,12 @@ class Library:
         result = Result(expr, out)
         expr = result.asked(expr)
         asked = framed(expr, settings)
-        parts, dims = [as_memory(it) for it in asked.held], self.dims_of(asked)
+        parts = [as_memory(it) for it in asked.held]
+        # To tell the dims of a header the library makes a list as long as the inputs. Where the dims of
+        # many values are known, a fault is told by the call that is to write these.
+        dims = expr.dims
+        if dims is None or not LARGE <= product(dims) <= MOST_ELEMENTS:
+            dims = self.dims_of(asked)
         values = result.place(dims, parts)
         by_header = self.evaluate_arrays, asked.header
         places = shares(expr, len(values), settings.workers)
