@@ -76,8 +76,8 @@ class Library:
         expr = result.asked(expr)
         asked = framed(expr, settings)
         parts = [as_memory(it) for it in asked.held]
-        # To tell a header's dims the library makes a list as long as the inputs. Where the dims of many
-        # values are known, a fault is told by the call that is to write these.
+        # To tell a header's dims the library makes a list as long as the inputs. Where they are
+        # known, and of many values, a fault is told by the call that is to write these.
         dims = expr.dims
         if dims is None or not LARGE <= product(dims) <= MOST_ELEMENTS:
             dims = self.dims_of(asked)
