@@ -5,8 +5,8 @@
                                   in as many again, behind which there is no more memory
      library FILE refuse          refuses each request for memory of each call in turn
    Before that each is answered whole, and by parts of drawn sizes, with the values joined, with an
-   array a tensor, and by its plan; and plans are spoilt, cut, and run over arrays of others. A list
-   of nothing is null. FILE has frames: two numbers of 64 bits, h and v, then h bytes of header, then
+   array a tensor, and by its plan; and plans are spoilt, cut, and run over arrays of others. What is
+   read ends before a page that may not be read. A list of nothing is null. FILE has frames: two numbers of 64 bits, h and v, then h bytes of header, then
    v values; FILE.arrays how many arrays each has, and how long each is, or 2^64 - 1. The memory that
    the library takes is counted, and refused, by --wrap=malloc,realloc,free. The status is 0 where
    all is well, and else 1, with a line on standard error. */
@@ -20,6 +20,8 @@
 #include <stdio.h>
 #include <stdlib.h>
 #include <string.h>
+#include <sys/mman.h>
+#include <unistd.h>
 
 #include "tensor.h"
 
@@ -107,16 +109,31 @@ static uint8_t *contents(const char *path, size_t *size)
     return bytes;
 }
 
-/* A copy of so many bytes in a block of its own, so that a read past its end is noticed; of none it
-   is null. */
+/* How many bytes the pages have that so many bytes take. */
+static size_t paged(size_t size)
+{
+    size_t page = (size_t)sysconf(_SC_PAGESIZE);
+    return (size + page - 1) / page * page;
+}
+
+/* A copy of so many bytes that ends where a page begins that may not be read, so that a read past
+   its end ends this program; of none it is null. */
 static void *copied(const uint8_t *bytes, size_t size)
 {
-    void *block = size == 0 ? NULL : __real_malloc(size);
-    if (!block && size > 0)
+    if (size == 0)
+        return NULL;
+    size_t room = paged(size), page = paged(1);
+    uint8_t *pages = mmap(NULL, room + page, PROT_READ | PROT_WRITE, MAP_PRIVATE | MAP_ANONYMOUS,
+                          -1, 0);
+    if (pages == MAP_FAILED || mprotect(pages + room, page, PROT_NONE))
         fail("no memory");
-    if (size > 0)
-        memcpy(block, bytes, size);
-    return block;
+    return memcpy(pages + room - size, bytes, size);
+}
+
+static void free_copied(void *block, size_t size)
+{
+    if (size > 0 && munmap((uint8_t *)block + size - paged(size), paged(size) + paged(1)))
+        fail("a copy can't be freed");
 }
 
 /* A list of no elements, as it may be given too. */
@@ -413,9 +430,9 @@ static size_t spoil_plan(const struct frame *it, uint64_t *state)
         int64_t result = run_numbers(it, part, at, room);
         if (result != TENSOR_NO_PLAN && result != -7)
             fail("a plan that is cut short is run");
-        __real_free(part);
+        free_copied(part, at * sizeof *plan);
     }
-    __real_free(plan);
+    free_copied(plan, length * sizeof *plan);
     return runs;
 }
 
