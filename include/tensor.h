@@ -137,6 +137,13 @@ int64_t tensor_run(const uint64_t *plan, size_t plan_length,
 int64_t tensor_dims(const uint8_t *header, size_t header_length, uint64_t count,
                     uint64_t *dims, size_t dims_length);
 
+/* Does the same where each tensor has an array of its own, as of tensor_evaluate_arrays. No value is
+   read, and no memory is taken that grows with the number of values; tensor_dims takes as much as
+   `count` values have. */
+int64_t tensor_dims_of_arrays(const uint8_t *header, size_t header_length,
+                              const struct tensor_array *arrays, size_t count,
+                              uint64_t *dims, size_t dims_length);
+
 /* Writes the name of the fault of a number, 1 to 15, with a 0 behind it, and returns how many bytes
    the name has; 0 where no fault has this number, and TENSOR_NO_ROOM where `name` has too little
    room. In both cases nothing is written. */
@@ -232,6 +239,22 @@ static inline int64_t tensor_dims_nullable(const uint8_t *header, size_t header_
                        count, (uint64_t *)tensor_place(dims, dims_length), dims_length);
 }
 
+static inline int64_t tensor_dims_of_arrays_nullable(
+    const uint8_t *header, size_t header_length, const struct tensor_array *arrays, size_t count,
+    uint64_t *dims, size_t dims_length)
+{
+    struct tensor_array *given = (struct tensor_array *)tensor_place(arrays, count);
+    struct tensor_array *all = tensor_places(given, count);
+    int64_t result = TENSOR_NO_MEMORY;
+    if (all != NULL)
+        result = tensor_dims_of_arrays((const uint8_t *)tensor_place(header, header_length),
+                                       header_length, all, count,
+                                       (uint64_t *)tensor_place(dims, dims_length), dims_length);
+    if (all != given)
+        free(all);
+    return result;
+}
+
 static inline int64_t tensor_fault_name_nullable(uint32_t number, uint8_t *name, size_t name_length)
 {
     return tensor_fault_name(number, (uint8_t *)tensor_place(name, name_length), name_length);
@@ -243,6 +266,7 @@ static inline int64_t tensor_fault_name_nullable(uint32_t number, uint8_t *name,
 #define tensor_prepare(...) tensor_prepare_nullable(__VA_ARGS__)
 #define tensor_run(...) tensor_run_nullable(__VA_ARGS__)
 #define tensor_dims(...) tensor_dims_nullable(__VA_ARGS__)
+#define tensor_dims_of_arrays(...) tensor_dims_of_arrays_nullable(__VA_ARGS__)
 #define tensor_fault_name(...) tensor_fault_name_nullable(__VA_ARGS__)
 
 #ifdef __cplusplus

@@ -5,7 +5,8 @@ import ctypes
 MOST = 16_777_216
 LEAST, GREATEST = -(2**63), 2**63 - 1
 DIMS_ROOM, NO_ROOM, NO_PLAN, SPARE, SENTINEL = 9, -100, -101, 3, 77
-CALLS = ("evaluate", "evaluate_part", "evaluate_arrays", "prepare", "run", "dims", "fault_name")
+CALLS = ("evaluate", "evaluate_part", "evaluate_arrays", "prepare", "run", "dims", "dims_of_arrays")
+CALLS += ("fault_name",)
 TWO = '"a":{"dims":[2]},"b":{"dims":[2]}'
 ENDS = [LEAST, GREATEST, -1, 1]
 
@@ -157,3 +158,10 @@ def array_calls(library):
         result = library.call("tensor_evaluate_arrays", text, arrays, first, out)
         left = [SENTINEL] * (3 - len(wanted[1]))
         yield f"arrays {name}", (result, list(out)), (wanted[0], wanted[1] + left)
+        dims = (ctypes.c_uint64 * 3)(*[SENTINEL] * 3)
+        result = library.call("tensor_dims_of_arrays", text, arrays, dims)
+        told = (2, [1, 2, SENTINEL]) if wanted[0] >= 0 else (wanted[0], [SENTINEL] * 3)
+        yield f"dims of arrays {name}", (result, list(dims)), told
+    little = (ctypes.c_uint64 * 1)(SENTINEL)
+    result = library.call("tensor_dims_of_arrays", two, arrays_of([5, 7], [2, 3]), little)
+    yield "little room for dims of arrays", (result, *little), (NO_ROOM, SENTINEL)

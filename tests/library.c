@@ -450,6 +450,22 @@ static void mix_plans(const struct frame *it)
     __real_free(longer);
 }
 
+/* Asks for a frame's dims by its arrays, where memory may be refused. */
+static void check_dims(const struct frame *it)
+{
+    uint64_t dims[TENSOR_DIMS_ROOM] = {0}, none[TENSOR_DIMS_ROOM] = {0};
+    if (!it->has_arrays)
+        return;
+    int64_t before = held;
+    int64_t count = tensor_dims_of_arrays(it->header, it->header_length, it->arrays,
+                                          it->array_count, dims, TENSOR_DIMS_ROOM);
+    if (held != before)
+        fail("a call for dims keeps memory");
+    if (count == -15 && was_refused ? memcmp(dims, none, sizeof dims)
+                                    : count != it->result || memcmp(dims, it->dims, sizeof dims))
+        fail("other dims of arrays");
+}
+
 /* The first answer of a frame, whose dims were asked for before it. */
 static void first_answer(struct frame *it)
 {
@@ -461,6 +477,7 @@ static void first_answer(struct frame *it)
     it->result = answer(it, it->out, room, it->dims);
     if (it->result != count || memcmp(it->dims, dims, sizeof dims))
         fail("tensor_dims and tensor_evaluate differ");
+    check_dims(it);
     if (room > 0)
         too_little_room(it, room - 1);
 }
@@ -646,7 +663,7 @@ static void refuse_all(void)
     for (size_t at = 0; at < frame_count; at++) {
         const struct frame *it = &frames[at];
         refusals += refuse_each(it, call_whole) + refuse_each(it, call_part);
-        refusals += refuse_each(it, check_plan);
+        refusals += refuse_each(it, check_plan) + refuse_each(it, check_dims);
         if (it->has_arrays)
             refusals += refuse_each(it, call_arrays);
         if (it->plan)

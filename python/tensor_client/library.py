@@ -43,6 +43,7 @@ class Library:
             self.evaluate: Any = opened.tensor_evaluate
             self.evaluate_arrays: Any = opened.tensor_evaluate_arrays
             self.dims: Any = opened.tensor_dims
+            self.dims_of_arrays: Any = opened.tensor_dims_of_arrays
             self.prepare: Any = opened.tensor_prepare
             self.run_plan: Any = opened.tensor_run
             self.fault_name: Any = opened.tensor_fault_name
@@ -51,12 +52,14 @@ class Library:
         self.evaluate.argtypes = [POINTER, SIZE] * 4
         self.evaluate_arrays.argtypes = [POINTER, SIZE, POINTER, SIZE, NUMBER, POINTER, SIZE]
         self.dims.argtypes = self.prepare.argtypes = [POINTER, SIZE, NUMBER, POINTER, SIZE]
+        self.dims_of_arrays.argtypes = [POINTER, SIZE] * 3
         self.run_plan.argtypes = self.evaluate_arrays.argtypes
         self.fault_name.argtypes = [ctypes.c_uint32, POINTER, SIZE]
         for it in (
             self.evaluate,
             self.evaluate_arrays,
             self.dims,
+            self.dims_of_arrays,
             self.prepare,
             self.run_plan,
             self.fault_name,
@@ -76,15 +79,15 @@ class Library:
         expr = result.asked(expr)
         asked = framed(expr, settings)
         parts = [as_memory(it) for it in asked.held]
-        # To tell a header's dims the library makes a list as long as the inputs. Where they are
-        # known, and of many values, a fault is told by the call that is to write these.
-        dims = expr.dims
+        arrays, dims = arrays_of(parts), expr.dims
+        # Where they are known, and of many values, a fault is told by the call that is to write
+        # these.
         if dims is None or not LARGE <= product(dims) <= MOST_ELEMENTS:
-            dims = self.dims_of(asked)
+            dims = self.dims_over(asked.header, arrays, len(parts))
         values = result.place(dims, parts)
         by_header = self.evaluate_arrays, asked.header
         places = shares(expr, len(values), settings.workers)
-        self.fill(by_header, arrays_of(parts), len(parts), values, places)
+        self.fill(by_header, arrays, len(parts), values, places)
         return result.tensor(values, dims, expr.truth)
 
     def answered_at_once(self, asked: Framed, room: int) -> Optional[Tensor]:
@@ -105,7 +108,16 @@ class Library:
     def dims_of(self, asked: Framed) -> Dims:
         """The dims of the tensor of a frame; none of its values is worked out."""
         header, dims = asked.header, DIMS()
-        size: int = self.dims(header, len(header), asked.size, dims, DIMS_ROOM)
+        return self.told(self.dims(header, len(header), asked.size, dims, DIMS_ROOM), dims)
+
+    def dims_over(self, header: bytes, arrays: Any, many: int) -> Dims:
+        """The same of a header and so many arrays, for which no memory is taken."""
+        dims = DIMS()
+        size = self.dims_of_arrays(header, len(header), arrays, many, dims, DIMS_ROOM)
+        return self.told(size, dims)
+
+    def told(self, size: int, dims: Any) -> Dims:
+        """The dims that a call has written, unless it returned a fault."""
         if size < 0:
             raise self.fault(-size)
         return tuple(dims[1 : 1 + dims[0]])

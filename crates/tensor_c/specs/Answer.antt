@@ -26,3 +26,7 @@ answer_of_arrays header arrays = or_fault asked_tensor (request_of_arrays header
 -- the dims of a frame's tensor
 abbrev pub answer_dims : List ℕ → List ℤ → Result (List ℕ) Fault
 answer_dims header values = or_fault (λ t. t.dims) (answer_of_frame header values)
+
+-- those of the tensor of a header and arrays
+abbrev pub dims_of_arrays : List ℕ → List (List ℤ) → Result (List ℕ) Fault
+dims_of_arrays header arrays = or_fault (λ t. t.dims) (answer_of_arrays header arrays)

@@ -1,14 +1,15 @@
-//! A part of the answer where each tensor's values lie in an array of their own.
+//! The answer's dims, and a part of its values, where each tensor's values lie in an array of their
+//! own.
 
-ghost use Rattle.std.specs.Prelude.{◌≡◌, length, Err};
+ghost use Rattle.std.specs.Prelude.{◌≡◌, ◌⊎◌, length, Ok, Err, MatchResult, IsErrOf};
 ghost use Rattle.expr_reader.specs.Arrays.{arrays_under, joined};
-ghost use Rattle.tensor_c.specs.Answer.{answer_of_arrays};
+ghost use Rattle.tensor_c.specs.Answer.{answer_of_arrays, dims_of_arrays};
 ghost use Rattle.tensor_c.specs.Call.{IsTooLong};
 ghost use Rattle.tensor_c.specs.Part.{called_for_part, IsPartCall};
 
 use crate::faults::result_of;
 use crate::part::put_part_of;
-use expr_reader::{Array, Fault, read_arrays};
+use expr_reader::{Array, Dims, Fault, read_arrays};
 use std::alloc::Global;
 
 /// Writes the values of the tensor of a header and arrays from a place on, as `put_part` does.
@@ -28,5 +29,25 @@ pub(crate) fn put_part_over(
     match read_arrays(alloc, header, arrays) {
         Ok(request) => put_part_of(alloc, request, first, out),
         Err(fault) => result_of(fault),
+    }
+}
+
+/// The dims of the tensor of a header and arrays. None of the arrays' values is read.
+pub(crate) fn dims_over(
+    alloc: Global,
+    header: &[u8],
+    arrays: &[Array<'_>],
+) -> Result<Dims, Fault>
+    ensures dims { MatchResult result
+        (λ dims. dims_of_arrays header.now (arrays_under arrays.now) ≡ Ok dims)
+        (λ fault. (fault ≡ Fault.NoMemory)
+        ⊎ (dims_of_arrays header.now (arrays_under arrays.now) ≡ Err fault)) }
+    ensures too_long { IsTooLong header.now (length (joined (arrays_under arrays.now)))
+        → IsErrOf result Fault.TooLong }
+{
+    let request = read_arrays(alloc, header, arrays)?;
+    match request.expr.dims(&request.inputs) {
+        Ok(dims) => Ok(dims),
+        Err(_) => unreachable!(),
     }
 }

@@ -17,14 +17,15 @@ ghost use Rattle.expr_reader.specs.Faults.{fault_number, fault_name};
 ghost use Rattle.expr_reader.specs.Request.{Asked};
 ghost use Rattle.expr_reader.specs.declared.fault.Fault.{Fault};
 ghost use Rattle.prepared_expressions.specs.Prepared.{Prepared, record_of};
-ghost use Rattle.tensor_c.specs.Answer.{answer_of_arrays, answer_of_frame, answer_dims};
+ghost use Rattle.tensor_c.specs.Answer.{answer_of_arrays, answer_of_frame};
+ghost use Rattle.tensor_c.specs.Answer.{answer_dims, dims_of_arrays};
 ghost use Rattle.tensor_c.specs.Call.{IsCall, IsDimsCall, IsTooLong};
 ghost use Rattle.tensor_c.specs.Call.{called, called_for_dims, called_for_name};
 ghost use Rattle.tensor_c.specs.Part.{IsPartCall, called_for_part};
 ghost use Rattle.tensor_c.specs.Plan.{asked_over, plan_over, prepared_of, called_for_plan};
 ghost use Rattle.tensor_c.specs.Plan.{IsPlan, IsPlanCall, answer_of_plan, IsRefused};
 
-use crate::arrays::put_part_over;
+use crate::arrays::{dims_over, put_part_over};
 use crate::evaluation::{dims_of, put_answer};
 use crate::faults::{fault_of, result_of};
 use crate::part::put_part;
@@ -106,6 +107,27 @@ pub extern "C" fn tensor_dims(alloc: Global, header: &[u8], count: u64, dims: &m
         ≡ called_for_dims (Err Fault.TooLong) dims.old }
 {
     match dims_of(alloc, header, count) {
+        Ok(found) => put_dims(&found, dims),
+        Err(fault) => result_of(fault),
+    }
+}
+
+/// Does as [`tensor_dims`] where each tensor's values lie in an array of their own. No value is
+/// read, and no memory asked for that grows with their number.
+#[unsafe(no_mangle)]
+pub extern "C" fn tensor_dims_of_arrays(
+    alloc: Global,
+    header: &[u8],
+    arrays: &[Array<'_>],
+    dims: &mut [u64],
+) -> i64
+    ensures call { IsDimsCall (dims_of_arrays header.now (arrays_under arrays.now)) dims.old
+        (record { result = result; dims = dims.new }) }
+    ensures too_long { IsTooLong header.now (length (joined (arrays_under arrays.now)))
+        → record { result = result; dims = dims.new }
+        ≡ called_for_dims (Err Fault.TooLong) dims.old }
+{
+    match dims_over(alloc, header, arrays) {
         Ok(found) => put_dims(&found, dims),
         Err(fault) => result_of(fault),
     }
