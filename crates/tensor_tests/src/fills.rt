@@ -53,8 +53,8 @@ const MORE_ROOTS: [&str; 17] = [
 /// How many values are asked for at once at most, where each length is tried.
 const MOST: usize = 1_155;
 
-// An expression has these values from a place on, written over others and in a list.
-fn range_is(
+/// Asserts that an expression has these values from a place on, written over others and in a list.
+pub(crate) fn range_is(
     rt: &impl Abort,
     alloc: Global,
     evaluator: &TensorEvaluator<'_>,

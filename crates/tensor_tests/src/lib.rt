@@ -17,6 +17,8 @@ mod faults;
 #[cfg(test)]
 mod fills;
 #[cfg(test)]
+mod lengths;
+#[cfg(test)]
 mod lines;
 #[cfg(test)]
 mod many_steps;
