@@ -73,7 +73,7 @@ class Found(Shell):
             self.assertEqual((session.way, session.run(-tensor(5)).item()), ("frames", -5))
         with unittest.mock.patch("tensor_client.running.built", return_value=None):
             with self.here(TENSOR_LINES=REFERENCE), client.Session() as session:
-                self.assertEqual((session.way, session.process.path), ("lines", REFERENCE))
+                self.assertEqual((session.way, session.stream.name), ("lines", REFERENCE))
 
     def test_ways_that_are_none(self):
         for refused in (

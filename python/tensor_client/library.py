@@ -84,7 +84,7 @@ class Library:
         # these.
         if dims is None or not LARGE <= product(dims) <= MOST_ELEMENTS:
             dims = self.dims_over(asked.header, arrays, len(parts))
-        values = result.place(dims, parts)
+        values = result.place(dims, asked.held)
         by_header = self.evaluate_arrays, asked.header
         places = shares(expr, len(values), settings.workers)
         self.fill(by_header, arrays, len(parts), values, places)

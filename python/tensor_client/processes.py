@@ -1,24 +1,21 @@
-"""Programs that are asked: one that answers one request and ends, or one that stays open, of lines
-or of frames."""
+"""What answers: a process of one request, a process that stays open, or a connection to a service.
+The last two are asked one request after another."""
 
 from __future__ import annotations
 
 import os
-import select
-import struct
+import socket
 import subprocess
 import time
 from typing import Any, List, Optional, Tuple
 
 from .faults import ProgramFailed, TimedOut
 from .finding import environment
-from .length import MAX_TEXT, MAX_VALUES
-from .memory import FEW, VALUE, Bytes, Held, few_of, memory_for, memory_of, parts_of
-from .requests import Framed, fault_of
+from .requests import fault_of
+from .streams import Deadline, Stream
 
-SIZES = struct.Struct("<QQ")
-# So many bytes are read at once, and so many parts written.
-PIECE, PARTS = 1 << 16, 1000
+# So many seconds who finds a Unix socket's queue full waits before he tries again.
+PAUSE = 0.01
 
 
 def answered_once(path: str, text: str, seconds: Optional[float]) -> str:
@@ -45,27 +42,10 @@ def answered_once(path: str, text: str, seconds: Optional[float]) -> str:
     return line
 
 
-class Deadline:
-    """The time until which an answer has to be there, or none."""
-
-    def __init__(self, seconds: Optional[float]) -> None:
-        self.seconds = seconds
-        self.end = None if seconds is None else time.monotonic() + seconds
-
-    def wait(self, file: int, event: int, path: str) -> None:
-        """Waits until a file can be read or written."""
-        poll = select.poll()
-        poll.register(file, event)
-        left = None if self.end is None else max(self.end - time.monotonic(), 0)
-        if not poll.poll(None if left is None else left * 1000):
-            raise TimedOut(f"{path}: no answer in {self.seconds} seconds")
-
-
-class Process:
-    """A program that stays open: it is written to, and read from."""
+class Process(Stream):
+    """A program that stays open."""
 
     def __init__(self, path: str) -> None:
-        self.path = path
         try:
             self.child = subprocess.Popen(
                 [path],
@@ -79,105 +59,119 @@ class Process:
             raise ProgramFailed(f"{path}: {fault.strerror}") from fault
         child = self.child
         assert child.stdin and child.stdout and child.stderr
-        self.stdin, self.stdout, self.stderr = child.stdin, child.stdout, child.stderr
+        self.streams, self.stderr = (child.stdin, child.stdout, child.stderr), child.stderr
+        super().__init__(path, child.stdout.fileno(), child.stdin.fileno())
         # A write that finds the pipe full is told so, and waits no longer than it may.
-        os.set_blocking(self.stdin.fileno(), False)
+        os.set_blocking(self.sink, False)
 
-    def __enter__(self) -> None:
-        pass
-
-    def __exit__(self, kind: Any, *_: Any) -> None:
-        """Ends the program where asking it failed."""
-        if kind is not None:
-            self.child.kill()
+    def end(self) -> None:
+        self.child.kill()
 
     def close(self) -> None:
+        self.is_over = True
         self.child.kill()
-        for stream in (self.stdin, self.stdout, self.stderr):
+        for stream in self.streams:
             stream.close()
         self.child.wait()
 
-    def failed(self) -> ProgramFailed:
-        """What is raised where the program has ended, with what it said on standard error."""
+    def send(self, parts: List[memoryview]) -> int:
+        return os.writev(self.sink, parts)
+
+    def lost(self, why: str) -> str:
+        """With what the program said on standard error until now: a program below it may hold that
+        open."""
         self.child.kill()
         self.child.wait()
-        said = b"it was closed"
-        if not self.stderr.closed:
-            # What it has said until now: a program below it may hold its standard error open.
-            os.set_blocking(self.stderr.fileno(), False)
-            said = self.stderr.read() or b""
-        return ProgramFailed(f"{self.path} has ended: {said.decode(errors='replace').strip()}")
+        os.set_blocking(self.stderr.fileno(), False)
+        said = (self.stderr.read() or b"").decode(errors="replace").strip()
+        return f"{self.name} has ended: {said or why}"
 
-    def write(self, parts: List[Bytes], deadline: Deadline) -> None:
-        """Writes all parts, one behind another."""
-        # By bytes; a view of nothing is no view of these.
-        left = [memoryview(it).cast("B") for it in parts if it]
-        while left:
+
+class Connection(Stream):
+    """A connection to a service: at the path of its socket, or at a host and a port."""
+
+    def __init__(self, address: Any, deadline: Deadline) -> None:
+        self.socket, name = connected(address, deadline), name_of(address)
+        super().__init__(name, self.socket.fileno(), self.socket.fileno())
+
+    def end(self) -> None:
+        self.socket.close()
+
+    def close(self) -> None:
+        self.is_over = True
+        self.socket.close()
+
+    def send(self, parts: List[memoryview]) -> int:
+        return self.socket.sendmsg(parts, (), socket.MSG_DONTWAIT | socket.MSG_NOSIGNAL)
+
+    def lost(self, why: str) -> str:
+        return f"{self.name}: the connection is lost: {why}"
+
+
+def is_path(address: Any) -> bool:
+    return isinstance(address, (str, bytes, os.PathLike))
+
+
+def name_of(address: Any) -> str:
+    """An address, as it is named in what is said of it.
+
+    >>> name_of(("localhost", 7007))
+    'localhost:7007'
+    """
+    return os.fsdecode(address) if is_path(address) else ":".join(map(str, address))
+
+
+def places_of(address: Any) -> List[Tuple[int, Any]]:
+    """The places that an address stands for, each with its family: a host may have several. How
+    long the search for a host takes has limits of the system's own."""
+    if is_path(address):
+        return [(socket.AF_UNIX, os.fspath(address))]
+    host, port = address
+    found = socket.getaddrinfo(host, port, type=socket.SOCK_STREAM)
+    return [(family, place) for family, _, _, _, place in found]
+
+
+def connected(address: Any, deadline: Deadline) -> socket.socket:
+    """A socket that is connected to the first place of an address where somebody listens."""
+    why: Optional[OSError] = None
+    try:
+        for family, place in places_of(address):
             try:
-                sent = os.writev(self.stdin.fileno(), left[:PARTS])
-            except BlockingIOError:
-                deadline.wait(self.stdin.fileno(), select.POLLOUT, self.path)
-                continue
-            except (OSError, ValueError) as fault:
-                raise self.failed() from fault
-            while left and sent >= len(left[0]):
-                sent -= len(left.pop(0))
-            if sent:
-                left[0] = left[0][sent:]
-
-    def read(self, deadline: Deadline) -> bytes:
-        """The next bytes, as many as are there."""
-        if deadline.end is not None:
-            deadline.wait(self.stdout.fileno(), select.POLLIN, self.path)
-        found = self.stdout.read(PIECE)
-        if not found:
-            raise self.failed()
-        return found
-
-    def read_into(self, room: memoryview, deadline: Deadline) -> None:
-        """Fills a room with the next bytes."""
-        while room:
-            if deadline.end is not None:
-                deadline.wait(self.stdout.fileno(), select.POLLIN, self.path)
-            count = self.stdout.readinto(room)  # type: ignore[attr-defined]
-            if not count:
-                raise self.failed()
-            room = room[count:]
+                return connected_to(family, place, deadline)
+            except OSError as fault:
+                why = fault
+    except OSError as fault:
+        why = fault
+    if deadline.left() == 0:
+        raise TimedOut(f"{name_of(address)}: no connection in {deadline.seconds} seconds") from why
+    said = why.strerror if why is not None else "it is no address"
+    raise ProgramFailed(f"{name_of(address)}: no connection: {said}; nothing was asked") from why
 
 
-def line_asked(process: Process, text: str, deadline: Deadline) -> str:
-    """The line that answers a text, by a program of lines."""
-    process.write([text.encode() + b"\n"], deadline)
-    pieces: List[bytes] = []
-    while not pieces or not pieces[-1].endswith(b"\n"):
-        pieces.append(process.read(deadline))
-    return b"".join(pieces).decode()
+def connected_to(family: int, place: Any, deadline: Deadline) -> socket.socket:
+    """A socket that is connected to a place, or what the system says that hinders it."""
+    made = socket.socket(family, socket.SOCK_STREAM)
+    try:
+        connect(made, place, deadline)
+        if family != socket.AF_UNIX:
+            # Else the end of a request may wait for the other side to acknowledge its front.
+            made.setsockopt(socket.IPPROTO_TCP, socket.TCP_NODELAY, 1)
+    except BaseException:
+        made.close()
+        raise
+    return made
 
 
-def frame_asked(process: Process, asked: Framed, deadline: Deadline) -> Tuple[bytes, Held]:
-    """The header and the values of the frame that answers a frame, by a program of frames."""
-    sizes = SIZES.pack(len(asked.header), asked.size)
-    process.write([sizes + asked.header, *parts_of(asked.held, asked.size)], deadline)
-    found = b""
-    while len(found) < SIZES.size:
-        found += process.read(deadline)
-    length, count = SIZES.unpack_from(found)
-    if length > MAX_TEXT or count > MAX_VALUES:
-        raise ProgramFailed(f"{process.path} answers no frame: {found[:40]!r}")
-    while len(found) < SIZES.size + length:
-        found += process.read(deadline)
-    begin = SIZES.size + length
-    return found[SIZES.size : begin], rest_of(process, found[begin:], count, deadline)
-
-
-def rest_of(process: Process, found: bytes, count: int, deadline: Deadline) -> Held:
-    """So many values, the first bytes of which were read."""
-    if len(found) == VALUE * count:
-        return few_of(found) if count <= FEW else memory_of(found)
-    if len(found) > VALUE * count:
-        raise ProgramFailed(f"{process.path} answers more than a frame")
-    values = memory_for(count)
-    room = values.cast("B")
-    room[: len(found)] = found
-    process.read_into(room[len(found) :], deadline)
-    return values
+def connect(made: socket.socket, place: Any, deadline: Deadline) -> None:
+    """Connects a socket, and leaves it without a limit of time of its own."""
+    while True:
+        made.settimeout(deadline.left())
+        try:
+            made.connect(place)
+            break
+        except BlockingIOError:
+            # The queue of a Unix socket is full, or no time was left.
+            if deadline.left() == 0:
+                raise
+            time.sleep(PAUSE)
+    made.settimeout(None)

@@ -7,8 +7,10 @@ from typing import Any, Optional, Sequence
 
 from .expressions import Expr
 from .length import MOST_NODES
-from .memory import INT64, Bytes, memory_for, overlap
+from .memory import INT64, Held, memory_for, overlap
+from .requests import dims_text
 from .rules import Dims, product
+from .streams import Place
 from .tensors import Tensor
 from .values import numpy
 
@@ -19,7 +21,7 @@ class Result:
     gives them so."""
 
     def __init__(self, expr: Expr, out: Any = None, turned: Optional[bool] = None) -> None:
-        self.out = None if out is None else checked_out(out)
+        self.out: Any = None if out is None else checked_out(out)
         if turned is not None:
             self.turned = turned
             return
@@ -35,26 +37,52 @@ class Result:
         dims = (expr.dims or ())[::-1]
         return Expr("shuffle", [expr], [list(range(len(dims)))[::-1]], dims, expr.truth)
 
-    def place(self, dims: Dims, inputs: Sequence[Bytes]) -> memoryview:
+    def check(self, dims: Dims) -> None:
+        """Sees that an answer of these dims is the array's."""
+        wanted = dims[::-1] if self.turned else dims
+        if self.out is not None and self.out.shape != wanted:
+            raise ValueError(f"out has dims {self.out.shape}, and the answer {wanted}")
+
+    def own(self, inputs: Sequence[Held]) -> Optional[memoryview]:
+        """The array's own memory, if the answer can be written there as it comes, and overlaps no
+        input."""
+        if self.out is None or not (self.turned or self.out.flags.f_contiguous):
+            return None
+        own, memories = memory_of_out(self.out), [it for it in inputs if not isinstance(it, list)]
+        return None if any(overlap(own, it) for it in memories) else own
+
+    def place(self, dims: Dims, inputs: Sequence[Held]) -> memoryview:
         """Memory for an answer of these dims, which overlaps no input: the array's own, if it can
         be."""
-        if self.out is not None:
-            wanted = dims[::-1] if self.turned else dims
-            if self.out.shape != wanted:
-                raise ValueError(f"out has dims {self.out.shape}, and the answer {wanted}")
-            if self.turned or self.out.flags.f_contiguous:
-                own = memory_of_out(self.out)
-                if not any(overlap(own, it) for it in inputs):
-                    return own
-        return memory_for(product(dims))
+        self.check(dims)
+        own = self.own(inputs)
+        return memory_for(product(dims)) if own is None else own
 
-    def tensor(self, values: memoryview, dims: Dims, truth: bool) -> Tensor:
+    def place_of_frame(self, inputs: Sequence[Held]) -> Optional[Place]:
+        """The array's own memory, for the values of a frame of the array's dims."""
+        own = self.own(inputs)
+        if own is None:
+            return None
+        dims = self.out.shape[::-1] if self.turned else self.out.shape
+        return Place(f"{{{dims_text(dims)}}}".encode(), own)
+
+    def of_frame(self, found: Tensor, truth: bool) -> Tensor:
+        """The tensor of a frame that was answered."""
+        if self.out is None:
+            found.truth = truth
+            return found
+        self.check(found.dims or ())
+        return self.tensor(found.own, found.dims or (), truth)
+
+    def tensor(self, values: Held, dims: Dims, truth: bool) -> Tensor:
         """The tensor of an answer, whose values and dims are as they were asked for. What stands in
         an array that others may write needn't stay truth values."""
         dims, truth = dims[::-1] if self.turned else dims, truth and self.out is None
         found = Tensor(values, dims, truth, turned=self.turned)
-        if self.out is not None and not overlap(memory_of_out(self.out), values):
-            self.out[...] = found.array()
+        if self.out is not None:
+            own = memory_of_out(self.out)
+            if isinstance(values, list) or not overlap(own, values):
+                self.out[...] = found.array()
         return found
 
 

@@ -1,5 +1,5 @@
 """Has expressions answered: by the library in this process, by a process a request, or by a
-session, which keeps a process open."""
+session, which keeps a process open, or a connection."""
 
 from __future__ import annotations
 
@@ -11,9 +11,10 @@ from .explaining import explain
 from .faults import Fault, ProgramFailed
 from .finding import FRAMES, LINES, ONE, built, found, no_library, program_of
 from .library import Library, library_named, library_of
-from .processes import Deadline, Process, answered_once, frame_asked, line_asked
+from .processes import Connection, Process, answered_once
 from .requests import Settings, answer, framed, header_answer, request
-from .results import written
+from .results import Result, written
+from .streams import Deadline, Stream, frame_asked, line_asked
 from .tensors import Tensor, an_expr
 
 WAYS, SESSIONS = ("library", "frames", "process"), ("frames", "lines")
@@ -50,7 +51,7 @@ def run(
     try:
         if library is not None:
             return library.run(asked, settings, out)
-        return written(answered(asked, settings, program, timeout, way), asked, out)
+        return answered(asked, settings, program, timeout, way, out)
     except Fault as fault:
         explain(fault, asked, settings)
         raise
@@ -62,18 +63,19 @@ def answered(
     program: Any,
     timeout: Optional[float],
     way: Optional[str],
+    out: Any,
 ) -> Tensor:
     """The tensor of an expression's values, by a process for this request."""
     if way == "frames" or (way is None and program is None and built(FRAMES)):
         with Session(program=program, timeout=timeout, way="frames") as session:
-            return session._answered(asked, settings, timeout)
+            return session._answered(asked, settings, timeout, out)
     if way not in (None, "process"):
         raise ValueError(f"a way is one of {WAYS}, and not {way!r}")
     if way is None and program is None and found(ONE) is None:
         tried = "; ".join((no_library(), FRAMES.tried(), ONE.tried()))
         raise ProgramFailed(f"nothing is found that answers: {tried}")
     text = request(asked, *settings)
-    return answer(answered_once(program_of(program, ONE), text, timeout))
+    return written(answer(answered_once(program_of(program, ONE), text, timeout)), asked, out)
 
 
 def library_asked(named: Any, timeout: Optional[float]) -> Library:
@@ -84,10 +86,14 @@ def library_asked(named: Any, timeout: Optional[float]) -> Library:
 
 
 class Session:
-    """A process that answers one request after another, which stays open: for many small ones.
+    """A process that answers one request after another, which stays open, or a connection to a
+    service: for many small ones.
 
     It is asked by "frames" where that program is found, and else by "lines", which are texts; `way`
-    says which, and has to where `program` is the path of one.
+    says which, and has to where `program` is the path of one, or `address` where a service listens:
+    the path of a socket, or a host and a port. `timeout` is how many seconds each answer may take,
+    and the connection. A request that has no answer is asked no second time, and the session is
+    over then.
 
     One thread at a time asks a session; others wait. It ends with its `with`, or by close().
 
@@ -103,15 +109,23 @@ class Session:
         program: Any = None,
         timeout: Optional[float] = None,
         way: Optional[str] = None,
+        address: Any = None,
     ) -> None:
         self.workers, self.block, self.timeout = workers, block, timeout
-        if way is None and program is not None:
-            raise ValueError(f"a session by {program}: say its way, one of {SESSIONS}")
+        if program is not None and address is not None:
+            raise ValueError(f"a session by {program} or at {address}, and not both")
+        if way is None and (program is not None or address is not None):
+            what = f"by {program}" if address is None else f"at {address}"
+            raise ValueError(f"a session {what}: say its way, one of {SESSIONS}")
         self.way = way or ("frames" if built(FRAMES) else "lines")
         if self.way not in SESSIONS:
             raise ValueError(f"a session's way is one of {SESSIONS}, and not {way!r}")
         self.turn = threading.Lock()
-        self.process = Process(program_of(program, FRAMES if self.way == "frames" else LINES))
+        self.stream: Stream
+        if address is not None:
+            self.stream = Connection(address, Deadline(timeout))
+        else:
+            self.stream = Process(program_of(program, FRAMES if self.way == "frames" else LINES))
 
     def __enter__(self) -> Session:
         return self
@@ -120,13 +134,13 @@ class Session:
         self.close()
 
     def close(self) -> None:
-        """Ends the process. A session that is closed answers nothing more.
+        """Ends the process, or the connection. A session that is closed answers nothing more.
 
         >>> s = Session()
         >>> s.close()
         """
         with self.turn:
-            self.process.close()
+            self.stream.close()
 
     def run(
         self,
@@ -151,7 +165,7 @@ class Session:
         )
         try:
             seconds = self.timeout if timeout is None else timeout
-            return written(self._answered(asked, settings, seconds), asked, out)
+            return self._answered(asked, settings, seconds, out)
         except Fault as fault:
             explain(fault, asked, settings)
             raise
@@ -167,15 +181,19 @@ class Session:
         """
         return self.run(expr)
 
-    def _answered(self, expr: Expr, settings: Settings, seconds: Optional[float]) -> Tensor:
-        """The tensor of an expression's values, or its fault. Where there is no answer the process
-        is ended, since one that comes later would be taken for the next one's."""
+    def _answered(
+        self, expr: Expr, settings: Settings, seconds: Optional[float], out: Any
+    ) -> Tensor:
+        """The tensor of an expression's values, or its fault."""
         if self.way == "lines":
             text = request(expr, *settings)
-            with self.turn, self.process:
-                line = line_asked(self.process, text, Deadline(seconds))
-            return answer(line)
-        asked = framed(expr, settings)
-        with self.turn, self.process:
-            header, values = frame_asked(self.process, asked, Deadline(seconds))
-        return header_answer(header, values)
+            with self.turn, self.stream:
+                line = line_asked(self.stream, text, Deadline(seconds))
+            return written(answer(line), expr, out)
+        # Without an array the values stand column-major, as they come.
+        result = Result(expr, out, False if out is None else None)
+        asked = framed(result.asked(expr), settings)
+        place = result.place_of_frame(asked.held)
+        with self.turn, self.stream:
+            header, values = frame_asked(self.stream, asked, Deadline(seconds), place)
+        return result.of_frame(header_answer(header, values), expr.truth)
