@@ -4,7 +4,11 @@ import functools
 
 from .running import Running
 
-RUNNER, READER = "Rattle.tensor_runner.specs.Answer", "Rattle.expr_reader.specs"
+ANSWERS = "Rattle.tensor_runner.specs.Answer."
+LINE_OF, ANSWER_OF, ANSWER_FROM = (ANSWERS + it for it in ("line_of", "answer_of", "answer_from"))
+REQUEST_AT = "Rattle.expr_reader.specs.Request.request_at"
+OF_FRAME = "Rattle.expr_reader.specs.Frame.request_of_frame"
+SHAPE_OF = "Rattle.tensor_terms.specs.Result.shape_of"
 
 
 class Answers:
@@ -12,35 +16,35 @@ class Answers:
 
     def __init__(self):
         self.running = Running()
-        at = self.running.function
         # A text that was just read isn't read again to find the place of its fault.
-        request_at, last = f"{READER}.Request.request_at", functools.lru_cache(1)
-        self.request_at = self.running.changed(request_at, last)
-        self.line_of, self.answer_of = at(f"{RUNNER}.line_of"), at(f"{RUNNER}.answer_of")
-        self.answer_from = at(f"{RUNNER}.answer_from")
-        self.shape_of = at("Rattle.tensor_terms.specs.Result.shape_of")
-        self.request_of_frame = at(f"{READER}.Frame.request_of_frame")
+        self.running.changed(REQUEST_AT, functools.lru_cache(1))
+        for it in (OF_FRAME, LINE_OF, ANSWER_OF, ANSWER_FROM, SHAPE_OF):
+            self.running.function(it)
+
+    def of(self, path, *given):
+        """What a definition gives, as it is now."""
+        return self.running.function(path)(*given)
 
     def line(self, text):
         """The line that answers a text."""
-        return bytes(self.line_of(self.answer_of(tuple(text))))
+        return bytes(self.of(LINE_OF, self.of(ANSWER_OF, tuple(text))))
 
     def line_of_frame(self, header, values):
         """The line of what answers a frame."""
-        request = self.request_of_frame(tuple(header), tuple(values))
-        return bytes(self.line_of(self.answer_from(request)))
+        request = self.of(OF_FRAME, tuple(header), tuple(values))
+        return bytes(self.of(LINE_OF, self.of(ANSWER_FROM, request)))
 
     def place(self, text):
         """The steps to the first fault of a text, names and indices; none where it has no fault."""
-        found = self.request_at(tuple(text))
-        if found[0] == "Ok":
+        kind, found = self.of(REQUEST_AT, tuple(text))
+        if kind == "Ok":
             return None
-        return [bytes(it[1]).decode() if it[0] == "field" else it[1] for it in found[1].place_]
+        return [bytes(it).decode() if step == "field" else it for step, it in found.place_]
 
     def dims(self, text):
         """The dims of the tensor that a text without a fault asks for."""
-        asked = self.request_at(tuple(text))[1]
-        return list(self.shape_of(asked.term_, asked.inputs_))
+        asked = self.of(REQUEST_AT, tuple(text))[1]
+        return list(self.of(SHAPE_OF, asked.term_, asked.inputs_))
 
     def cases(self):
         """The cases of this repository's definitions: the item of each, its number, its line, and

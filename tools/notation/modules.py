@@ -4,18 +4,11 @@ import re
 
 NAME = r'[^\s(){};,."]+'
 WORD = re.compile(r'"(?:[^"\\]|\\.)*"|[(){};,]|\.?%s(?:\.%s)*|\.' % (NAME, NAME))
-COMMENT = re.compile(r"(?:^|(?<=\s))--(?=\s|$)")
+# A comment, or a string, in which two dashes begin none.
+COMMENT = re.compile(r'("(?:[^"\\]|\\.)*")|(?:^|(?<=\s))--(?=\s|$).*')
 MODIFIERS = ("abbrev", "unfoldable", "pub")
 # Lines that say nothing of a meaning.
 SILENT = ("mod", "open", "infix", "infixl", "infixr", "unfolding")
-
-
-def uncommented(line):
-    """A line without its comment; two dashes inside of a string begin none."""
-    for it in COMMENT.finditer(line):
-        if len(re.findall(r'(?<!\\)"', line[: it.start()])) % 2 == 0:
-            return line[: it.start()].rstrip()
-    return line.rstrip()
 
 
 def words_of(chunk):
@@ -23,15 +16,12 @@ def words_of(chunk):
     return [word for _, line in chunk for word in WORD.findall(line)]
 
 
-def indent_of(line):
-    return len(line) - len(line.lstrip())
-
-
 def chunks_of(lines):
     """Lines in chunks: what stands further right, or closes a bracket, goes with those above."""
     chunks = []
     for at, line in lines:
-        if indent_of(line) == indent_of(lines[0][1]) and line.strip() != "}":
+        indents = [len(it) - len(it.lstrip()) for it in (line, lines[0][1])]
+        if indents[0] == indents[1] and line.strip() != "}":
             chunks.append([])
         chunks[-1].append((at, line))
     return chunks
@@ -75,7 +65,7 @@ class Item:
         return f"{self.module.path}.{self.name}"
 
     def lines(self):
-        return [it for chunk in self.chunks for it in chunk]
+        return sum(self.chunks, [])
 
 
 class Module:
@@ -86,8 +76,11 @@ class Module:
         self.items, self.constructors, self.opened, self.aliases = {}, {}, {}, {}
         with open(file, encoding="utf-8") as text:
             self.text = text.read().split("\n")
-        lines = [(at, uncommented(line)) for at, line in enumerate(self.text, 1)]
-        self.read([it for it in lines if it[1]], [])
+        self.take_up()
+
+    def take_up(self):
+        lines = [COMMENT.sub(lambda it: it[1] or "", line).rstrip() for line in self.text]
+        self.read([it for it in enumerate(lines, 1) if it[1]], [])
 
     def read(self, lines, section):
         last = None
@@ -98,20 +91,18 @@ class Module:
             head = words[0]
             if head == "use":
                 self.bring_in(words[1:])
-            elif head == "module":
-                end = head_of(chunk)
+            elif head in ("module", "mutual"):
+                end = head_of(chunk) if head == "module" else 1
                 names = re.findall(r"\(([^(){}:]+) : ", " ".join(words_of(chunk[:end])))
                 own = [(it, chunk[0][0]) for it in " ".join(names).split()]
                 self.read(chunk[end:], section + own)
-            elif head == "mutual":
-                self.read(chunk[1:], section)
             elif head in ("data", "record"):
-                self.items[words[1]] = Item(self, head, words[1], section, chunk)
+                item = self.items[words[1]] = Item(self, head, words[1], section, chunk)
                 behind = chunks_of(chunk[head_of(chunk) :]) if head == "data" else ()
-                for made in map(words_of, behind):
-                    count = parameters(made[made.index(":") + 1 :])
-                    for name in made[: made.index(":")]:
-                        self.constructors[name] = (self.items[words[1]], count)
+                for words in map(words_of, behind):
+                    of = words.index(":")
+                    count = parameters(words[of + 1 :])
+                    self.constructors.update(dict.fromkeys(words[:of], (item, count)))
             elif head not in SILENT:
                 # A signature, which begins a definition, or a case of the last one.
                 at = closing(words, 1) + 1 if words[1:2] == ["{"] else 1
@@ -122,11 +113,9 @@ class Module:
 
     def bring_in(self, words):
         """A line `use`: of some names of a module, or of a module under a name of its own."""
-        path = words[0]
+        path, names = words[0], " ".join(words[3:-1]).split(",")
         if "{" in words:
-            for name in " ".join(words[words.index("{") + 1 : words.index("}")]).split(","):
-                parts = name.split()
-                if parts:
-                    self.opened[parts[-1]] = (path, parts[0])
+            named = [it.split() for it in names if it.strip()]
+            self.opened.update((it[-1], (path, it[0])) for it in named)
         else:
             self.aliases[words[2] if words[1:] else path.rpartition(".")[2]] = path

@@ -15,31 +15,21 @@ from usage import fail  # noqa: E402
 
 CRATES = os.path.join(TOP, "crates")
 # Where the kit keeps the files of a path that begins so.
-KEPT = {"lib": "logic/Lib", "mir": "logic/Mir", "mathlib": "antt/port/mathlib/src"}
-KEPT["native"] = "antt/lib/native/src"
-# A name that no file brings in.
-BUILT_IN = {"tt": ("primitive", "Prim.tt")}
+MATHLIB, NATIVE = "antt/port/mathlib/src", "antt/lib/native/src"
+KEPT = {"lib": "logic/Lib", "mir": "logic/Mir", "mathlib": MATHLIB, "native": NATIVE}
 VARIANT = re.compile(r"(?m)^\s*(\w+)\s*(?:\(([^)]*)\))?(?:\s*=\s*-?\d+)?,?\s*$")
 
 
-class Declared:
+class Declared(Module):
     """A type of Rust that specs speak of, by its path `Rattle.CRATE.specs.declared.MODULE.TYPE`."""
 
-    def __init__(self, path, kit_crates):
-        self.path, self.opened, self.aliases, self.text = path, {}, {}, ""
-        _, crate, _, _, *within, name = path.split(".")
-        files = [os.path.join(it, crate, "src", *within) for it in (CRATES, kit_crates)]
-        files = [it + end for it in files for end in (".rt", "/mod.rt")]
-        self.file, variants = next(filter(os.path.exists, files), ""), {}
-        if self.file:
-            with open(self.file, encoding="utf-8") as file:
-                self.text = file.read()
-            body = re.search(r"enum %s\b[^{]*\{(.*?)\n\}" % name, self.text, re.S)
-            for it in VARIANT.finditer(re.sub("//.*", "", body[1] if body else "")):
-                variants[it[1]] = len([part for part in (it[2] or "").split(",") if part.strip()])
+    def take_up(self):
+        name = self.path.rpartition(".")[2]
         item = Item(self, "declared", name, [], [])
-        self.items = {name: item, "Ghosts": item}
-        self.constructors = {it: (item, count) for it, count in variants.items()}
+        self.items.update({name: item, "Ghosts": item})
+        body = re.search(r"enum %s\b[^{]*\{(.*?)\n\}" % name, "\n".join(self.text), re.S)
+        for it in VARIANT.finditer(re.sub("//.*", "", body[1] if body else "")):
+            self.constructors[it[1]] = item, len(re.findall(r"[^,\s][^,]*", it[2] or ""))
 
 
 class Names:
@@ -58,11 +48,13 @@ class Names:
         return module.file.startswith(CRATES + os.sep)
 
     def file(self, parts):
-        """The file of a module, where it has one."""
-        within = os.path.join(*parts[1:], "") if parts[1:] else ""
-        roots = (CRATES, self.kit) if parts[0] == "Rattle" else ()
-        roots += (os.path.join(self.kit, KEPT[parts[0]]),) if parts[0] in KEPT else ()
-        files = [os.path.join(it, within)[:-1] + ".antt" for it in roots]
+        """The file of a module, or of a type of the code, where it has one."""
+        roots = [CRATES, self.kit] if parts[0] == "Rattle" else []
+        roots += [os.path.join(self.kit, KEPT[it]) for it in parts[:1] if it in KEPT]
+        within, ends = parts[1:], [".antt"]
+        if "declared" in parts:
+            within, ends = [parts[1], "src", *parts[4:-1]], [".rt", "/mod.rt"]
+        files = ["/".join([root, *within]) + end for root in roots for end in ends]
         return next(filter(os.path.exists, files), None)
 
     def module(self, path):
@@ -73,9 +65,9 @@ class Names:
         return self.modules[path]
 
     def find(self, parts):
-        if parts[0] == "Rattle" and "declared" in parts:
-            return Declared(".".join(parts), self.kit)
         file = self.file(parts)
+        if "declared" in parts:
+            return Declared(".".join(parts), file or os.devnull)
         if file:
             return Module(".".join(parts), file)
         # It may be one that specs/Lib of a crate, or a module on the way to it, passes on.
@@ -93,13 +85,11 @@ class Names:
         for whole in (f"{path}.{name}", f"{module.path}.{name}" if module else ""):
             if whole in PRIMITIVES:
                 return "primitive", whole
-        if module is None:
-            return None
-        if name in module.constructors:
+        if module and name in module.constructors:
             return "constructor", name, *module.constructors[name]
-        if name in module.items:
+        if module and name in module.items:
             return "item", module.items[name]
-        return self.resolve(*module.opened[name]) if name in module.opened else None
+        return self.resolve(*module.opened[name]) if module and name in module.opened else None
 
     def lookup(self, module, parts):
         """What the name is that these parts begin with, as it stands in a module, and how many of
@@ -113,6 +103,7 @@ class Names:
         found = self.resolve(path, parts[1]) if path and len(parts) > 1 else None
         if found:
             return found, 2
-        if name in module.opened and name not in module.items and name not in module.constructors:
+        if name in module.opened and name not in {**module.items, **module.constructors}:
             return self.resolve(*module.opened[name]), 1
-        return BUILT_IN.get(name) or self.resolve(module.path, name), 1
+        # The value of `Unit` is one that no file brings in.
+        return ("primitive", "Prim.tt") if name == "tt" else self.resolve(module.path, name), 1

@@ -40,7 +40,7 @@ def line_above(item):
 
 def type_of_code(item):
     """A type as the code has it: without attributes, and of a trait its ghost members alone."""
-    lines = item.module.text.split("\n")
+    lines = item.module.text
     heads = [OPENED.match(it) for it in lines]
     first = next(at for at, it in enumerate(heads) if it and it[2] == item.name)
     is_trait, last, begin = heads[first][1] == "trait", lines.index("}", first), first

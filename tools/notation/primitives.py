@@ -28,40 +28,43 @@ WORDS = {
     "Rattle.core.specs.Ordering": "match_ordering = {{'Less': lambda: {b}, 'Equal': lambda: {c}, "
     "'Greater': lambda: {d}}}[{a}[0]]()",
     "lib.Chars": "codes = tuple(map(ord, {a}))",
-    "lib.Ieee": "binary64 = 64; round = float_of({b}, {c}, {d})",
+    "lib.Ieee": "binary64 = 64; round = float_of({a}, {b}, {c}, {d})",
 }
 # Those that may stand in a pattern: when a value `it` is one, and the arguments it then has.
 PATTERNS = {
-    "Prim.Native.Nat.zero": ("{it} == 0", []),
-    "Prim.Native.Nat.suc": ("{it} > 0", ["{it} - 1"]),
-    "mathlib.Core.Bool.true": ("{it}", []),
-    "mathlib.Core.Bool.false": ("not {it}", []),
-    "mathlib.Core.List.Defs.[]": ("not {it}", []),
-    "mathlib.Core.List.Defs.◌∷◌": ("{it}", ["{it}[0]", "{it}[1:]"]),
-    "lib.IntN.pos": ("{it} >= 0", ["{it}"]),
-    "lib.IntN.negsuc": ("{it} < 0", ["-1 - {it}"]),
+    "Prim.Native.Nat.zero": ["{it} == 0"],
+    "Prim.Native.Nat.suc": ["{it} > 0", "({it} - 1)"],
+    "mathlib.Core.Bool.true": ["{it}"],
+    "mathlib.Core.Bool.false": ["not {it}"],
+    "mathlib.Core.List.Defs.[]": ["not {it}"],
+    "mathlib.Core.List.Defs.◌∷◌": ["{it}", "{it}[0]", "{it}[1:]"],
+    "lib.IntN.pos": ["{it} >= 0", "{it}"],
+    "lib.IntN.negsuc": ["{it} < 0", "(-1 - {it})"],
 }
 
 
-def float_of(negative, above, below):
+def curried(count, function, *given):
+    """A function that takes so many more arguments, one after the other."""
+    return (lambda it: curried(count - 1, function, *given, it)) if count else function(*given)
+
+
+def float_of(_, negative, above, below):
     """The nearest float of 64 bits, as far as definitions ask for it: whether there is one."""
     is_finite = above < (2**1024 - 2**970) * below
     return ("fin", negative, (above, below), 0) if is_finite else ("inf", negative)
 
 
-def read_words():
-    """By its whole name, the template of each word and the number of its arguments."""
-    for module, words in WORDS.items():
-        for name, _, template in (it.partition(" = ") for it in words.split("; ")):
-            last = max(re.findall(r"\{(\w)\}", template), default="")
-            yield f"{module}.{name}", (f"({template})", "abcd".find(last) + 1 if last else 0)
-
-
-PRIMITIVES = dict(read_words())
+# By its whole name, the template of each word and the number of its arguments.
+PRIMITIVES = {
+    f"{module}.{name}": (f"({template})", len(set(re.findall(r"\{\w\}", template))))
+    for module, words in WORDS.items()
+    for name, _, template in (it.partition(" = ") for it in words.split("; "))
+}
 # What the templates call.
 GIVEN = {
     "Record": Record,
     "changed": lambda record, **fields: Record(**{**vars(record), **fields}),
+    "curried": curried,
     "float_of": float_of,
     "quotient": lambda a, b: a // b if b else 0,
     "remainder": lambda a, b: a % b if b else a,
