@@ -7,6 +7,8 @@ from packing import File, deb, gzipped
 ARCHITECTURE = "amd64"
 LIBRARIES = "usr/lib/x86_64-linux-gnu"
 CLIENT = "usr/lib/python3/dist-packages"
+# Where ./install puts units for systemd, which looks for them there below /usr.
+UNITS = "lib/systemd/"
 # A package's architecture and section, what it depends on beside the C library, and what it is.
 PACKAGES = {
     "tensor": (ARCHITECTURE, "math", "", "programs that answer integer tensor expressions"),
@@ -56,16 +58,18 @@ def package_of(path):
     """The package that has a file of ./install."""
     if path == "lib/libtensor.so.1":
         return "libtensor1"
+    if path.startswith(UNITS):
+        return "tensor"
     return "libtensor-dev" if path.startswith(("lib/", "include/")) else "tensor"
 
 
 def placed(it):
     """A file of ./install as Debian wants it below /usr."""
     path, found, mode = f"usr/{it.path}", it.contents, it.mode
-    if it.path.startswith("lib/"):
+    if it.path.startswith("lib/") and not it.path.startswith(UNITS):
         path = f"{LIBRARIES}/{it.path[len('lib/') :]}"
         # A shared library isn't run.
-        mode = 0o644
+        mode = mode if it.link else 0o644
     if path.endswith(".pc"):
         found = found.replace(b"${prefix}/lib\n", b"${prefix}/lib/x86_64-linux-gnu\n")
     if path.startswith("usr/share/man/"):
