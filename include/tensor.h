@@ -91,11 +91,7 @@ int64_t tensor_evaluate(const uint8_t *header, size_t header_length,
    caller share one answer, each with a range of one list. Values are written where they are wanted,
    and no list of them is made in between.
 
-   What lies below the outermost operation is worked out by each part anew, where it isn't worked out
-   place by place: reductions, contractions and convolutions, and what a reduction takes that is no
-   input. So parts pay for operations on each value and movements, with nothing but these and inputs
-   below; for reductions of an input to many values; and for contractions and convolutions of
-   inputs. Else the whole costs little more than a part of it. Each call also reads the header. */
+   Each part works out anew what tensor_shared tells, and reads the header. */
 int64_t tensor_evaluate_part(const uint8_t *header, size_t header_length,
                              const int64_t *values, size_t values_length,
                              uint64_t first, int64_t *out, size_t out_length);
@@ -108,6 +104,22 @@ int64_t tensor_evaluate_part(const uint8_t *header, size_t header_length,
 int64_t tensor_evaluate_arrays(const uint8_t *header, size_t header_length,
                                const struct tensor_array *arrays, size_t count,
                                uint64_t first, int64_t *out, size_t out_length);
+
+/* Returns how many values each part of the answer of tensor_evaluate_arrays works out anew, before
+   the first of its own; of tensor_evaluate_part and tensor_run, too. None is worked out, and no value
+   of the arrays matters. Faults are returned as by tensor_evaluate_arrays.
+
+   They are the values of what lies below the outermost operation and isn't worked out place by
+   place: of each reduction, contraction and convolution there; and of each operand of one of these,
+   the outermost one too, which isn't such a list already. It is one where it is an input, one of
+   these, or a reshape of one; what a contraction takes may also be any movement of one. Not counted
+   are at most 32,768 values that are repeated by a movement, and what a contraction packs.
+
+   Parts pay where they are few beside a part's own values; or, of a contraction and a convolution,
+   beside the products that it adds. So they do for operations on each value and movements of inputs,
+   for reductions of an input to many values, and for contractions and convolutions of inputs. */
+int64_t tensor_shared(const uint8_t *header, size_t header_length,
+                      const struct tensor_array *arrays, size_t count);
 
 /* Writes the plan of a header whose tensors have `count` values together, whatever these are, and
    returns how many numbers it has: 15 for `add` of two tensors of one axis. Faults, and too little
@@ -210,6 +222,20 @@ static inline int64_t tensor_evaluate_arrays_nullable(
     return result;
 }
 
+static inline int64_t tensor_shared_nullable(const uint8_t *header, size_t header_length,
+                                             const struct tensor_array *arrays, size_t count)
+{
+    struct tensor_array *given = (struct tensor_array *)tensor_place(arrays, count);
+    struct tensor_array *all = tensor_places(given, count);
+    int64_t result = TENSOR_NO_MEMORY;
+    if (all != NULL)
+        result = tensor_shared((const uint8_t *)tensor_place(header, header_length), header_length,
+                               all, count);
+    if (all != given)
+        free(all);
+    return result;
+}
+
 static inline int64_t tensor_prepare_nullable(const uint8_t *header, size_t header_length,
                                               uint64_t count, uint64_t *plan, size_t plan_length)
 {
@@ -263,6 +289,7 @@ static inline int64_t tensor_fault_name_nullable(uint32_t number, uint8_t *name,
 #define tensor_evaluate(...) tensor_evaluate_nullable(__VA_ARGS__)
 #define tensor_evaluate_part(...) tensor_evaluate_part_nullable(__VA_ARGS__)
 #define tensor_evaluate_arrays(...) tensor_evaluate_arrays_nullable(__VA_ARGS__)
+#define tensor_shared(...) tensor_shared_nullable(__VA_ARGS__)
 #define tensor_prepare(...) tensor_prepare_nullable(__VA_ARGS__)
 #define tensor_run(...) tensor_run_nullable(__VA_ARGS__)
 #define tensor_dims(...) tensor_dims_nullable(__VA_ARGS__)

@@ -107,8 +107,16 @@ inline std::size_t evaluate_part(std::string_view header, std::span<const Values
                                                    out.size()));
 }
 
+/* How many values each part of a frame's answer works out anew, before the first of its own. */
+inline std::size_t shared(std::string_view header, std::span<const Values> arrays)
+{
+    const auto lying = detail::lying(arrays);
+    return detail::answered(
+        tensor_shared(detail::bytes(header), header.size(), lying.data(), lying.size()));
+}
+
 /* Writes the values of a frame's tensor, of which there are as many as `out` has room for, in so many
-   parts, each on a thread of its own. tensor.h says of which expressions parts pay. */
+   parts, each on a thread of its own. By `shared` it is known whether parts pay. */
 inline void evaluate(std::string_view header, std::span<const Values> arrays,
                      std::span<std::int64_t> out, unsigned threads = 1)
 {

@@ -16,7 +16,7 @@ TOP = os.path.normpath(os.path.join(os.path.dirname(os.path.realpath(__file__)),
 sys.path.insert(0, os.path.join(TOP, "tests"))
 sys.dont_write_bytecode = True
 
-from fuzzing import reference
+from fuzzing import reference, sharing
 from fuzzing.operations import size
 from fuzzing.rules import FAULTS
 
@@ -77,7 +77,10 @@ class Functions:
         name = ctypes.CFUNCTYPE(number, ctypes.c_uint32, pointer, length)
         self.tensor_evaluate = evaluate(self.evaluate)
         self.tensor_evaluate_arrays = arrays(self.evaluate_arrays)
+        self.tensor_shared = ctypes.CFUNCTYPE(number, *[pointer, length] * 2)(self.shared)
         self.tensor_dims = dims(self.dims)
+        over = ctypes.CFUNCTYPE(number, *[pointer, length] * 3)
+        self.tensor_dims_of_arrays = over(self.dims_of_arrays)
         self.tensor_prepare = dims(self.prepare)
         self.tensor_run = arrays(self.run)
         self.tensor_fault_name = name(self.fault_name)
@@ -108,12 +111,22 @@ class Functions:
         self.write_dims(dims, sizes)
         return len(found)
 
-    def evaluate_arrays(self, header, length, arrays, count, first, out, room):
+    def answered_over(self, header, length, arrays, count, written):
+        """The header and the values of the answer over arrays."""
         held = list(struct.iter_unpack("<QQ", ctypes.string_at(arrays, 16 * count)))
         read = [(header, length, 1), (arrays, 2 * count, 8), *((*it, 8) for it in held)]
-        self.owe(read, [(out, room, 8)])
+        self.owe(read, written)
         given = [numbers_of(ctypes.string_at(place, 8 * size)) for place, size in held]
-        text, found = answered(ctypes.string_at(header, length), sum(given, []))
+        return answered(ctypes.string_at(header, length), sum(given, []))
+
+    def shared(self, header, length, arrays, count):
+        text, _ = self.answered_over(header, length, arrays, count, [])
+        if fault_number(text):
+            return -fault_number(text)
+        return sharing.shared(ctypes.string_at(header, length))
+
+    def evaluate_arrays(self, header, length, arrays, count, first, out, room):
+        text, found = self.answered_over(header, length, arrays, count, [(out, room, 8)])
         if fault_number(text):
             return -fault_number(text)
         part = found[first : first + room]
@@ -145,6 +158,14 @@ class Functions:
         self.asked_dims += 1
         self.owe([(header, length, 1)], [(dims, dims_room, 8)])
         text, found = answered(ctypes.string_at(header, length), [0] * count)
+        if fault_number(text):
+            return -fault_number(text)
+        self.write_dims(dims, json.loads(text)["dims"])
+        return len(found)
+
+    def dims_of_arrays(self, header, length, arrays, count, dims, dims_room):
+        self.asked_dims += 1
+        text, found = self.answered_over(header, length, arrays, count, [(dims, dims_room, 8)])
         if fault_number(text):
             return -fault_number(text)
         self.write_dims(dims, json.loads(text)["dims"])

@@ -10,10 +10,11 @@ import unittest.mock
 import tensor_client as client
 from tensor_client import tensor, where
 from tensor_client import threads
-from tensor_client.memory import overlap
+from tensor_client.library import arrays_of, library_of
+from tensor_client.memory import as_memory, overlap
 from tensor_client.requests import Settings, framed
-from tensor_client.threads import LEAST, are_independent, shares
-from asking import WAYS
+from tensor_client.threads import LEAST, products, shares
+from asking import WAYS, referring
 
 try:
     import numpy
@@ -220,26 +221,62 @@ class Threads(unittest.TestCase):
 
     def test_shares(self):
         x = tensor(range(5))
-        for size, workers, count in (
-            (0, 4, 1),
-            (5, 4, 1),
-            (LEAST * 3, 8, 3),
-            (LEAST * 9, 4, 4),
-            (10**6, 1, 1),
+        for size, workers, shared, count in (
+            (0, 4, 0, 1),
+            (5, 4, 0, 1),
+            (LEAST * 3, 8, 0, 3),
+            (LEAST * 9, 4, 0, 4),
+            (10**6, 1, 0, 1),
+            (LEAST * 9, 4, LEAST, 4),
+            (LEAST * 9, 4, LEAST * 3, 3),
+            (LEAST * 9, 4, LEAST * 5, 1),
+            (LEAST * 9, 4, LEAST * 10, 1),
         ):
-            found = shares(x + 1, size, workers)
+            found = shares(x + 1, size, workers, lambda it=shared: it)
             self.assertEqual(len(found), count)
             self.assertEqual([it for part in found for it in part], list(range(size)))
-        self.assertEqual(len(shares(x.sum() + 1, 10**6, 4)), 1)
+
+    def test_sums_of_products(self):
+        x = tensor(numpy.ones((6, 4), int) if numpy else [[1] * 4] * 6)
         for expr, wanted in (
-            (x, True),
-            (x.sum(), True),
-            (x + x.sum(), False),
-            ((x * 2).reverse(True), True),
-            (client.contract(x, x, []), True),
-            (client.contract(x, client.contract(x, x, [(0, 0)]), []), False),
+            (x, 1),
+            (x.sum(), 1),
+            (x * x, 1),
+            (x @ x.T, 4),
+            (client.contract(x, x, [(0, 0), (1, 1)]), 24),
+            (client.contract(x, x, []), 1),
+            (x.convolve([[1, 2, 3], [4, 5, 6]], 0, 1), 6),
+            (client.Expr("contract", [x, client.Expr("later", [x])], [[[0, 0]]]), 1),
         ):
-            self.assertEqual(are_independent(expr), wanted)
+            self.assertEqual(products(expr), wanted)
+        # What is shared is little beside so many products.
+        self.assertEqual(len(shares(x @ x.T, LEAST * 4, 4, lambda: LEAST * 4)), 4)
+
+    def test_nothing_is_asked_for_one_share(self):
+        def asked():
+            raise AssertionError
+
+        x = tensor(range(5))
+        for size, workers in ((10**6, 1), (2 * LEAST - 1, 8), (0, 4)):
+            self.assertEqual(len(shares(x, size, workers, asked)), 1)
+        self.assertRaises(AssertionError, shares, x, 2 * LEAST, 2, asked)
+
+    def test_what_parts_share(self):
+        for _, library in (referring(), *[(None, it) for it in [library_of()] if it]):
+            rows = tensor([[1, 2, 3], [4, 5, 6]])
+            for expr, wanted in (
+                (rows + 1, 0),
+                (rows.reduced("sum", [0]) * 2, 3),
+                ((rows * 2).reduced("sum", [0]), 6),
+                (rows.contract(rows, [(0, 0)]), 0),
+                (rows.contract(rows * 2, [(0, 0)]), 6),
+            ):
+                asked = framed(expr, Settings())
+                arrays = arrays_of([as_memory(it) for it in asked.held])
+                self.assertEqual(library.shared(asked, arrays), wanted)
+            wrong = framed(client.Expr("later", [rows]), Settings())
+            arrays = arrays_of([as_memory(it) for it in wrong.held])
+            self.assertRaises(client.UnknownOp, library.shared, wrong, arrays)
 
     @unittest.skipIf(numpy is None, "numpy isn't installed")
     def test_parts_of_answers(self):

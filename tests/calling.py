@@ -5,8 +5,8 @@ import ctypes
 MOST = 16_777_216
 LEAST, GREATEST = -(2**63), 2**63 - 1
 DIMS_ROOM, NO_ROOM, NO_PLAN, SPARE, SENTINEL = 9, -100, -101, 3, 77
-CALLS = ("evaluate", "evaluate_part", "evaluate_arrays", "prepare", "run", "dims", "dims_of_arrays")
-CALLS += ("fault_name",)
+CALLS = ("evaluate", "evaluate_part", "evaluate_arrays", "shared", "prepare", "run", "dims")
+CALLS += ("dims_of_arrays", "fault_name")
 TWO = '"a":{"dims":[2]},"b":{"dims":[2]}'
 ENDS = [LEAST, GREATEST, -1, 1]
 
@@ -165,3 +165,54 @@ def array_calls(library):
     little = (ctypes.c_uint64 * 1)(SENTINEL)
     result = library.call("tensor_dims_of_arrays", two, arrays_of([5, 7], [2, 3]), little)
     yield "little room for dims of arrays", (result, *little), (NO_ROOM, SENTINEL)
+
+
+# Expressions over a and b of dims [2, 3] and c of dims [3], and how many values each part works out
+# anew, counted by hand.
+SHARED = [
+    ('"a"', 0),
+    ('["neg",["add","a","b"]]', 0),
+    ('["shuffle",["mul","a","b"],[1,0]]', 0),
+    ('["sum","a",[0]]', 0),
+    ('["sum",["reshape","a",[6]],[0]]', 0),
+    ('["sum",["shuffle","a",[1,0]],[0]]', 6),
+    ('["sum",["neg","a"],[0]]', 6),
+    ('["neg",["sum","a",[0]]]', 3),
+    ('["neg",["sum",["neg","a"],[0]]]', 6 + 3),
+    ('["sum",["sum","a",[0]],[0]]', 3),
+    ('["sum",["reshape",["sum","a",[0]],[3,1]],[0]]', 3),
+    ('["sub","a",["broadcast",["reshape",["sum","a",[1]],[2,1]],[1,3]]]', 2),
+    ('["contract","a","c",[[1,0]]]', 0),
+    ('["contract",["shuffle","a",[1,0]],["reverse","c",[true]],[[0,0]]]', 0),
+    ('["contract",["neg","a"],"c",[[1,0]]]', 6),
+    ('["contract",["neg","a"],["neg","b"],[[0,0]]]', 6 + 6),
+    ('["contract",["shuffle",["neg","a"],[1,0]],"c",[[0,0]]]', 6),
+    ('["contract",["shuffle",["contract","a","b",[[0,0]]],[1,0]],"c",[[0,0]]]', 9),
+    ('["shuffle",["contract","a","b",[[0,0]]],[1,0]]', 9),
+    ('["convolve","a","c",[1]]', 0),
+    ('["convolve",["reverse","a",[true,false]],["neg","c"],[1]]', 6 + 3),
+    ('["add",["sum",["pad","a",[[0,0],[0,1]]],[1]],["sum","a",[1]]]', 8 + 2 + 2),
+    ('["concat",["sum","a",[0]],["maximum","b",[0]],0]', 3 + 3),
+    ('["select",["all","a",[0]],["sum","b",[0]],"c"]', 3 + 3),
+    ('["select","c",["sum",["add","a","b"],[0]],"c"]', 6 + 3),
+    ('["constant",["sum","a",[0]],7]', 3),
+]
+THREE = '"a":{"dims":[2,3]},"b":{"dims":[2,3]},"c":{"dims":[3]}'
+
+
+def shared_calls(library):
+    """Calls that tell how many values the parts of an answer share."""
+    three = arrays_of([0] * 6, [0] * 6, [0] * 3)
+    for expr, wanted in SHARED:
+        text = header(THREE, expr).replace('"version":1', '"version":2')
+        yield f"shared by {expr}", library.call("tensor_shared", bytes_of(text), three), wanted
+    two, long = bytes_of(header(TWO, '["add","a","b"]')), (ctypes.c_uint8 * (MOST + 1))()
+    many = arrays_of([5, 7], (ctypes.c_int64 * (MOST - 1))())
+    for name, text, arrays, wanted in (
+        ("a fault", bytes_of(header(TWO, '["div"]')), arrays_of([5, 7], [2, 3]), -9),
+        ("too few values", two, arrays_of([5, 7], [2]), -7),
+        ("an array too many", two, arrays_of([5, 7], [2, 3], []), -7),
+        ("too long a header", long, arrays_of([5, 7], [2, 3]), -1),
+        ("too many values", two, many, -1),
+    ):
+        yield f"shared by {name}", library.call("tensor_shared", text, arrays), wanted

@@ -5,11 +5,13 @@
                                   in as many again, behind which there is no more memory
      library FILE refuse          refuses each request for memory of each call in turn
    Before that each is answered whole, and by parts of drawn sizes, with the values joined, with an
-   array a tensor, and by its plan; and plans are spoilt, cut, and run over arrays of others. What is
-   read ends before a page that may not be read. A list of nothing is null. FILE has frames: two numbers of 64 bits, h and v, then h bytes of header, then
-   v values; FILE.arrays how many arrays each has, and how long each is, or 2^64 - 1. The memory that
-   the library takes is counted, and refused, by --wrap=malloc,realloc,free. The status is 0 where
-   all is well, and else 1, with a line on standard error. */
+   array a tensor, and by its plan; how many values parts share is compared; and plans are spoilt,
+   cut, and run over arrays of others. What is read ends before a page that may not be read. A list
+   of nothing is null. FILE has frames: two numbers of 64 bits, h and v, then h bytes of header, then
+   v values; FILE.arrays how many arrays each has, or 2^64 - 1, how many values the parts of its
+   answer share, and how long each array is. The memory that the library takes is counted, and
+   refused, by --wrap=malloc,realloc,free. The status is 0 where all is well, and else 1, with a line
+   on standard error. */
 
 #define _GNU_SOURCE
 #include <inttypes.h>
@@ -37,6 +39,8 @@ struct frame {
     struct tensor_array *arrays;
     size_t array_count;
     bool has_arrays;
+    /* How many values each part of the answer is to work out anew. */
+    int64_t shared;
     /* The answer of the first call: its result, and the values and dims behind it. */
     int64_t result;
     int64_t *out;
@@ -173,7 +177,8 @@ static uint64_t number(const uint8_t *bytes, size_t *at)
     return found;
 }
 
-/* Reads how long the arrays of each frame are, and gives each a block of its own. */
+/* Reads how long the arrays of each frame are, each of which is given a block of its own, and how
+   many values the parts of its answer share. */
 static void read_arrays(const char *path)
 {
     char beside[4096];
@@ -184,6 +189,7 @@ static void read_arrays(const char *path)
         struct frame *it = &frames[i];
         uint64_t count = number(bytes, &at);
         it->has_arrays = count != UINT64_MAX;
+        it->shared = (int64_t)number(bytes, &at);
         it->array_count = it->has_arrays ? count : 0;
         it->arrays = __real_malloc((it->array_count + 1) * sizeof *it->arrays);
         const uint8_t *values = (const uint8_t *)it->values;
@@ -337,6 +343,17 @@ static void check_parts(const struct frame *it, uint64_t *state)
         check_part(it, first, room);
         first += room;
     }
+}
+
+/* Asks how many values the parts of a frame's answer share, where memory may be refused. */
+static void check_shared(const struct frame *it)
+{
+    int64_t before = held;
+    int64_t result = tensor_shared(it->header, it->header_length, it->arrays, it->array_count);
+    if (held != before)
+        fail("a call that counts keeps memory");
+    if (result != (it->result < 0 ? it->result : it->shared) && (result != -15 || !was_refused))
+        fail("another number of values that parts share");
 }
 
 /* Prepares a frame's header into a list with others before and behind it, which have to stay. */
@@ -665,7 +682,7 @@ static void refuse_all(void)
         refusals += refuse_each(it, call_whole) + refuse_each(it, call_part);
         refusals += refuse_each(it, check_plan) + refuse_each(it, check_dims);
         if (it->has_arrays)
-            refusals += refuse_each(it, call_arrays);
+            refusals += refuse_each(it, call_arrays) + refuse_each(it, check_shared);
         if (it->plan)
             refusals += refuse_each(it, call_run);
     }
@@ -696,6 +713,8 @@ int main(int count, char **words)
         first_answer(&frames[at]);
         first_plan(&frames[at]);
         check_parts(&frames[at], &state);
+        if (frames[at].has_arrays)
+            check_shared(&frames[at]);
     }
     spoil_plans(&state);
     if (count == 4)

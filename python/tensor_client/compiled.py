@@ -12,7 +12,7 @@ from typing import Any, Callable, Dict, Iterable, List, Sequence, Tuple
 from .explaining import explain
 from .expressions import Expr
 from .faults import Fault, ShapeMismatch
-from .library import Library, library_of
+from .library import Library, arrays_of, library_of
 from .length import MOST_NODES
 from .memory import INT64, VALUE, as_memory, memory_for, numbers, place_of
 from .requests import Settings, framed
@@ -109,7 +109,11 @@ class Plan:
         self.dims = library.dims_of(frame)
         self.size, self.numbers = product(self.dims), library.prepared(frame)
         self.length = len(self.numbers)
-        self.places = shares(expr, self.size, settings.workers)
+
+        def shared() -> int:
+            return library.shared(frame, arrays_of([as_memory(it) for it in frame.held]))
+
+        self.places = shares(expr, self.size, settings.workers, shared)
         self.room = ctypes.c_int64 * self.size
         # Where each array lies and how many values it has, one behind another; and where among
         # these numbers the arrays of a call stand.

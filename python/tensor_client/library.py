@@ -42,6 +42,7 @@ class Library:
             opened = ctypes.CDLL(path)
             self.evaluate: Any = opened.tensor_evaluate
             self.evaluate_arrays: Any = opened.tensor_evaluate_arrays
+            self.shared_by_parts: Any = opened.tensor_shared
             self.dims: Any = opened.tensor_dims
             self.dims_of_arrays: Any = opened.tensor_dims_of_arrays
             self.prepare: Any = opened.tensor_prepare
@@ -51,6 +52,7 @@ class Library:
             raise ProgramFailed(f"no library: {by}{path}: {fault}") from fault
         self.evaluate.argtypes = [POINTER, SIZE] * 4
         self.evaluate_arrays.argtypes = [POINTER, SIZE, POINTER, SIZE, NUMBER, POINTER, SIZE]
+        self.shared_by_parts.argtypes = [POINTER, SIZE] * 2
         self.dims.argtypes = self.prepare.argtypes = [POINTER, SIZE, NUMBER, POINTER, SIZE]
         self.dims_of_arrays.argtypes = [POINTER, SIZE] * 3
         self.run_plan.argtypes = self.evaluate_arrays.argtypes
@@ -58,6 +60,7 @@ class Library:
         for it in (
             self.evaluate,
             self.evaluate_arrays,
+            self.shared_by_parts,
             self.dims,
             self.dims_of_arrays,
             self.prepare,
@@ -86,7 +89,11 @@ class Library:
             dims = self.dims_over(asked.header, arrays, len(parts))
         values = result.place(dims, asked.held)
         by_header = self.evaluate_arrays, asked.header
-        places = shares(expr, len(values), settings.workers)
+
+        def shared() -> int:
+            return self.shared(asked, arrays)
+
+        places = shares(expr, len(values), settings.workers, shared)
         self.fill(by_header, arrays, len(parts), values, places)
         return result.tensor(values, dims, expr.truth)
 
@@ -121,6 +128,14 @@ class Library:
         if size < 0:
             raise self.fault(-size)
         return tuple(dims[1 : 1 + dims[0]])
+
+    def shared(self, asked: Framed, arrays: Any) -> int:
+        """How many values each part of the answer works out anew of these arrays of a frame."""
+        header, many = asked.header, len(asked.held)
+        count: int = self.shared_by_parts(header, len(header), arrays, many)
+        if count < 0:
+            raise self.failed(count)
+        return count
 
     def prepared(self, asked: Framed) -> Any:
         """The plan of a frame: what its header asks for, as an array of numbers."""

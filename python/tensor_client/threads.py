@@ -8,42 +8,41 @@ from concurrent.futures import ThreadPoolExecutor
 from typing import Callable, List, Optional
 
 from .expressions import Expr
+from .rules import product
 
 # So many values a part has at least: a thread is handed one in some 50 microseconds.
 LEAST = 1 << 15
-# What combines many values into one. A part works out anew all of what it needs of these, where
-# they stand below the last operation.
-COMBINING = frozenset("sum prod maximum minimum all any contract convolve".split())
 
 POOL: Optional[ThreadPoolExecutor] = None
 
 
-def shares(expr: Expr, size: int, workers: int) -> List[range]:
+def shares(expr: Expr, size: int, workers: int, shared: Callable[[], int]) -> List[range]:
     """The places of an answer of so many values, cut into a share for each of the workers that are
-    worth it.
+    worth it: each part is to take no less work than what it works out anew, which is asked for
+    where there may be several.
 
-    >>> shares(tensor([1, 2]) + 1, 2, 4)
+    >>> shares(tensor([1, 2]) + 1, 2, 4, lambda: 0)
     [range(0, 2)]
     """
-    count = min(workers, size // LEAST) if workers > 1 and are_independent(expr) else 1
-    ends = [size * it // max(count, 1) for it in range(max(count, 1) + 1)]
+    count = max(min(workers, size // LEAST), 1)
+    if count > 1:
+        count = max(min(count, size * products(expr) // max(shared(), 1)), 1)
+    ends = [size * it // count for it in range(count + 1)]
     return [range(*it) for it in zip(ends, ends[1:])]
 
 
-def are_independent(expr: Expr) -> bool:
-    """Whether parts of an expression's values have no work in common: nothing is combined below its
-    last operation.
+def products(expr: Expr) -> int:
+    """How many products a value of a contraction or a convolution is the sum of; 1 of others.
 
-    >>> are_independent(tensor([1, 2]).sum() + 1), are_independent((tensor([1, 2]) + 1).sum())
-    (False, True)
+    >>> products(tensor([[1, 2, 3]]) @ tensor([1, 2, 3])), products(tensor([1, 2]) * 3)
+    (3, 1)
     """
-    left = list(expr.operands)
-    while left:
-        it = left.pop()
-        if it.operation in COMBINING:
-            return False
-        left += it.operands
-    return True
+    if expr.dims is None or expr.operation not in ("contract", "convolve"):
+        return 1
+    first, second = (it.dims or () for it in expr.operands)
+    if expr.operation == "convolve":
+        return product(second)
+    return product([first[it] for it, _ in expr.arguments[0]])
 
 
 def each(work: Callable[[range], None], parts: List[range]) -> None:

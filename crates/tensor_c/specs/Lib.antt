@@ -2,3 +2,4 @@ pub mod Answer
 pub mod Call
 pub mod Part
 pub mod Plan
+pub mod Shared

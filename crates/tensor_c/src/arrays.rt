@@ -33,11 +33,7 @@ pub(crate) fn put_part_over(
 }
 
 /// The dims of the tensor of a header and arrays. None of the arrays' values is read.
-pub(crate) fn dims_over(
-    alloc: Global,
-    header: &[u8],
-    arrays: &[Array<'_>],
-) -> Result<Dims, Fault>
+pub(crate) fn dims_over(alloc: Global, header: &[u8], arrays: &[Array<'_>]) -> Result<Dims, Fault>
     ensures dims { MatchResult result
         (λ dims. dims_of_arrays header.now (arrays_under arrays.now) ≡ Ok dims)
         (λ fault. (fault ≡ Fault.NoMemory)

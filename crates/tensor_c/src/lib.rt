@@ -10,6 +10,7 @@ mod laws;
 mod part;
 mod plan;
 mod room;
+mod shared;
 
 ghost use Rattle.std.specs.Prelude.{◌≡◌, ◌≢◌, ◌≤ℤ◌, ℤ, pos, List, length, Ok, Err};
 ghost use Rattle.expr_reader.specs.Arrays.{arrays_under, joined};
@@ -24,6 +25,7 @@ ghost use Rattle.tensor_c.specs.Call.{called, called_for_dims, called_for_name};
 ghost use Rattle.tensor_c.specs.Part.{IsPartCall, called_for_part};
 ghost use Rattle.tensor_c.specs.Plan.{asked_over, plan_over, prepared_of, called_for_plan};
 ghost use Rattle.tensor_c.specs.Plan.{IsPlan, IsPlanCall, answer_of_plan, IsRefused};
+ghost use Rattle.tensor_c.specs.Shared.{shared_over, called_for_count, IsCountCall};
 
 use crate::arrays::{dims_over, put_part_over};
 use crate::evaluation::{dims_of, put_answer};
@@ -31,6 +33,7 @@ use crate::faults::{fault_of, result_of};
 use crate::part::put_part;
 use crate::plan::{put_plan, put_planned};
 use crate::room::{put_dims, put_text};
+use crate::shared::shared_by_parts;
 use expr_reader::Array;
 pub use laws::{calls_for_parts_are_one, parts_make_the_whole, plans_answer_for_headers};
 use std::alloc::Global;
@@ -166,6 +169,18 @@ pub extern "C" fn tensor_run(
     ensures len { length out.new ≡ length out.old }
 {
     put_planned(alloc, plan, arrays, first, out)
+}
+
+/// How many values each part of the answer of a header and arrays works out anew, before the first
+/// of its own: what lies below the outermost operation and isn't worked out place by place. None is
+/// worked out. Of a fault the number is returned, negated.
+#[unsafe(no_mangle)]
+pub extern "C" fn tensor_shared(alloc: Global, header: &[u8], arrays: &[Array<'_>]) -> i64
+    ensures call { IsCountCall (shared_over header.now (arrays_under arrays.now)) result }
+    ensures too_long { IsTooLong header.now (length (joined (arrays_under arrays.now)))
+        → result ≡ called_for_count (Err Fault.TooLong) }
+{
+    shared_by_parts(alloc, header, arrays)
 }
 
 /// Writes the name of the fault of a number, with a 0 behind it as C ends a text, and returns how
