@@ -4,7 +4,6 @@ pub mod Fits
 pub mod Freeing
 pub mod FusedTerms
 pub mod Held
-pub mod Leaves
 pub mod Named
 pub mod NextSteps
 pub mod Operands

@@ -4,7 +4,7 @@ use Rattle.tensor_reduce.specs.declared.schedule.worth.Load.{Load}
 
 -- how long opening and closing a pool takes, and each worker of it beside that
 abbrev pub pool_time : ℕ
-pool_time = 10000
+pool_time = 40000
 
 abbrev pub start_time : ℕ
 start_time = 60000

@@ -3,7 +3,6 @@
 pub(crate) mod combined;
 pub(crate) mod freeing;
 pub(crate) mod fused_expr;
-pub(crate) mod leaves;
 pub(crate) mod ranged;
 pub(crate) mod scheduled;
 pub(crate) mod shard_kernel;
@@ -32,8 +31,7 @@ use tensor_ops::{Inputs, Tensor};
 
 /// The tensor of a plan's last step. The steps are worked out one after the other, each by blocks of
 /// its places on workers of a pool that the setup describes: as many as are worth their start, by
-/// what the step costs. Where that is one, the calling thread works out one block after the other,
-/// and no pool is opened.
+/// what the step costs. Where that is one, the calling thread works it out, and no pool is opened.
 ///
 /// A reduction or a contraction of at most 64 values is worked out in shards, each a leaf of its
 /// own. An operand that an inner product reads alone, or a reduction over four index lists a value or

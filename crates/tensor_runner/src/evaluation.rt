@@ -22,9 +22,8 @@ impl From<AllocError> for RunFault {
     }
 }
 
-/// The tensor that a request asks for, worked out in blocks of the size that it names, or whole
-/// columns of a contraction, by as many of its workers as are worth their start, or by the calling
-/// thread. Neither workers nor block change the tensor.
+/// The tensor that a request asks for, worked out by its workers in blocks of the size that it
+/// names. Neither changes the tensor.
 ///
 /// # Errors
 ///

@@ -6,10 +6,9 @@ ghost use Rattle.tensor_ops.specs.Parts.{inner_size};
 ghost use Rattle.tensor_ops.specs.PartEvaluator.{term_in_parts, inputs_in_parts};
 ghost use Rattle.tensor_reduce.specs.Shards.{lists_cut};
 
-use crate::running::leaves::leaf_end;
 use crate::shards::Shards;
 use parallel_for::Kernel;
-use std::alloc::{AllocError, Allocator, Global};
+use std::alloc::{AllocError, Allocator};
 use tensor_ops::PartEvaluator;
 
 /// Works out what shards give of values, by ranges of places: first all shards of the first value,
@@ -32,31 +31,6 @@ impl<'a> ShardKernel<'a> {
         let count = self.shards.count();
         let (first, last) = self.shards.range(place % count);
         self.parts.part(place / count, first, last)
-    }
-
-    /// What so many shards give, by the calling thread: each shard is worked out by itself, or so
-    /// many whole values at a time.
-    pub(crate) fn in_leaves(&self, alloc: Global, n: u64, leaf: u64) -> Result<Vec<i64>, AllocError>
-        requires within { n ≤ shard_places self.now }
-        requires some { 0 < leaf }
-        ensures { IfOk result (λ found.
-            found.items ≡ map (shard_at_place self.now) (range_with_len 0 n)) }
-    {
-        if self.shards.count() > 1 {
-            return self.each(alloc, 0, n);
-        }
-        if n <= leaf {
-            return self.fill(alloc, 0, n);
-        }
-        let mut found = Vec::with_capacity(alloc, n as usize)?;
-        let mut first = 0;
-        while first < n {
-            let last = leaf_end(first, n, leaf);
-            let values = self.fill(alloc, first, last)?;
-            found.extend_from_slice(values.as_slice())?;
-            first = last;
-        }
-        Ok(found)
     }
 
     /// What the shards from one to before another give, one after the other.

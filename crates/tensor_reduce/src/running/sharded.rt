@@ -18,7 +18,7 @@ use crate::shards::Shards;
 use parallel_for::ForFault;
 use std::sync::Wait;
 use std::thread::Threads;
-use tensor_ops::{Dims, Expr, Inputs, PartEvaluator, Tensor};
+use tensor_ops::{Dims, Expr, Inputs, MAX_ELEMENTS, PartEvaluator, Tensor};
 
 /// The tensor of a reduction or a contraction of these dims, whose values are worked out in shards
 /// and combined.
@@ -43,7 +43,12 @@ pub(crate) fn of_shards<RT: Threads + Wait + Sync>(
     let (inner, values) = (parts.inner(), dims.size());
     let shards = Shards::of(inner, sharding.width);
     let count = shards.count();
-    let leaf = sharding.leaf_of(inner, values);
+    let is_short = inner.saturating_mul(values) <= sharding.few;
+    let leaf = if is_short {
+        MAX_ELEMENTS
+    } else {
+        sharding.leaf
+    };
     let found = found_of(workers, ShardKernel { parts, shards }, values * count, leaf)?;
     let combined = combined_values(
         workers.alloc,
@@ -69,8 +74,5 @@ fn found_of<RT: Threads + Wait + Sync>(
         found.items ≡ map (shard_at_place kernel.entry) (range_with_len 0 places)) }
     ensures faults { IfErr result (λ fault. fault ≡ ForFault.NoMemory) }
 {
-    if workers.count <= 1 {
-        return Ok(kernel.in_leaves(workers.alloc, places, leaf)?);
-    }
     workers.items(&kernel, places, leaf)
 }

@@ -1,12 +1,11 @@
 //! The kernel of a step.
 
-ghost use Rattle.std.specs.Prelude.{◌≡◌, ◌<◌, ◌≤◌, ◌-◌, ◌++◌, length, IfOk, OnOk, IsOk, IsTrue};
+ghost use Rattle.std.specs.Prelude.{◌≡◌, ◌++◌, length, IfOk, IsOk, IsTrue};
 ghost use Rattle.tensor_ops.specs.Legal.{highest_rank};
 ghost use Rattle.tensor_ops.specs.Result.{dims_of};
 ghost use Rattle.tensor_ops.specs.Term.{has_inputs};
 ghost use Rattle.tensor_ops.specs.Tree.{term_of};
 
-use crate::running::leaves::leaf_end;
 use crate::step::Step;
 use parallel_for::Kernel;
 use std::alloc::{AllocError, Allocator, Global};
@@ -20,8 +19,7 @@ pub struct StepKernel<'a> {
 }
 
 impl<'a> StepKernel<'a> {
-    ghost use Rattle.tensor_ops.specs.Value.{values_from};
-    ghost use Rattle.tensor_reduce.specs.Kernels.{kernel_term, kernel_tensors, kernel_size};
+    ghost use Rattle.tensor_reduce.specs.Kernels.{kernel_term, kernel_tensors};
     ghost use Rattle.tensor_reduce.specs.Plan.{IsReady, term_of_step};
 
     /// The kernel of a step over inputs and the tensors of the steps before it.
@@ -57,42 +55,6 @@ impl<'a> StepKernel<'a> {
         let evaluator = TensorEvaluator::over(alloc, expr, inputs, earlier)?;
         Ok(StepKernel { evaluator })
     }
-
-    /// The values at the places below `n`, so many at a time: each where it is to stand.
-    pub(crate) fn in_leaves(&self, alloc: Global, n: u64, leaf: u64) -> Result<Vec<i64>, AllocError>
-        requires within { n ≤ kernel_size self.now }
-        requires some { 0 < leaf }
-        ensures { IfOk result (λ v.
-            v.items ≡ values_from (kernel_term self.now) (kernel_tensors self.now) 0 n) }
-    {
-        let mut values = Vec::with_capacity(alloc, n as usize)?;
-        let mut first = 0;
-        while first < n {
-            let last = leaf_end(first, n, leaf);
-            self.add(first, last, &mut values)?;
-            first = last;
-        }
-        Ok(values)
-    }
-
-    /// Adds the values at the places from one to before another to those of a list.
-    fn add<A: Allocator>(
-        &self,
-        first: u64,
-        last: u64,
-        values: &mut Vec<i64, A>,
-    ) -> Result<(), AllocError>
-        requires order { first ≤ last }
-        requires within { last ≤ kernel_size self.now }
-        ensures { OnOk result (values.new.items ≡ values.old.items
-            ++ values_from (kernel_term self.now) (kernel_tensors self.now) first (last - first)) }
-    {
-        // Says that there are no more places than dims can have.
-        let _places = self.evaluator.dims().size();
-        let before = values.len();
-        values.resize(before + (last - first) as usize, 0)?;
-        self.evaluator.fill(first, &mut values[before..])
-    }
 }
 
 // It has a place for each of the step's, and there the value of the step's expression.
@@ -112,8 +74,6 @@ impl<'a> Kernel for StepKernel<'a> {
         first: u64,
         last: u64,
     ) -> Result<Vec<i64, A>, AllocError> {
-        let mut values = Vec::with_capacity(alloc, (last - first) as usize)?;
-        self.add(first, last, &mut values)?;
-        Ok(values)
+        self.evaluator.values(alloc, first, last)
     }
 }

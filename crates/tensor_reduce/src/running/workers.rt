@@ -51,7 +51,7 @@ impl<'a, RT> Workers<'a, RT> {
 
 impl<RT: Threads + Wait + Sync> Workers<'_, RT> {
     /// The items of a kernel at the places below `n`, so many at a time on the workers that take
-    /// part, of which there are several.
+    /// part. Where that is one, it is the calling thread, which works all of them out in one go.
     pub(crate) fn items<K>(&self, kernel: &K, n: u64, leaf: u64) -> Result<Vec<K::Item>, ForFault>
     where
         K: Kernel + Sync,
@@ -59,10 +59,12 @@ impl<RT: Threads + Wait + Sync> Workers<'_, RT> {
         requires inside { n ≤ K.size kernel.now }
         requires few { n ≤ most_items }
         requires some { 0 < leaf }
-        requires several { 1 < self.now.count }
         ensures items { IfOk result (λ items. AreItems (K.item_at kernel.now) 0 n items.items) }
         ensures faults { IfErr result (λ fault. fault ≡ ForFault.NoMemory) }
     {
+        if self.count <= 1 {
+            return parallel_for(self.rt, self.alloc, self.setup, kernel, n, n.max(1));
+        }
         if self.count >= self.setup.workers {
             return parallel_for(self.rt, self.alloc, self.setup, kernel, n, leaf);
         }

@@ -106,13 +106,9 @@ fn thousand_of(expr: &Expr, places: u64) -> u64 {
             thousand_of(a, places).saturating_add(IN_ROWS)
         }
         Node::Unary(operation, a) => thousand_of(a, places).saturating_add(one_operand(operation)),
-        Node::Binary(operation, a, b) => {
-            let (first, second) = (thousand_of(a, places), thousand_of(b, places));
-            let (first, second) = beside(operation, (a, first), (b, second));
-            first
-                .saturating_add(second)
-                .saturating_add(two_operands(operation))
-        }
+        Node::Binary(operation, a, b) => thousand_of(a, places)
+            .saturating_add(thousand_of(b, places))
+            .saturating_add(two_operands(operation)),
         Node::Ternary(_, a, b, c) => thousand_of(a, places)
             .saturating_add(thousand_of(b, places))
             .saturating_add(thousand_of(c, places))
@@ -129,24 +125,6 @@ fn one_operand(operation: Unary<'_>) -> u64 {
         Unary::Move(Movement::Shuffle(_) | Movement::Stride(_)) | Unary::Pad(_) => SCATTERED,
         Unary::Move(_) => IN_ROWS,
         Unary::Reduce(reducer, _) => combining(reducer),
-    }
-}
-
-/// What a thousand values of two operands take: one of them is combined as it is read, where it is
-/// read in rows.
-fn beside(operation: Binary<'_>, first: (&Expr, u64), second: (&Expr, u64)) -> (u64, u64) {
-    match operation {
-        Binary::Pairwise(_) if is_in_rows(second.0, second.1) => (first.1, 0),
-        Binary::Pairwise(_) if is_in_rows(first.0, first.1) => (0, second.1),
-        _ => (first.1, second.1),
-    }
-}
-
-/// Whether an expression, of which a thousand values take so long, is one that is read in rows.
-fn is_in_rows(expr: &Expr, thousand: u64) -> bool {
-    match expr.node() {
-        Node::Unary(Unary::Move(_), _) => thousand <= IN_ROWS,
-        _ => false,
     }
 }
 

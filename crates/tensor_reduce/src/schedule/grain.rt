@@ -1,6 +1,6 @@
 //! The grain of parallel work: how many values a leaf has.
 
-ghost use Rattle.std.specs.Prelude.{◌<◌, ◌≤◌};
+ghost use Rattle.std.specs.Prelude.{◌<◌};
 
 use crate::schedule::worth::Load;
 use crate::shards::MOST_SHARDS;
@@ -61,8 +61,7 @@ impl Grain {
     /// most, and so few that there is a leaf for each block of the places, up to some for each
     /// worker.
     pub(crate) fn leaf_size(self, values: u64, places: u64) -> u64
-        ensures some { 0 < result }
-        ensures block { result ≤ self.block }
+        ensures { 0 < result }
     {
         values.div_ceil(self.shares(places)).min(self.block).max(1)
     }
@@ -119,13 +118,10 @@ impl Grain {
     }
 
     /// Among how many leaves the work over so many places is shared: one for each block of them, up
-    /// to some for each worker, and one where there is nobody to share it with.
+    /// to some for each worker.
     fn shares(self, places: u64) -> u64
         ensures { 0 < result }
     {
-        if self.workers <= 1 {
-            return 1;
-        }
         let most = u64::from(self.workers).saturating_mul(SHARES);
         most.min(places / self.block).max(1)
     }

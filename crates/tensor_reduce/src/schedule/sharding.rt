@@ -17,10 +17,10 @@ pub(crate) struct Sharding {
     pub(crate) workers: u32,
     /// How many index lists a shard has, where there are not too many shards.
     pub(crate) width: u64,
-    /// How many shards are worked out at a time, by workers.
-    leaf: u64,
+    /// How many shards are worked out at a time.
+    pub(crate) leaf: u64,
     /// Up to how many index lists of all values the shards are one leaf.
-    few: u64,
+    pub(crate) few: u64,
     ghost some: { 0 < leaf },
 }
 
@@ -65,20 +65,6 @@ impl Sharding {
             leaf: (places / run.max(1)).max(1),
             few: 0,
         }
-    }
-
-    /// How many shards are worked out at a time of so many values, each over so many index lists:
-    /// all where those are few, and by the calling thread as many whole values as are over few.
-    pub(crate) fn leaf_of(self, inner: u64, values: u64) -> u64
-        ensures { 0 < result }
-    {
-        if inner.saturating_mul(values) <= self.few {
-            return MAX_ELEMENTS;
-        }
-        if self.workers > 1 {
-            return self.leaf;
-        }
-        self.leaf.max(self.few / inner.max(1))
     }
 }
 

@@ -4,7 +4,7 @@
 ghost use Rattle.std.specs.Prelude.{◌≡◌, ◌≤◌, ◌+◌, ◌^◌};
 
 /// How long opening and closing a pool takes.
-const POOL: u64 = 10_000;
+const POOL: u64 = 40_000;
 
 /// How long it takes to start one worker more and to wait for its end: workers are started one
 /// after the other.
