@@ -1,6 +1,8 @@
 """Calls of the library from Python, by ctypes, for tests/library."""
 
 import ctypes
+import math
+import random
 
 MOST = 16_777_216
 LEAST, GREATEST = -(2**63), 2**63 - 1
@@ -13,6 +15,30 @@ ENDS = [LEAST, GREATEST, -1, 1]
 
 def header(inputs, expr):
     return f'{{"version":1,"workers":1,"block":1,"inputs":{{{inputs}}},"expr":{expr}}}'
+
+
+LINE, SQUARE, ONE = [1_048_576], [1_024, 1_024], [1]
+# Frames of many values whose parts share none: an expression, how many values its answer has, and
+# the dims of `a` and of `b`.
+LARGE = [
+    ('["add","a","b"]', 1_048_576, LINE, LINE),
+    ('["max",["mul",["add","a","b"],["sub","a","b"]],["neg","a"]]', 1_048_576, LINE, LINE),
+    ('["select",["lt","a","b"],"a","b"]', 1_048_576, LINE, LINE),
+    ('["sum",["mul","a","b"],[0]]', 1, LINE, LINE),
+    ('["sum","a",[0]]', 1_024, SQUARE, ONE),
+    ('["shuffle","a",[2,0,1]]', 1_048_576, [64, 128, 128], ONE),
+    ('["contract","a","b",[[1,0]]]', 1_048_576, SQUARE, SQUARE),
+    ('["convolve","a","b",[0,1]]', 1_009 * 1_009, SQUARE, [16, 16]),
+]
+
+
+def large_frame(expr, _, *dims):
+    """The header of one of these, and values for it: some thousand drawn ones, again and again."""
+    inputs = ",".join(f'"{name}":{{"dims":{it}}}' for name, it in zip("ab", dims))
+    count, source = sum(map(math.prod, dims)), random.Random(expr)
+    drawn = [source.randint(LEAST, GREATEST) for _ in range(1_009)]
+    values = (drawn * (count // len(drawn) + 1))[:count]
+    return header(inputs, expr).replace('"version":1', '"version":2'), values
 
 
 class Array(ctypes.Structure):

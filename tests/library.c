@@ -4,6 +4,7 @@
                                   each whole and by a part on each thread, in so many passes, and
                                   in as many again, behind which there is no more memory
      library FILE refuse          refuses each request for memory of each call in turn
+     library FILE peaks           prints how many bytes each way of answering a frame holds at most
    Before that each is answered whole, and by parts of drawn sizes, with the values joined, with an
    array a tensor, and by its plan; how many values parts share is compared; and plans are spoilt,
    cut, and run over arrays of others. What is read ends before a page that may not be read. A list
@@ -60,6 +61,9 @@ static size_t frame_count;
 static _Thread_local int64_t held, left = -1;
 static _Thread_local bool was_refused;
 
+/* How many bytes these blocks have, and the most that they had since this was set. */
+static _Thread_local int64_t bytes_held, most_bytes;
+
 void *__real_malloc(size_t size);
 void *__real_realloc(void *block, size_t size);
 void __real_free(void *block);
@@ -73,23 +77,37 @@ static bool refuses(void)
     return refused;
 }
 
+/* Counts so many bytes more, and then so many fewer: a block that moves is there twice. */
+static void count_bytes(size_t more, size_t fewer)
+{
+    bytes_held += (int64_t)more;
+    if (bytes_held > most_bytes)
+        most_bytes = bytes_held;
+    bytes_held -= (int64_t)fewer;
+}
+
 void *__wrap_malloc(size_t size)
 {
     void *block = refuses() ? NULL : __real_malloc(size);
     held += block != NULL;
+    count_bytes(malloc_usable_size(block), 0);
     return block;
 }
 
 void *__wrap_realloc(void *block, size_t size)
 {
+    size_t before = malloc_usable_size(block);
     void *moved = refuses() ? NULL : __real_realloc(block, size);
     held += block == NULL && moved != NULL;
+    if (moved)
+        count_bytes(malloc_usable_size(moved), before);
     return moved;
 }
 
 void __wrap_free(void *block)
 {
     held -= block != NULL;
+    count_bytes(0, malloc_usable_size(block));
     __real_free(block);
 }
 
@@ -702,12 +720,37 @@ static void spoil_plans(uint64_t *state)
         fail("no plan was spoilt");
 }
 
+/* Prints how many bytes the library holds at most for a frame's answer: in one call that writes
+   nothing before it has all, in one for a part that is the whole, and by the plan. */
+static void print_peaks(struct frame *it)
+{
+    first_answer(it);
+    first_plan(it);
+    size_t room = part_size(it, 0, SIZE_MAX);
+    int64_t *out = guarded(room), peaks[3];
+    uint64_t dims[TENSOR_DIMS_ROOM];
+    for (int way = 0; way < 3; way++) {
+        most_bytes = bytes_held = 0;
+        if ((way == 0 ? answer(it, out, room, dims)
+                      : answer_part(it, way == 1 ? JOINED : PLANNED, 0, out, room)) != it->result)
+            fail("another answer where bytes are counted");
+        peaks[way] = most_bytes;
+    }
+    free_guarded(out, room);
+    printf("%" PRId64 " %" PRId64 " %" PRId64 "\n", peaks[0], peaks[1], peaks[2]);
+}
+
 int main(int count, char **words)
 {
     if (count < 2)
         fail("which frames?");
     read_frames(words[1]);
     read_arrays(words[1]);
+    if (count == 3 && strcmp(words[2], "peaks") == 0) {
+        for (size_t at = 0; at < frame_count; at++)
+            print_peaks(&frames[at]);
+        return 0;
+    }
     uint64_t state = 1;
     for (size_t at = 0; at < frame_count; at++) {
         first_answer(&frames[at]);
