@@ -36,7 +36,8 @@ def text_of(name):
 
 def documented():
     """The operations of the table in docs/REQUEST.md."""
-    return set(re.findall(r'(?m)^\| `\["(\w+)", ', text_of("REQUEST.md")))
+    cells = re.findall(r'(?m)^\| (`\["\w+", [^|]*) \|', text_of("REQUEST.md"))
+    return {name for cell in cells for name in re.findall(r'"(\w+)"', cell)}
 
 
 class Asked(OneWay):

@@ -1,5 +1,9 @@
 """Valid requests at random, by the grammar of docs/REQUEST.md: each part is made for the dims that
-it is to have, from the root down."""
+it is to have, from the root down.
+
+A new operation is a call of Grammar with its name in MAKERS, or in MAKERS_OF for version 2; on
+values a name in UNARY or BINARY instead, a reduction one in REDUCTIONS.
+"""
 
 import math
 

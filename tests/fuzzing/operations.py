@@ -1,5 +1,10 @@
 """The operations of a request, by name: their result dims and their values, one index list after
-another, as docs/REQUEST.md has them."""
+another, as docs/REQUEST.md has them.
+
+A new one is a line of OPERATIONS, or of ADDED for version 2; on values a line of POINTWISE instead,
+a reduction one of REDUCTIONS here and in grammar.py. A version is a line of OPERATIONS_OF and of
+VERSIONS in rules.py.
+"""
 
 import itertools
 import math

@@ -1,4 +1,7 @@
-"""Requests that are nearly valid, texts of requests, and bytes that are spoilt."""
+"""Requests that are nearly valid, texts of requests, and bytes that are spoilt.
+
+A new operation that has checks gets a function in BROKEN.
+"""
 
 import json
 
