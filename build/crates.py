@@ -1,10 +1,14 @@
 """The repository's crates: what they are made of, and copies of them to work in."""
 
+import functools
 import hashlib
 import os
 import re
 import shutil
 import subprocess
+import sys
+
+from usage import fail
 
 TOP = os.path.dirname(os.path.dirname(os.path.abspath(__file__)))
 CRATES = os.path.join(TOP, "crates")
@@ -40,6 +44,20 @@ class Crate:
             found[it.name] = it
         return found
 
+    def command(self, work, rlib_of, rooms):
+        """The prover's command for this work on the crate, but for flags and the file behind it: over
+        libraries that stand where `rlib_of` says, and those that these take in these rooms."""
+        folder = kit()
+        words = [f"{folder}/bin/rattle", work, "--crate-name", self.name]
+        for name in ["std", *self.of_kit]:
+            words += ["--extern", f"{name}={folder}/rlibs/{name}.rlib"]
+        for it in self.below:
+            words += ["--extern", f"{it.name}={rlib_of(it)}"]
+        for room in [f"{folder}/rlibs", *rooms]:
+            words += ["-L", f"dependency={room}"]
+        words += ["--antt-project", f"{folder}/rattle/logic/antt-project.json"]
+        return [*words, "--logic-built", f"{folder}/logic_built"]
+
 
 def opened(path):
     return open(path, "rb")
@@ -55,20 +73,25 @@ def files_in(folder, part):
     return sorted(walked)
 
 
-def crates():
-    """All crates by name, each behind those that it stands on."""
+def listed():
+    """The lines of crates.txt by the crate's name, each with the names that stand below it."""
     with open(os.path.join(TOP, "crates.txt"), encoding="utf-8") as file:
         lines = re.findall(r"(?m)^((\w+)[^:#\n]*:(.*))", file.read())
-    listed, found = {name: (line, words.split()) for line, name, words in lines}, {}
+    return {name: (line, words.split()) for line, name, words in lines}
+
+
+def crates():
+    """All crates by name, each behind those that it stands on."""
+    lines, found = listed(), {}
 
     def add(name):
         if name not in found:
-            line, words = listed[name]
-            below = [add(it) for it in words if it in listed]
-            found[name] = Crate(name, line, below, [it for it in words if it not in listed])
+            line, words = lines[name]
+            below = [add(it) for it in words if it in lines]
+            found[name] = Crate(name, line, below, [it for it in words if it not in lines])
         return found[name]
 
-    for name in listed:
+    for name in lines:
         add(name)
     return found
 
@@ -79,8 +102,11 @@ def programs():
         return [it.split()[1] for it in file if it.strip() and not it.startswith("#")]
 
 
+@functools.lru_cache(None)
 def kit():
-    """The folder of the kit, whose first page `rt doc` names."""
+    """The folder of the kit, whose first page `rt doc` names; without it the script ends."""
+    if not shutil.which("rt"):
+        fail(f"{sys.argv[0]}: the command rt of the kit isn't on PATH")
     said = subprocess.run(["rt", "doc"], capture_output=True, text=True, check=True).stdout
     return os.path.dirname(said.strip())
 

@@ -1,8 +1,11 @@
 """What the scripts of tests/ share: the programs, some requests, how they say what they skip and what
 failed, and the library that counts and refuses memory and threads."""
 
+import importlib.machinery
+import importlib.util
 import os
 import resource
+import select
 import signal
 import shutil
 import struct
@@ -24,6 +27,8 @@ COUNTS = struct.Struct("5Q")
 # What takes longer never ends: no run does, however busy the machine is, and no script here.
 SECONDS = 120
 MOST_SECONDS = 1_800
+# How many runs in a row have to meet no refusal: threads make now more requests, now fewer.
+QUIET = 4
 
 NO_MEMORY = "error 15 NoMemory\n"
 
@@ -48,6 +53,14 @@ SHARED = (
     f'["broadcast","r",[{DEPTH},{TILES}]],[[1,0]]],[0,1]]'
 )
 SHARED_LINE = f'{{"data":[{(22 + 49 + 28 + 64) * TILES * TILES * DEPTH}],"dims":[]}}\n'
+
+
+def script(name):
+    """A script of tests/ as a module, for what it has."""
+    loader = importlib.machinery.SourceFileLoader(name, os.path.join(TOP, "tests", name))
+    module = importlib.util.module_from_spec(importlib.util.spec_from_loader(name, loader))
+    loader.exec_module(module)
+    return module
 
 
 def need_program(program=PROGRAM):
@@ -115,6 +128,52 @@ def run(text, env=None, seconds=SECONDS, program=PROGRAM):
     return out, complaint, ran.returncode
 
 
+def by_shell(streams, text, program=PROGRAM, **how):
+    """A run with these redirections of a shell: both streams as bytes, and the status."""
+    words = ["sh", "-c", f'exec "$0" {streams}', program]
+    how = {"timeout": SECONDS, "check": False, **how}
+    ran = subprocess.run(words, cwd=TOP, input=text, capture_output=True, **how)
+    return ran.stdout, ran.stderr, ran.returncode
+
+
+class Client:
+    """A program on its way that answers many requests, and what it has said so far."""
+
+    def __init__(self, program, **how):
+        pipe = subprocess.PIPE
+        words = {"stdin": pipe, "stdout": pipe, "stderr": pipe, "env": {}, "bufsize": 0, **how}
+        self.child, self.rest = subprocess.Popen([program], **words), b""
+
+    def taken(self):
+        """The first answer, taken from what was said; none where it isn't there yet."""
+        raise NotImplementedError
+
+    def answer(self):
+        """The next answer, within SECONDS; what there is where it doesn't come."""
+        while (answer := self.taken()) is None:
+            if not select.select([self.child.stdout], [], [], SECONDS)[0]:
+                return f"{self.rest!r}, and no more in {SECONDS} s"
+            more = os.read(self.child.stdout.fileno(), 65_536)
+            if not more:
+                return f"{self.rest!r}, and the end"
+            self.rest += more
+        return answer
+
+    def ask(self, *pieces):
+        """The answer to a request, written in pieces."""
+        for it in pieces:
+            self.child.stdin.write(it)
+        return self.answer()
+
+    def end(self):
+        """Standard error and the status, once its input has ended."""
+        self.child.stdin.close()
+        self.child.stdout.close()
+        with self.child.stderr:
+            complaint = self.child.stderr.read().decode()
+        return complaint, self.child.wait(SECONDS)
+
+
 class Refusals:
     """The library of tests/refusals.c, and what it counted in the last run."""
 
@@ -147,3 +206,39 @@ def by_refusals(*parts):
         return skip("what tests/refusals.c counts and refuses", "no C compiler", "gcc")
     refusals = Refusals()
     return sum(part(refusals) for part in parts)
+
+
+def is_right(answers, own, no_memory, onward):
+    """Whether these are the own answers, but for want of memory: in one of them, or from one on."""
+    if len(answers) != len(own):
+        return False
+    wanting = [it == no_memory for it in answers]
+    if any(got not in (it, no_memory) for got, it in zip(answers, own)):
+        return False
+    return wanting == sorted(wanting) if onward else sum(wanting) <= 1
+
+
+def each_refused(refusals, ask, wanted, no_memory):
+    """How many failed of the runs in which each request for memory is refused in turn, alone and
+    with all later ones. A run is several answers and what it said beside them; `wanted` is that of
+    one with no refusal, and `no_memory` what answers for want of memory."""
+    name, failed, together = f"tests/{os.path.basename(sys.argv[0])}", 0, 0
+    for onward in (0, 1):
+        met, wanting, quiet, number = 0, 0, 0, 0
+        while quiet < QUIET:
+            number += 1
+            got = ask(memory=number, onward=onward)
+            met, quiet = (met + 1, 0) if refusals.refused else (met, quiet + 1)
+            allowed = got[0] == wanted[0]
+            if refusals.refused:
+                allowed = is_right(got[0], wanted[0], no_memory, onward)
+            if not allowed or got[1:] != wanted[1:]:
+                failed += 1
+                print(f"{name}: request {number} refused, onward {onward}: {got!r:.300}")
+            wanting += no_memory in got[0]
+        failed += not met
+        together += met
+        what = "with all later ones" if onward else "alone"
+        print(f"{name}: {met} requests for memory refused {what}, {wanting} told", flush=True)
+    print(f"{name}: {together} runs with a refusal, {failed} failed", flush=True)
+    return failed

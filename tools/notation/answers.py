@@ -19,38 +19,32 @@ class Answers:
         # A text that was just read isn't read again to find the place of its fault.
         self.running.changed(REQUEST_AT, functools.lru_cache(1))
         for it in (OF_FRAME, LINE_OF, ANSWER_OF, ANSWER_FROM, SHAPE_OF):
-            self.running.function(it)
-
-    def of(self, path, *given):
-        """What a definition gives, as it is now."""
-        return self.running.function(path)(*given)
+            self.running.code(self.running.item(it))
 
     def line(self, text):
         """The line that answers a text."""
-        return bytes(self.of(LINE_OF, self.of(ANSWER_OF, tuple(text))))
+        return bytes(self.running.of(LINE_OF, self.running.of(ANSWER_OF, tuple(text))))
 
     def line_of_frame(self, header, values):
         """The line of what answers a frame."""
-        request = self.of(OF_FRAME, tuple(header), tuple(values))
-        return bytes(self.of(LINE_OF, self.of(ANSWER_FROM, request)))
+        request = self.running.of(OF_FRAME, tuple(header), tuple(values))
+        return bytes(self.running.of(LINE_OF, self.running.of(ANSWER_FROM, request)))
 
     def place(self, text):
         """The steps to the first fault of a text, names and indices; none where it has no fault."""
-        kind, found = self.of(REQUEST_AT, tuple(text))
+        kind, found = self.running.of(REQUEST_AT, tuple(text))
         if kind == "Ok":
             return None
-        return [bytes(it).decode() if step == "field" else it for step, it in found.place_]
+        return [bytes(it).decode() if step == "field" else it for step, it in found["place"]]
 
     def dims(self, text):
         """The dims of the tensor that a text without a fault asks for."""
-        asked = self.of(REQUEST_AT, tuple(text))[1]
-        return list(self.of(SHAPE_OF, asked.term_, asked.inputs_))
+        asked = self.running.of(REQUEST_AT, tuple(text))[1]
+        return list(self.running.of(SHAPE_OF, asked["term"], asked["inputs"]))
 
     def cases(self):
         """The cases of this repository's definitions: the item of each, its number, its line, and
         how often it has answered."""
-        number = {}
-        for (item, line), count in zip(self.running.cases, self.running.counts):
-            number[item] = number.get(item, 0) + 1
-            if self.running.names.is_ours(item.module):
-                yield item, number[item], line, count
+        for case, count in zip(self.running.cases, self.running.counts):
+            if case[0].module.is_ours:
+                yield *case, count

@@ -1,9 +1,12 @@
 """Cases of definitions, as trees: patterns on the left of `=`, and one term on the right.
 
-A term is a tuple that begins with its kind: ("name", its parts), ("number", n), ("text", letters),
-("call", head, arguments), ("function", names, body), ("pair", terms), ("part", term, name),
-("record", the record that it changes or none, fields).
+A term is a tuple that begins with its kind: ("name", its parts), ("value", a number or a text),
+("call", head, arguments), ("function", name, body), ("part", term, names), ("record", the record
+that it changes or none, fields).
 """
+
+import ast
+import functools
 
 from .modules import words_of
 
@@ -12,39 +15,33 @@ BINDS = {"+": 65, "-": 65, "*": 70, "/": 70, "%": 70, "^": 75, "∷": 67, "++": 
 BINDS.update({"==": 40, "&&": 35, "||": 30, "+ℤ": 6, "-ℤ": 6, "*ℤ": 7})
 GOES_ON_RIGHT = {"^", "∷"}
 ENDS = {None, ")", "}", ";", ",", "=", "then", "else", "in", "."}
+# The names of what `if`, `then` and `else` make of three terms, and a comma of two.
+IF, PAIR = ("name", ("if◌then◌else◌",)), ("name", ("◌,◌",))
 
 
 class Reader:
     """Reads the words of a case from the left, and behind them the end, which is none."""
 
     def __init__(self, words):
-        self.words, self.at = [*words, None], 0
-
-    @property
-    def next(self):
-        return self.words[self.at]
+        self.text, self.words = " ".join(words), iter(words)
+        self.next = next(self.words)
 
     def take(self, *wanted):
-        word = self.next
+        """The next word, which has to be one of those that are wanted, where any are."""
+        word, self.next = self.next, next(self.words, None)
         if wanted and word not in wanted:
-            raise ValueError(f"{word} in {' '.join(self.words[:-1])}")
-        self.at += 1
+            raise ValueError(f"{word} in {self.text}")
         return word
 
-    def atoms(self):
-        """Patterns or arguments."""
-        found = []
-        while self.next not in ENDS and self.next not in BINDS:
-            found.append(self.atom())
-        return found
+    def behind(self, word):
+        """The term behind a word."""
+        self.take(word)
+        return self.term()
 
     def case(self, name):
         """The patterns and the term of a case."""
-        # An operation stands between its two patterns.
-        patterns = [] if self.next == name and self.take() else list(self.term()[2])
-        patterns += self.atoms()
-        self.take("=")
-        body = self.term()
+        self.take(name)
+        patterns, body = self.atoms(), self.behind("=")
         self.take(None)
         return patterns, body
 
@@ -55,60 +52,59 @@ class Reader:
         while BINDS.get(self.next, -1) >= least:
             word = self.take()
             right = self.term(BINDS[word] + (word not in GOES_ON_RIGHT))
-            left = ("call", ("name", (f"◌{word}◌",)), (left, right))
+            left = "call", ("name", (f"◌{word}◌",)), (left, right)
         return left
 
+    def atoms(self):
+        """Patterns or arguments."""
+        found = []
+        while self.next not in ENDS and self.next not in BINDS:
+            found.append(self.atom())
+        return found
+
     def atom(self):
+        """A term that is one word, or goes by a word or a bracket in front of it."""
         word = self.take()
-        if word[0] == '"':
-            return "text", word[1:-1].encode().decode("unicode_escape")
-        if word[0].isdigit():
-            return "number", int(word.replace("_", ""), 0)
+        if word[0] == '"' or word[0].isdigit():
+            return "value", ast.literal_eval(word)
         if word == "if":
-            parts = [self.term()] + [self.take(it) and self.term(6) for it in ("then", "else")]
-            return "call", ("name", ("if◌then◌else◌",)), tuple(parts)
-        if word in ("λ", "let"):
-            return self.binding(word)
+            return "call", IF, (self.term(), self.behind("then"), self.behind("else"))
+        if word == "λ":
+            return "function", self.take(), self.behind(".")
+        if word == "let":
+            # What is bound is the argument of a function.
+            name, bound = self.take(), self.behind("=")
+            return "call", ("function", name, self.behind("in")), (bound,)
         if word not in ("(", "record"):
             return "name", tuple(word.split("."))
-        term = self.pair() if word == "(" else self.record()
-        while self.next not in ENDS and self.next[0] == ".":
-            for name in self.take()[1:].split("."):
-                term = ("part", term, name)
+        term = self.bracket() if word == "(" else self.record()
+        if self.next not in ENDS and self.next[0] == ".":
+            return "part", term, tuple(self.take()[1:].split("."))
         return term
 
-    def binding(self, word):
-        """A function; what is bound by a `let` is the argument of one."""
-        end = self.words.index("." if word == "λ" else "=", self.at)
-        names = [it for it in self.words[self.at : end] if it != "("]
-        # Behind a colon stands the type of the only name.
-        names, self.at = names[: names.index(":")] if ":" in names else names, end + 1
-        if word == "λ":
-            return "function", tuple(names), self.term()
-        bound, _ = self.term(), self.take("in")
-        return "call", ("function", tuple(names), self.term()), (bound,)
-
-    def pair(self):
-        terms = [self.term()]
-        while self.take(",", ")") == ",":
-            terms.append(self.term())
-        return terms[0] if len(terms) == 1 else ("pair", tuple(terms))
+    def bracket(self):
+        """A term, or a pair, whose second part may be a pair as well, up to the bracket's end."""
+        term = self.term()
+        return term if self.take(",", ")") == ")" else ("call", PAIR, (term, self.bracket()))
 
     def record(self):
+        """A record, or one like a term but for these parts."""
         base, fields = None if self.next == "{" else self.atom(), []
         self.take("{")
         while self.next != "}":
-            name, _ = self.take(), self.take("=")
-            fields.append((name, self.term()))
-            self.at += self.next == ";"
+            fields.append((self.take(), self.behind("=")))
+            if self.next == ";":
+                self.take()
         self.take("}")
         return "record", base, tuple(fields)
 
 
+@functools.lru_cache(None)
 def cases_of(item):
     """The cases of a definition: the line of each, its patterns and its term."""
-    if item.cases is None:
-        item.cases = [(it[0][0], *Reader(words_of(it)).case(item.name)) for it in item.chunks[1:]]
-    if not item.cases:
+    # What the modules around it take is taken first.
+    above = [("name", (name,)) for name, _ in item.section]
+    read = [(it[0][0], *Reader(words_of(it)).case(item.name)) for it in item.chunks[1:]]
+    if not read:
         raise ValueError(f"{item.path} has no cases")
-    return item.cases
+    return [(line, above + patterns, body) for line, patterns, body in read]

@@ -3,8 +3,9 @@
 import os
 import re
 
+from crates import CRATES, files_in
+
 from .modules import Module, words_of
-from .names import CRATES
 from .resting import Scan
 
 FUNCTION = re.compile(r'\s*(pub |pub\(\w+\) )?(?:const |unsafe |final |extern "C" )*fn (\w+)')
@@ -24,9 +25,9 @@ class Clause:
         indent = len(self.lines[0]) - len(self.lines[0].lstrip())
         return [it[min(indent, len(it) - len(it.lstrip())) :] for it in self.lines]
 
-    def uses(self, names):
+    def uses(self):
         """What the names of the clause stand for, but for those of the code."""
-        scan = Scan(names, self.source, [])
+        scan = Scan(self.source, [])
         words = words_of(enumerate(self.lines))
         scan.words(words[words.index("{") :])
         return scan.found
@@ -35,12 +36,8 @@ class Clause:
 class Source(Module):
     """A file of src/, with what its lines `ghost use` bring in."""
 
-    def __init__(self, crate, path):
-        self.crate, self.path = crate, path
-        self.items, self.constructors, self.opened, self.aliases = {}, {}, {}, {}
-        with open(os.path.join(CRATES, crate, path), encoding="utf-8") as file:
-            self.lines = file.read().split("\n")
-        for line in self.lines:
+    def take_up(self):
+        for line in self.text:
             brought = re.match(r"\s*(?:pub )?ghost use (.*);", line)
             if brought:
                 self.bring_in(words_of([(0, brought[1])]))
@@ -48,8 +45,8 @@ class Source(Module):
     def clauses(self):
         """The clauses of its public functions, of its traits' functions, and ghost members."""
         within, function, at = "", None, 0
-        while at < len(self.lines):
-            line = self.lines[at]
+        while at < len(self.text):
+            line = self.text[at]
             block = TRAIT.match(line)
             within = block[1] if block else "" if line == "}" else within
             begun = FUNCTION.match(line)
@@ -62,7 +59,7 @@ class Source(Module):
                 is_ghost = clause[1].endswith("ghost")
                 if function or is_ghost and within:
                     named = None if is_ghost else function
-                    yield Clause(self, named, clause[1], clause[2], self.lines[at : end + 1])
+                    yield Clause(self, named, clause[1], clause[2], self.text[at : end + 1])
                 at = end
             elif function and line.strip() == "{" or line.startswith("}"):
                 # Behind it stands a body, which may have closures with clauses of their own.
@@ -72,17 +69,14 @@ class Source(Module):
     def end_of(self, at):
         """The line in which the brace that opens first on a line is closed."""
         depth = 0
-        for end in range(at, len(self.lines)):
-            depth += self.lines[end].count("{") - self.lines[end].count("}")
+        for end in range(at, len(self.text)):
+            depth += self.text[end].count("{") - self.text[end].count("}")
             if depth <= 0:
                 return end
-        raise ValueError(f"{self.crate}/{self.path}: line {at + 1}")
+        raise ValueError(f"{self.path}: line {at + 1}")
 
 
 def sources_of(crate):
     """The files of a crate's src/, in order."""
-    folder, found = os.path.join(CRATES, crate), []
-    for at, _, files in os.walk(os.path.join(folder, "src")):
-        paths = [os.path.join(at, it) for it in files if it.endswith(".rt")]
-        found += [os.path.relpath(it, folder) for it in paths]
-    return [Source(crate, path) for path in sorted(found)]
+    paths = files_in(os.path.join(CRATES, crate), "src")
+    return [Source(os.path.relpath(it, CRATES), it) for it in paths]

@@ -2,11 +2,14 @@
 
 import re
 
-NAME = r'[^\s(){};,."]+'
-WORD = re.compile(r'"(?:[^"\\]|\\.)*"|[(){};,]|\.?%s(?:\.%s)*|\.' % (NAME, NAME))
+from crates import CRATES
+
+WORD = re.compile(r'"(?:[^"\\]|\\.)*"|[(){};,]|[^\s(){};,"]*[^\s(){};,".]|\.')
 # A comment, or a string, in which two dashes begin none.
 COMMENT = re.compile(r'("(?:[^"\\]|\\.)*")|(?:^|(?<=\s))--(?=\s|$).*')
 MODIFIERS = ("abbrev", "unfoldable", "pub")
+# How a definition begins, word by word; any other line is a case of the last one.
+SIGNATURE = re.compile(r"\S+ (\{[^{}]*\} )?: ")
 # Lines that say nothing of a meaning.
 SILENT = ("mod", "open", "infix", "infixl", "infixr", "unfolding")
 
@@ -32,24 +35,14 @@ def head_of(chunk):
     return 1 + next(at for at, (_, line) in enumerate(chunk) if line.split()[-1] == "where")
 
 
-def closing(words, at):
-    """Where the bracket that opens at a place is closed."""
-    depth = 0
-    for end in range(at, len(words)):
-        depth += (words[end] in "({") - (words[end] in ")}")
-        if depth == 0:
-            return end
-    raise ValueError(" ".join(words))
-
-
 def parameters(words):
     """How many arguments a constructor of this type takes, without those in braces."""
-    text, last = " ".join(words), ""
+    text, last = re.sub(r"\{[^{}]*\} →", "", " ".join(words)), ""
     while text != last:
+        last = text
         # From the inside: (x y : T) stands for two types, and any other (T) for one.
-        last, text = text, re.sub(r"\{[^(){}]*\} →", "", text)
-        text = re.sub(r"\(([^(){}:]*):[^(){}]*\)", lambda it: " → ".join(it[1].split()), text)
-        text = re.sub(r"\([^(){}:]*\)", "it", text)
+        text = re.sub(r"\(([^():]*):[^()]*\)", lambda it: " → ".join(it[1].split()), text)
+        text = re.sub(r"\([^():]*\)", "it", text)
     return text.count("→")
 
 
@@ -58,14 +51,7 @@ class Item:
 
     def __init__(self, module, kind, name, section, chunk):
         self.module, self.kind, self.name, self.section = module, kind, name, section
-        self.chunks, self.code, self.cases = [chunk], None, None
-
-    @property
-    def path(self):
-        return f"{self.module.path}.{self.name}"
-
-    def lines(self):
-        return sum(self.chunks, [])
+        self.chunks, self.path = [chunk], f"{module.path}.{name}"
 
 
 class Module:
@@ -73,16 +59,22 @@ class Module:
 
     def __init__(self, path, file):
         self.path, self.file = path, file
-        self.items, self.constructors, self.opened, self.aliases = {}, {}, {}, {}
+        # Whether it is a file of this repository, and not of the kit.
+        self.is_ours = file.startswith(f"{CRATES}/")
+        self.items, self.constructors, self.aliases = {}, {}, {}
+        # No file brings in the value of `Unit`, and what makes a pair.
+        self.opened = {"tt": ("Prim", "tt"), "◌,◌": ("Prim", "◌,◌")}
         with open(file, encoding="utf-8") as text:
             self.text = text.read().split("\n")
         self.take_up()
 
     def take_up(self):
+        """Takes up what the text says, without comments and empty lines."""
         lines = [COMMENT.sub(lambda it: it[1] or "", line).rstrip() for line in self.text]
         self.read([it for it in enumerate(lines, 1) if it[1]], [])
 
     def read(self, lines, section):
+        """Takes up what some lines define, inside of modules that have these parameters."""
         last = None
         for chunk in chunks_of(lines):
             words = words_of(chunk)
@@ -99,21 +91,18 @@ class Module:
             elif head in ("data", "record"):
                 item = self.items[words[1]] = Item(self, head, words[1], section, chunk)
                 behind = chunks_of(chunk[head_of(chunk) :]) if head == "data" else ()
-                for words in map(words_of, behind):
-                    of = words.index(":")
-                    count = parameters(words[of + 1 :])
-                    self.constructors.update(dict.fromkeys(words[:of], (item, count)))
-            elif head not in SILENT:
-                # A signature, which begins a definition, or a case of the last one.
-                at = closing(words, 1) + 1 if words[1:2] == ["{"] else 1
-                if words[at : at + 1] == [":"]:
-                    last = self.items[head] = Item(self, "definition", head, section, chunk)
-                elif last is not None:
-                    last.chunks.append(chunk)
+                for typed in map(words_of, behind):
+                    of = typed.index(":")
+                    count = parameters(typed[of + 1 :])
+                    self.constructors.update(dict.fromkeys(typed[:of], (item, count)))
+            elif SIGNATURE.match(" ".join(words)):
+                last = self.items[head] = Item(self, "definition", head, section, chunk)
+            elif last and head not in SILENT:
+                last.chunks.append(chunk)
 
     def bring_in(self, words):
         """A line `use`: of some names of a module, or of a module under a name of its own."""
-        path, names = words[0], " ".join(words[3:-1]).split(",")
+        path, names = words[0].replace(".TheVariants", ""), " ".join(words[3:-1]).split(",")
         if "{" in words:
             named = [it.split() for it in names if it.strip()]
             self.opened.update((it[-1], (path, it[0])) for it in named)

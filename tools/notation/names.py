@@ -1,22 +1,22 @@
 """What a name stands for in a file of the notation: the files are those of this repository and, for
 what they bring in, those of the kit."""
 
+import functools
 import os
 import re
-import sys
+
+from crates import CRATES, kit
 
 from .modules import Item, Module
 from .primitives import PRIMITIVES
 
-TOP = os.path.dirname(os.path.dirname(os.path.dirname(os.path.abspath(__file__))))
-sys.path.insert(0, os.path.join(TOP, "build"))
-from crates import kit  # noqa: E402
-from usage import fail  # noqa: E402
-
-CRATES = os.path.join(TOP, "crates")
-# Where the kit keeps the files of a path that begins so.
-MATHLIB, NATIVE = "antt/port/mathlib/src", "antt/lib/native/src"
-KEPT = {"lib": "logic/Lib", "mir": "logic/Mir", "mathlib": MATHLIB, "native": NATIVE}
+# Where the files of a path stand that begins so: here, and in the folder of the kit.
+ROOTS = {
+    "Rattle": [CRATES, "rattle"],
+    "lib": ["rattle/logic/Lib"],
+    "mir": ["rattle/logic/Mir"],
+    "mathlib": ["rattle/antt/port/mathlib/src"],
+}
 VARIANT = re.compile(r"(?m)^\s*(\w+)\s*(?:\(([^)]*)\))?(?:\s*=\s*-?\d+)?,?\s*$")
 
 
@@ -32,78 +32,49 @@ class Declared(Module):
             self.constructors[it[1]] = item, len(re.findall(r"[^,\s][^,]*", it[2] or ""))
 
 
-class Names:
-    """All modules that were asked for, by their paths."""
+def file_of(first, *within):
+    """The file of a module, or of a type of the code, where it has one."""
+    ends = [".antt"]
+    if "declared" in within:
+        within, ends = [within[0], "src", *within[3:-1]], [".rt", "/mod.rt"]
+    paths = [os.path.join(kit(), root, *within) for root in ROOTS.get(first, ())]
+    return next(filter(os.path.exists, [path + end for path in paths for end in ends]), None)
 
-    def __init__(self):
-        self.modules = {}
-        try:
-            self.kit = os.path.join(kit(), "rattle")
-        except OSError:
-            fail("the definitions rest on those of the kit, and its command `rt` isn't on PATH")
 
-    @staticmethod
-    def is_ours(module):
-        """Whether a module's file is one of this repository."""
-        return module.file.startswith(CRATES + os.sep)
+@functools.lru_cache(None)
+def module_of(path):
+    """The module of a path, which is empty where there is no file of it."""
+    parts = path.split(".")
+    file, lib = file_of(*parts), [*parts[:3], "Lib"]
+    if file is None and parts[3:] and file_of(*lib):
+        # It may be one that specs/Lib of a crate passes on.
+        passed = module_of(".".join(lib)).aliases.get(parts[3])
+        if passed:
+            return module_of(".".join([passed, *parts[4:]]))
+    return (Declared if "declared" in parts else Module)(path, file or os.devnull)
 
-    def file(self, parts):
-        """The file of a module, or of a type of the code, where it has one."""
-        roots = [CRATES, self.kit] if parts[0] == "Rattle" else []
-        roots += [os.path.join(self.kit, KEPT[it]) for it in parts[:1] if it in KEPT]
-        within, ends = parts[1:], [".antt"]
-        if "declared" in parts:
-            within, ends = [parts[1], "src", *parts[4:-1]], [".rt", "/mod.rt"]
-        files = ["/".join([root, *within]) + end for root in roots for end in ends]
-        return next(filter(os.path.exists, files), None)
 
-    def module(self, path):
-        """The module of a path, or none."""
-        path = path.replace(".TheVariants", "")
-        if path not in self.modules:
-            self.modules[path] = self.find(path.split("."))
-        return self.modules[path]
+def resolve(module, name):
+    """What a name of a module is: ("primitive", its path), ("constructor", its name, data type,
+    arguments), ("item", item), or none."""
+    whole = f"{module.path}.{name}"
+    if whole in PRIMITIVES:
+        return "primitive", whole
+    if name in module.constructors:
+        return "constructor", name, *module.constructors[name]
+    if name in module.items:
+        return "item", module.items[name]
+    path, name = module.opened.get(name, (None, None))
+    return resolve(module_of(path), name) if path else None
 
-    def find(self, parts):
-        file = self.file(parts)
-        if "declared" in parts:
-            return Declared(".".join(parts), file or os.devnull)
-        if file:
-            return Module(".".join(parts), file)
-        # It may be one that specs/Lib of a crate, or a module on the way to it, passes on.
-        ways = [(parts[:3] + ["Lib"], 3)] if parts[0] == "Rattle" else []
-        for above, cut in ways + [(parts[:cut], cut) for cut in range(len(parts) - 1, 0, -1)]:
-            passing = self.module(".".join(above)) if self.file(above) else None
-            if passing and cut < len(parts) and parts[cut] in passing.aliases:
-                return self.module(".".join([passing.aliases[parts[cut]], *parts[cut + 1 :]]))
-        return None
 
-    def resolve(self, path, name):
-        """What a name of a module is: ("primitive", its path), ("constructor", its name, data type,
-        arguments), ("item", item), or none."""
-        module = self.module(path)
-        for whole in (f"{path}.{name}", f"{module.path}.{name}" if module else ""):
-            if whole in PRIMITIVES:
-                return "primitive", whole
-        if module and name in module.constructors:
-            return "constructor", name, *module.constructors[name]
-        if module and name in module.items:
-            return "item", module.items[name]
-        return self.resolve(*module.opened[name]) if module and name in module.opened else None
-
-    def lookup(self, module, parts):
-        """What the name is that these parts begin with, as it stands in a module, and how many of
-        them it takes."""
-        name, path = parts[0], module.aliases.get(parts[0])
-        if len(parts) > 1 and path is None and name in module.opened:
-            # A type, whose variants stand behind its dot.
-            path = module.opened[name][0]
-            owner = self.module(path)
-            path = path if owner and parts[1] in owner.constructors else None
-        found = self.resolve(path, parts[1]) if path and len(parts) > 1 else None
-        if found:
-            return found, 2
-        if name in module.opened and name not in {**module.items, **module.constructors}:
-            return self.resolve(*module.opened[name]), 1
-        # The value of `Unit` is one that no file brings in.
-        return ("primitive", "Prim.tt") if name == "tt" else self.resolve(module.path, name), 1
+def lookup(module, parts):
+    """What the name is that these parts begin with, as it stands in a module, and the parts that
+    are behind it."""
+    name, *behind = parts
+    # Behind a dot stands what a module has that goes by a name here, or a variant of a type.
+    path = module.aliases.get(name) or module.opened.get(name, [None])[0]
+    found = resolve(module_of(path), behind[0]) if path and behind else None
+    if found and (name in module.aliases or found[0] == "constructor"):
+        return found, behind[1:]
+    return resolve(module, name), behind

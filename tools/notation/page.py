@@ -11,7 +11,7 @@ import os
 import re
 import textwrap
 
-from .resting import Closure, heads_of
+from .resting import Closure, heads_of, lines_of
 
 WORDS = os.path.join(os.path.dirname(os.path.abspath(__file__)), "headline.md")
 DIRECTIVE = re.compile(r"\{(\w+) ?([^}]*)\}$")
@@ -61,11 +61,11 @@ def block(lines):
 class Page:
     """What is put in place of the words in braces."""
 
-    def __init__(self, names, find):
-        self.names, self.find = names, find
+    def __init__(self, find):
+        self.find = find
         with open(WORDS, encoding="utf-8") as file:
             self.words = file.read().split("\n")
-        self.closure, self.halves = Closure(names), []
+        self.closure, self.halves = Closure(), []
         self.plain, self.printed, self.bare = {}, set(), []
         for line in self.words:
             kind, rest = self.directive(line)
@@ -84,10 +84,10 @@ class Page:
     def rest(self, clause):
         """Takes up what a clause rests on."""
         before = len(self.closure.items)
-        for it in clause.uses(self.names):
+        for it in clause.uses():
             self.closure.add(*it)
         new = [it for it in self.closure.items[before:] if it.kind != "declared"]
-        count = sum(len(it.lines()) for it in new)
+        count = sum(len(lines_of(it)) for it in new)
         self.halves.append(f"{len(new)} definitions in {count} lines")
 
     def definition(self, item):
@@ -98,7 +98,7 @@ class Page:
         if not lines:
             self.bare.append(key)
         self.printed.add(item.path)
-        text = [line for _, line in item.lines()]
+        text = [line for _, line in lines_of(item)]
         # It stands further right where it takes the names of a module around it.
         indent = "  " * len({at for _, at in item.section})
         plain, text = (textwrap.dedent("\n".join(it)).split("\n") for it in (lines, text))
@@ -122,6 +122,7 @@ class Page:
         return block(lines)
 
     def types(self, asked):
+        """Types of the code of these names, as a block."""
         lines = []
         for item in self.closure.items:
             if item.kind == "declared" and item.name in asked:
@@ -130,6 +131,7 @@ class Page:
         return block(lines)
 
     def put(self, kind, rest):
+        """The lines that are put in the place of a directive."""
         if kind == "clause":
             return block(self.find(*rest.split()).text())
         if kind in ("definitions", "types"):

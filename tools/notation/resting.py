@@ -3,19 +3,29 @@ those name in turn."""
 
 import functools
 
-from .modules import MODIFIERS, chunks_of, closing, head_of, words_of
+from .modules import MODIFIERS, chunks_of, head_of, words_of
+from .names import lookup
 
 # Words that stand for no definition.
 MARKS = set("( ) { } ; , . = : → × λ ? ∀ _ | @".split())
 KEYWORDS = {"if", "then", "else", "let", "in", "record", "data", "where", "Type", "mutual"}
 
 
+def closing(words, at):
+    """Where the bracket that opens at a place is closed."""
+    depth = 0
+    for end in range(at, len(words)):
+        depth += (words[end] in "({") - (words[end] in ")}")
+        if depth == 0:
+            return end
+    raise ValueError(" ".join(words))
+
+
 class Scan:
     """Goes over words of a file, and finds the names that they don't bind themselves."""
 
-    def __init__(self, names, module, bound):
-        self.names, self.module = names, module
-        self.scopes, self.found = [set(bound)], []
+    def __init__(self, module, bound):
+        self.module, self.scopes, self.found = module, [set(bound)], []
 
     def is_bound(self, name):
         return any(name in it for it in self.scopes)
@@ -26,12 +36,13 @@ class Scan:
         if word[0] in '."' or self.is_bound(parts[0]):
             return None
         for name in (parts, [f"◌{word}◌"], [f"{word}◌"], [f"◌{word}"]):
-            found, _ = self.names.lookup(self.module, name)
+            found, _ = lookup(self.module, name)
             if found:
                 return found
         return None
 
     def use(self, word):
+        """Takes up what a word stands for, if anything."""
         if word in MARKS or word in KEYWORDS or word.isdigit():
             if word == "if":
                 self.use("if◌then◌else◌")
@@ -41,6 +52,7 @@ class Scan:
             self.found.append((word, found))
 
     def words(self, words):
+        """Goes over words from the left; what a bracket, a λ or a `let` binds counts behind it."""
         at = 0
         while at < len(words):
             word, following = words[at], words[at + 1 : at + 2]
@@ -114,6 +126,11 @@ def names_before_colons(words):
     return names
 
 
+def lines_of(item):
+    """The lines of a definition or a type, each with its number in the file."""
+    return sum(item.chunks, [])
+
+
 def heads_of(item):
     """The heads of the modules with parameters that a definition stands in, as their lines."""
     text = item.module.text
@@ -123,12 +140,12 @@ def heads_of(item):
 
 
 @functools.lru_cache(None)
-def used_by(names, item):
+def used_by(item):
     """What the words of a definition or a type stand for, in the order in which they do."""
     if item.kind == "declared":
         return []
     bound = {item.name, *(name for name, _ in item.section)}
-    scan = Scan(names, item.module, bound)
+    scan = Scan(item.module, bound)
     for head in heads_of(item):
         scan.words(words_of(head)[2:])
     if item.kind in ("data", "record"):
@@ -145,8 +162,7 @@ class Closure:
     """What some clauses rest on: definitions of this repository, each behind all that it uses, and
     the words of the kit at which these end."""
 
-    def __init__(self, names):
-        self.names = names
+    def __init__(self):
         self.items, self.of_kit, self.seen = [], {}, set()
 
     def add(self, word, found):
@@ -156,11 +172,11 @@ class Closure:
             self.of_kit.setdefault(found[1], word)
             return
         item = found[1] if kind == "item" else found[2]
-        if not self.names.is_ours(item.module):
+        if not item.module.is_ours:
             path = item.path if kind == "item" else f"{item.module.path}.{found[1]}"
             self.of_kit.setdefault(path, word)
         elif item.path not in self.seen:
             self.seen.add(item.path)
-            for it in used_by(self.names, item):
+            for it in used_by(item):
                 self.add(*it)
             self.items.append(item)

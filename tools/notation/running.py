@@ -10,11 +10,11 @@ import re
 import sys
 
 from .cases import cases_of
-from .names import Names
-from .primitives import GIVEN, PATTERNS, PRIMITIVES
+from .names import lookup, module_of
+from .primitives import PATTERNS, PRIMITIVES
 
-# How many answers are kept of a definition over numbers alone.
-MOST_KEPT, OVER_NUMBERS = 4_096, re.compile(r"[^:]* : (ℕ → )*[^→]+")
+# A definition over numbers alone keeps so many answers.
+OVER_NUMBERS, MOST_KEPT = re.compile(r"[^:]* : (ℕ → )*[^→]+"), 4_096
 sys.setrecursionlimit(10**6)
 
 
@@ -22,56 +22,53 @@ class Running:
     """Definitions that were made functions, and how often each case of them has answered."""
 
     def __init__(self):
-        self.names, self.scope, self.numbers = Names(), dict(GIVEN), itertools.count()
-        # Each case as its definition and line, and how often it has answered.
-        self.cases, self.counts = [], []
-        self.scope.update(counts=self.counts)
+        # Each case as its definition, its number and its line, and how often it has answered.
+        self.codes, self.cases, self.counts = {}, [], []
+        self.scope = {"counts": self.counts, "kept": functools.lru_cache(MOST_KEPT)}
 
     def item(self, path):
         """The definition of a path `Rattle.CRATE.specs.FILE.NAME`."""
-        return self.names.resolve(*path.rsplit(".", 1))[1]
+        module, _, name = path.rpartition(".")
+        return module_of(module).items[name]
 
-    def function(self, path):
-        return self.scope[self.code(self.item(path))]
+    def of(self, path, *given):
+        """What a definition gives, as it is now."""
+        return self.scope[self.code(self.item(path))](*given)
 
     def changed(self, path, change):
         """Changes a definition's function, by which all others go too from now on."""
-        function = self.function(path)
-        self.scope[self.item(path).code] = change(function)
+        code = self.code(self.item(path))
+        self.scope[code] = change(self.scope[code])
 
     def code(self, item):
         """The name in Python of a definition."""
-        if item.code is None:
-            item.code = f"d{next(self.numbers)}"
-            self.scope[item.code] = self.made_of(item, cases_of(item))
-        return item.code
+        if item not in self.codes:
+            self.codes[item] = f"d{len(self.codes)}"
+            self.make(item, cases_of(item))
+        return self.codes[item]
 
-    def made_of(self, item, cases):
-        """The function of a definition, of these cases."""
-        scope = {}
-        exec(Writer(self, item).text(cases), self.scope, scope)  # pylint: disable=exec-used
-        signature = " ".join(line.strip() for _, line in item.chunks[0])
-        is_kept = OVER_NUMBERS.fullmatch(signature) and not item.section
-        return functools.lru_cache(MOST_KEPT)(scope[item.code]) if is_kept else scope[item.code]
+    def make(self, item, cases):
+        """Makes a definition a function, of these cases."""
+        exec(Writer(self, item).text(cases), self.scope)  # pylint: disable=exec-used
 
 
 class Writer:
     """Writes a definition as text of Python."""
 
     def __init__(self, running, item):
-        self.running, self.item, self.count = running, item, 0
-        self.lookup = functools.partial(running.names.lookup, item.module)
+        self.running, self.item, self.numbers = running, item, itertools.count()
 
     def text(self, cases):
         """The whole function: its cases are tried from the first on."""
-        above = {name: f"s{k}" for k, (name, _) in enumerate(self.item.section)}
         given = [f"a{k}" for k in range(len(cases[0][1]))]
-        lines = [f"def {self.item.code}({', '.join([*above.values(), *given])}):"]
-        for line, patterns, body in cases:
-            tests, known = [], dict(above)
+        signature = " ".join(line.strip() for _, line in self.item.chunks[0])
+        lines = ["@kept"] if OVER_NUMBERS.fullmatch(signature) and not self.item.section else []
+        lines.append(f"def {self.running.code(self.item)}({', '.join(given)}):")
+        for number, (line, patterns, body) in enumerate(cases, 1):
+            tests, known = [], {}
             for pattern, value in zip(patterns, given):
-                self.match(pattern, value, tests, known)
-            self.running.cases.append((self.item, line))
+                tests += self.match(pattern, value, known)
+            self.running.cases.append((self.item, number, line))
             self.running.counts.append(0)
             lines.append(f"    if {' and '.join(tests) or True}:")
             lines.append(f"        counts[{len(self.running.counts) - 1}] += 1")
@@ -79,84 +76,78 @@ class Writer:
         lines.append(f"    raise ValueError({self.item.path!r})")
         return "\n".join(lines)
 
-    def match(self, pattern, value, tests, known):
-        """What a value has to pass to be of a pattern, and what the pattern's names are then."""
+    def match(self, pattern, value, known):
+        """The tests that a value is of a pattern, whose names are known from then on."""
         head, parts = pattern[1:] if pattern[0] == "call" else (pattern, ())
-        found, values = self.lookup(head[1])[0], []
+        found, _ = lookup(self.item.module, head[1])
+        test, values = PATTERNS.get(found and found[1], (None, []))
         if found and found[0] == "constructor":
-            tests.append(f"{value}[0] == {found[1]!r}")
-            values = [f"{value}[{k + 1}]" for k in range(found[3])]
-        elif found and found[0] == "primitive" and found[1] in PATTERNS:
-            test, *values = [it.format(it=value) for it in PATTERNS[found[1]]]
-            tests.append(test)
-        else:
-            known[head[1][0]] = value
+            test, values = f"{{}}[0] == {found[1]!r}", [f"{{}}[{k + 1}]" for k in range(found[3])]
         if len(values) != len(parts):
             raise ValueError(f"{self.item.path}: the pattern {pattern}")
+        if test is None:
+            known[head[1][0]] = value
+            return []
+        tests = [test.format(value)]
         for part, it in zip(parts, values):
-            self.match(part, it, tests, known)
+            tests += self.match(part, it.format(value), known)
+        return tests
 
     def term(self, term, known):
         """The text of a term, where names are known by these texts."""
         kind, *parts = term
-        if kind in ("name", "call"):
-            return self.call(*(parts if kind == "call" else (term, ())), known)
-        if kind in ("number", "text"):
+        if kind == "value":
             return repr(parts[0])
-        if kind == "pair":
-            return "(" + "".join(self.term(it, known) + ", " for it in parts[0]) + ")"
+        if kind == "name":
+            return self.call(term, (), known)
+        if kind == "call":
+            return self.call(*parts, known)
         if kind == "part":
-            return part_of(self.term(parts[0], known), parts[1])
+            return parts_of(self.term(parts[0], known), parts[1])
         if kind == "record":
-            fields = ", ".join(f"{name}_={self.term(it, known)}" for name, it in parts[1])
-            base = parts[0] and self.term(parts[0], known)
-            return f"changed({base}, {fields})" if base else f"Record({fields})"
-        self.count += 1
-        names = {it: f"v{self.count}_{k}" for k, it in enumerate(parts[0])}
-        head = "".join(f"lambda {it}: " for it in names.values())
-        return f"({head}{self.term(parts[1], {**known, **names})})"
+            fields = [f"{name!r}: {self.term(it, known)}" for name, it in parts[1]]
+            base = [f"**{self.term(parts[0], known)}"] if parts[0] else []
+            return f"{{{', '.join(base + fields)}}}"
+        name = f"v{next(self.numbers)}"
+        return f"(lambda {name}: {self.term(parts[1], {**known, parts[0]: name})})"
 
     def call(self, head, arguments, known):
-        texts = [self.term(it, known) for it in arguments]
-        if head[0] != "name":
-            text, behind = self.term(head, known), ()
-        elif head[1][0] in known:
-            text, behind = known[head[1][0]], head[1][1:]
+        """The text of what a term gives for arguments."""
+        if head[0] == "name":
+            count, template = self.template(head[1], known)
         else:
-            found, used = self.lookup(head[1])
-            text, texts = self.applied(found, head[1], texts)
-            behind = head[1][used:]
-        for name in behind:
-            text = part_of(text, name)
-        return text + "".join(f"({it})" for it in texts)
+            count, template, arguments = 1, "{}", (head, *arguments)
+        texts = [self.term(it, known) for it in arguments]
+        # Where some are missing, it is a function that takes all of them, one after the other.
+        names = [f"x{k}" for k in range(count)] if len(texts) < count else []
+        text = "".join(f"(lambda {it}: " for it in names) + template.format(*(names or texts))
+        left = texts if names else texts[count:]
+        return text + ")" * len(names) + "".join(f"({it})" for it in left)
 
-    def applied(self, found, parts, texts):
-        """What a name gives for arguments, and those that are left to give to that."""
-        if found is None or found[0] == "item" and found[1].kind != "definition":
+    def template(self, parts, known):
+        """How many arguments a name takes, and the text in which these are put."""
+        if parts[0] in known:
+            return 0, parts_of(known[parts[0]], parts[1:])
+        found, behind = lookup(self.item.module, parts)
+        if found is None:
             raise ValueError(f"{self.item.path}: the name {'.'.join(parts)}")
         if found[0] == "primitive":
-            template, count = PRIMITIVES[found[1]]
-            return called(count, texts, lambda it: template.format(**dict(zip("abcd", it))))
-        if found[0] == "constructor":
-            return called(found[3], texts, lambda it: f"({', '.join([repr(found[1]), *it])},)")
-        item, own = found[1], self.item
-        code = self.running.code(item)
+            count, template = PRIMITIVES[found[1]]
+        elif found[0] == "constructor":
+            count, template = found[3], f"{found[1]!r}, {'{}, ' * found[3]}"
+        else:
+            count, template = self.definition(found[1])
+        return count, parts_of(f"({template})", behind)
+
+    def definition(self, item):
+        """The same of a definition."""
+        count, above = len(cases_of(item)[0][1]), len(item.section)
         # Inside of a module with parameters these are handed on as they are.
-        inside = own.section[: len(item.section)] if item.module is own.module else []
-        above = [f"s{k}" for k in range(len(item.section)) if inside == item.section]
-        count = len(item.section) + len(cases_of(item)[0][1])
-        return called(count, above + texts, lambda it: f"{code}({', '.join(it)})")
+        is_inside = (item.module, item.section) == (self.item.module, self.item.section[:above])
+        given = [f"a{k}" if is_inside and k < above else "{}" for k in range(count)]
+        return given.count("{}"), f"{self.running.code(item)}({', '.join(given)})"
 
 
-def part_of(text, name):
-    """A part of a pair, by its number, or of a record."""
-    return f"{text}[{name}]" if name.isdigit() else f"{text}.{name}_"
-
-
-def called(count, texts, written):
-    """A call with as many arguments as it takes, or a function of those that are missing."""
-    if len(texts) >= count:
-        return written(texts[:count]), texts[count:]
-    names = [f"x{k}" for k in range(count)]
-    function = f"lambda {', '.join(names)}: {written(names)}"
-    return f"curried({', '.join([str(count - len(texts)), function, *texts])})", []
+def parts_of(text, names):
+    """A part of pairs, by their numbers, or of records."""
+    return text + "".join(f"[{it if it.isdigit() else repr(it)}]" for it in names)
