@@ -19,7 +19,7 @@ use Rattle.event_count.specs.Known.{numbers_in, Agrees, AreDealt, Each, next_epo
 use Rattle.event_count.specs.Kept.{Knows, Links}
 use Rattle.event_word.specs.declared.event.Event.{Event}
 use Rattle.event_word.specs.World.{World}
-use Rattle.event_count.specs.Tickets.{card_credits, credits_for, AreCounted}
+use Rattle.event_count.specs.Tickets.{card_credits, credits_for, banked, AreCounted}
 use Rattle.event_count.proofs.RowSteps.Counting.{counted_split, counted_join, counted_spent}
 use Rattle.event_count.proofs.RowSteps.Counting.{card_credits-append}
 use Rattle.event_count.proofs.Cards.{numbers}
@@ -46,7 +46,7 @@ pub reseated : (k : RowSizes) (s : CountState) (views : List View)
     → ((P : Card → Type 0) → ((c : Card) (n : ℕ) → P c → P record c { credits = n })
     → Each P s.views → Each P views)
     → (AreDealt k s.views → AreDealt k views)
-    → ((all : ℕ) (w : World) → AreCounted all w s.views → AreCounted all w views)
+    → ((all bank : ℕ) (w : World) → AreCounted all bank w s.views → AreCounted all bank w views)
     → ShowsWorld k s → ShowsWorld k record { words = s.words; homes = s.homes; views = views }
 reseated k s views each deals counts shows =
     let history = shows.0 in let w = shows.1 in let r = shows.2 in (
@@ -59,7 +59,7 @@ reseated k s views each deals counts shows =
         known = each (Agrees k history w) (agrees-credits k history w) r.known;
         kept = each (Knows s.words w (next_epoch k history)) (λ c n was. was) r.kept;
         dealt = deals r.dealt;
-        counted = counts (credits_for k) w r.counted;
+        counted = counts (credits_for k) (banked s.words) w r.counted;
         few_credits = r.few_credits;
         plain = r.plain;
         linked = each (Links s.words) (λ c n was. was) r.linked;
@@ -111,7 +111,7 @@ deal_keeps k id v more s shows at =
           let longer = total-append f views (right ∷ []) in
           let parts = length-deal v.cards more in let sum = deals.all in omega arith;
     })
-    (λ all w counts. counted_split all w s.views counts id v left right at
+    (λ all bank w counts. counted_split all bank w s.views counts id v left right at
     (let parts = credits-deal v.cards more in omega arith) (λ row. omega arith))
     shows
 
@@ -141,7 +141,7 @@ join_keeps k id v other x s shows at ne at' =
           let gone = total-set_at f views other x spent at' in
           let parts = length-append v.cards x.cards in let sum = deals.all in omega arith;
     })
-    (λ all w counts. counted_join all w s.views counts id v other x both at at'
+    (λ all bank w counts. counted_join all bank w s.views counts id v other x both at at'
     (let parts = card_credits-append v.cards x.cards in
     let longer = length-append v.tickets x.tickets in omega arith)
     (λ row. times-append row v.tickets x.tickets))
@@ -166,7 +166,7 @@ arrive_keeps k slots before s shows _ _ = (
             let longer = total-append f s.views (spent ∷ []) in let sum = deals.all in
             omega arith;
       })
-      (λ all w counts. counted_spent all w s.views counts)
+      (λ all bank w counts. counted_spent all bank w s.views counts)
       shows,
   (λ i. (spent, [])),
 )

@@ -15,7 +15,7 @@ use Rattle.event_word.specs.Fields.{fields_of}
 use Rattle.event_word.specs.Word.{nobody}
 use Rattle.event_word.specs.Lists.{one_if, times}
 use Rattle.event_word.proofs.Lists.{one_if-same, one_if-other, get_or-replicate_same}
-use Rattle.event_count.specs.declared.rule.TheConstants.{STOP, STATE}
+use Rattle.event_count.specs.declared.rule.TheConstants.{STOP, BANK, STATE}
 use Rattle.event_count.specs.declared.rule.RowSizes.{RowSizes}
 use Rattle.event_count.specs.declared.view.Card.{Card}
 use Rattle.event_count.specs.declared.view.View.{View}
@@ -28,7 +28,7 @@ use Rattle.event_count.specs.Written.{Written}
 use Rattle.event_count.specs.Known.{world_at_first, next_epoch, Agrees, Each}
 use Rattle.event_count.specs.Kept.{Knows, Links}
 use Rattle.event_word.specs.Step.{row_limit}
-use Rattle.event_count.specs.Tickets.{card_credits, credits_for}
+use Rattle.event_count.specs.Tickets.{card_credits, credits_for, banked}
 use Rattle.event_count.specs.Shown.{ShowsWorld}
 use Rattle.event_count.proofs.Cards.{numbers}
 
@@ -137,6 +137,12 @@ credits_first k from zero = omega arith
 credits_first k from (suc count) = let rest = credits_first k (from + 1) count in
     let more = suc-mul count k.credits in omega arith
 
+-- nothing is in the bank
+banked_first : (k : RowSizes) → banked (words_at_first (k.waiters + k.rows)) ≡ 0
+banked_first k = let lines = k.waiters + k.rows in
+    get_or-set_other (no_words lines) STATE BANK nobody 0 (λ e. absurd (omega arith))
+    ∙ get_or-replicate_same (words_for lines) 0 BANK
+
 pub opens : (k : RowSizes) → k.waiters ≤ 16382 → credits_for k ≤ row_limit
     → ShowsWorld k (opening (words_at_first (k.waiters + k.rows)) [] (undealt k))
 opens k few few_credits =
@@ -159,7 +165,7 @@ opens k few few_credits =
         };
         counted = record {
           tickets = λ row. sym (get_or-replicate_same k.rows 0 row);
-          credits = let sum = credits_first k 0 count in omega arith;
+          credits = let sum = credits_first k 0 count in let none = banked_first k in omega arith;
         };
         few_credits = few_credits;
         plain = λ none. record { stop = refl; silent = get_or-replicate_same count false };

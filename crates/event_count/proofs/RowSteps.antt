@@ -6,6 +6,7 @@ pub mod Aside
 pub mod Events
 pub mod Publishing
 pub mod Passing
+pub mod Banking
 pub mod Tokens
 pub mod Present
 pub mod Stopping

@@ -94,26 +94,27 @@ module _ (k : RowSizes) (slots id : ℕ) (me : Sat) (is : me.0 ≡ only (card_in
         (
           [],
           w,
-          acts k s history w r id me.0 c at has [] w d place n me.1 is refl refl f record {
-            written = written_next k s.words es w r.written w es' c.number n waiter refl epochs
-                off;
-            mine = λ was. knows_on s.words words' w w es es' c.number c.stored n c.looked c.next frame
-                (get_or-set_same s.words place n 0 (omega arith)) was;
-            others = λ x ne was.
-                knows_on s.words words' w w es es' x.number x.stored x.stored x.looked x.next frame
-                (next_next s.words n c.number x.number ne ∙ was.stores) was;
-            links = λ was. links_on s.words words' c.linked c.owing
-                (λ m owed. next_next s.words n c.number m (λ eq.
-                let mine = truth k s history w r id me.0 c at has in
-                let off_list = off_owed s shows at pre c.number in
-                let a = ap (λ j. times j c.owing) eq in let b = ap (times c.number) mine.owing in
-                absurd (omega arith))) was;
-            others_links = λ x _ owing was. links_on s.words words' x.linked x.owing
-                (λ m owed. next_next s.words n c.number m (λ eq.
-                let off_list = off_owed s shows at pre x.number in
-                let a = ap (λ j. times j x.owing) eq in let b = ap (times c.number) owing in
-                absurd (omega arith))) was;
-          },
+          acts k s history w r id me.0 c at has [] w d place n me.1 is refl refl
+              (λ e. absurd (omega arith)) f record {
+                written = written_next k s.words es w r.written w es' c.number n waiter refl epochs
+                    off;
+                mine = λ was. knows_on s.words words' w w es es' c.number c.stored n c.looked c.next frame
+                    (get_or-set_same s.words place n 0 (omega arith)) was;
+                others = λ x ne was.
+                    knows_on s.words words' w w es es' x.number x.stored x.stored x.looked x.next frame
+                    (next_next s.words n c.number x.number ne ∙ was.stores) was;
+                links = λ was. links_on s.words words' c.linked c.owing
+                    (λ m owed. next_next s.words n c.number m (λ eq.
+                    let mine = truth k s history w r id me.0 c at has in
+                    let off_list = off_owed s shows at pre c.number in
+                    let a = ap (λ j. times j c.owing) eq in let b = ap (times c.number) mine.owing in
+                    absurd (omega arith))) was;
+                others_links = λ x _ owing was. links_on s.words words' x.linked x.owing
+                    (λ m owed. next_next s.words n c.number m (λ eq.
+                    let off_list = off_owed s shows at pre x.number in
+                    let a = ap (λ j. times j x.owing) eq in let b = ap (times c.number) owing in
+                    absurd (omega arith))) was;
+              },
         ),
         (refl, refl),
       )
@@ -166,24 +167,25 @@ module _ (k : RowSizes) (slots id : ℕ) (me : Sat) (is : me.0 ≡ only (card_in
       (λ m. next_state s.words new m) in (
         events,
         u,
-        acts k s history w r id me.0 c at has events u d STATE new me.1 is refl same.lengths f record {
-          written = written_push k s.words es w r.written u es' new c.number
-              (same_rows w u same.lengths same.stop) stack same.tokens epochs
-              (off_stack s shows at pre)
-              (offered ∙ (push_shows k s history w r id me.0 c at has rowed kind may pre
-              (fields_of old) e c.epoch here (omega arith) ∙ ap (λ m. shown u m) mine.epoch))
-              (ap (λ g. g.top) under) (ap (λ g. g.epoch) under);
-          mine = λ was.
-              knows_on s.words words' w u es es' c.number c.stored c.stored c.looked c.next frame
-              (next_state s.words new c.number ∙ was.stores) was;
-          others = λ y _ was.
-              knows_on s.words words' w u es es' y.number y.stored y.stored y.looked y.next frame
-              (next_state s.words new y.number ∙ was.stores) was;
-          links = λ was.
-              links_on s.words words' c.linked c.owing (λ m _. next_state s.words new m) was;
-          others_links = λ y _ _ was.
-              links_on s.words words' y.linked y.owing (λ m _. next_state s.words new m) was;
-        },
+        acts k s history w r id me.0 c at has events u d STATE new me.1 is refl same.lengths
+            (λ e. absurd (omega arith)) f record {
+              written = written_push k s.words es w r.written u es' new c.number
+                  (same_rows w u same.lengths same.stop) stack same.tokens epochs
+                  (off_stack s shows at pre)
+                  (offered ∙ (push_shows k s history w r id me.0 c at has rowed kind may pre
+                  (fields_of old) e c.epoch here (omega arith) ∙ ap (λ m. shown u m) mine.epoch))
+                  (ap (λ g. g.top) under) (ap (λ g. g.epoch) under);
+              mine = λ was.
+                  knows_on s.words words' w u es es' c.number c.stored c.stored c.looked c.next frame
+                  (next_state s.words new c.number ∙ was.stores) was;
+              others = λ y _ was.
+                  knows_on s.words words' w u es es' y.number y.stored y.stored y.looked y.next frame
+                  (next_state s.words new y.number ∙ was.stores) was;
+              links = λ was.
+                  links_on s.words words' c.linked c.owing (λ m _. next_state s.words new m) was;
+              others_links = λ y _ _ was.
+                  links_on s.words words' y.linked y.owing (λ m _. next_state s.words new m) was;
+            },
       ))
 
   -- a load of the looked top's next word
@@ -204,19 +206,20 @@ module _ (k : RowSizes) (slots id : ℕ) (me : Sat) (is : me.0 ≡ only (card_in
         (
           [],
           w,
-          acts k s history w r id me.0 c at has [] w d place n me.1 is refl refl f record {
-            written = subst (λ ws. Written k ws w es') (sym same)
-                (subst (λ h. Written k s.words w (next_epoch k h)) (sym again) r.written);
-            mine = λ was. subst (λ ws. Knows ws w es' d) (sym same)
-                (subst (λ h. Knows s.words w (next_epoch k h) d) (sym again) record {
-                  stores = was.stores;
-                  past = λ ne. ((was.past ne).0, λ _ _. refl);
-                });
-            others = λ x _ was. subst (λ ws. Knows ws w es' x) (sym same)
-                (subst (λ h. Knows s.words w (next_epoch k h) x) (sym again) was);
-            links = λ was. subst (λ ws. Links ws c) (sym same) was;
-            others_links = λ x _ _ was. subst (λ ws. Links ws x) (sym same) was;
-          },
+          acts k s history w r id me.0 c at has [] w d place n me.1 is refl refl
+              (λ e. absurd (omega arith)) f record {
+                written = subst (λ ws. Written k ws w es') (sym same)
+                    (subst (λ h. Written k s.words w (next_epoch k h)) (sym again) r.written);
+                mine = λ was. subst (λ ws. Knows ws w es' d) (sym same)
+                    (subst (λ h. Knows s.words w (next_epoch k h) d) (sym again) record {
+                      stores = was.stores;
+                      past = λ ne. ((was.past ne).0, λ _ _. refl);
+                    });
+                others = λ x _ was. subst (λ ws. Knows ws w es' x) (sym same)
+                    (subst (λ h. Knows s.words w (next_epoch k h) x) (sym again) was);
+                links = λ was. subst (λ ws. Links ws c) (sym same) was;
+                others_links = λ x _ _ was. subst (λ ws. Links ws x) (sym same) was;
+              },
         ),
         (refl, refl),
       )
@@ -285,24 +288,25 @@ module _ (k : RowSizes) (slots id : ℕ) (me : Sat) (is : me.0 ≡ only (card_in
           (λ m more. (let a = ap (times m) stack in omega arith, next_state s.words new m)) in (
             events,
             u,
-            acts k s history w r id me.0 c at has events u d STATE new me.1 is refl refl f record {
-              written = written_pop k s.words es w r.written u es' new top rest
-                  (same_rows w u refl refl) stack refl refl epochs
-                  (offered ∙ (ap (λ m. popped (fields_of old) (fields_of m)) (sym right)
-                  ∙ pop_shows k s history w r id me.0 c at has (fields_of old)
-                  (next_fields s.words top) e top rest here (omega arith) stack
-                  (leads_top s.words es rest (next_fields s.words top) leads.2)));
-              mine = λ was.
-                  knows_on s.words words' w u es es' c.number c.stored c.stored c.looked c.next frame
-                  (next_state s.words new c.number ∙ was.stores) was;
-              others = λ y _ was.
-                  knows_on s.words words' w u es es' y.number y.stored y.stored y.looked y.next frame
-                  (next_state s.words new y.number ∙ was.stores) was;
-              links = λ _. let e = ap (λ xs. length (xs ++ (fields_of old).top ∷ [])) none_owed in
-                  omega arith;
-              others_links = λ y _ _ was.
-                  links_on s.words words' y.linked y.owing (λ m _. next_state s.words new m) was;
-            },
+            acts k s history w r id me.0 c at has events u d STATE new me.1 is refl refl
+                (λ e. absurd (omega arith)) f record {
+                  written = written_pop k s.words es w r.written u es' new top rest
+                      (same_rows w u refl refl) stack refl refl epochs
+                      (offered ∙ (ap (λ m. popped (fields_of old) (fields_of m)) (sym right)
+                      ∙ pop_shows k s history w r id me.0 c at has (fields_of old)
+                      (next_fields s.words top) e top rest here (omega arith) stack
+                      (leads_top s.words es rest (next_fields s.words top) leads.2)));
+                  mine = λ was.
+                      knows_on s.words words' w u es es' c.number c.stored c.stored c.looked c.next frame
+                      (next_state s.words new c.number ∙ was.stores) was;
+                  others = λ y _ was.
+                      knows_on s.words words' w u es es' y.number y.stored y.stored y.looked y.next frame
+                      (next_state s.words new y.number ∙ was.stores) was;
+                  links = λ _. let e = ap (λ xs. length (xs ++ (fields_of old).top ∷ [])) none_owed in
+                      omega arith;
+                  others_links = λ y _ _ was.
+                      links_on s.words words' y.linked y.owing (λ m _. next_state s.words new m) was;
+                },
           )
 
   pub push_keeps : (rowed : Bool) (old new : ℕ) → IsKind rowed k → MayCommit rowed k c

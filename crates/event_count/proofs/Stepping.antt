@@ -123,7 +123,7 @@ module _ (k : RowSizes) (slots id : ℕ) (me : Sat) (is : me.0 ≡ only (card_in
       events,
       u,
       acts k s shows.0 shows.1 shows.2 id me.0 c at has events u d STATE n me.1 is credits
-          rows.lengths f
+          rows.lengths (λ e. absurd (omega arith)) f
           (state_still k s shows.0 shows.1 shows.2 id me.0 c at has events u d n f rows still stack
           tokens
           is' reads

@@ -1,6 +1,6 @@
 -- A step by one seat, with its events or with none, keeps the rule.
 use Rattle.std.proofs.Common.{◌≡◌, ◌≢◌, ℕ, ◌+◌, ◌≤◌, ◌<◌, List, [], ◌∷◌, ◌++◌, sym, ap, refl, ◌∙◌}
-use Rattle.std.proofs.Common.{arith, append-nil, slice_set}
+use Rattle.std.proofs.Common.{arith, append-nil, slice_set, subst, get_or-set_other}
 use mathlib.Core.Option.{some}
 use lib.ListN.{get_elem?}
 use Rattle.atomic_table.specs.Table.{stepped, keeps}
@@ -13,6 +13,7 @@ use Rattle.event_word.specs.Runs.{Runs}
 use Rattle.event_word.specs.Balance.{push_of, over}
 use Rattle.event_word.proofs.Histories.{Runs-append}
 use Rattle.event_word.proofs.Balancing.{over-append, no_push}
+use Rattle.event_count.specs.declared.rule.TheConstants.{BANK}
 use Rattle.event_count.specs.declared.rule.RowSizes.{RowSizes}
 use Rattle.event_count.specs.declared.view.Card.{Card}
 use Rattle.event_count.specs.declared.view.View.{View}
@@ -22,7 +23,7 @@ use Rattle.event_count.specs.Steps.{Adds}
 use Rattle.event_count.specs.Known.{world_at_first, events_of, Agrees, next_epoch}
 use Rattle.event_count.specs.Kept.{Knows, Links}
 use Rattle.event_count.specs.Written.{Written}
-use Rattle.event_count.specs.Tickets.{credits_for, AreCounted}
+use Rattle.event_count.specs.Tickets.{credits_for, banked, AreCounted}
 use Rattle.event_count.proofs.RowSteps.Counting.{counted_still}
 use Rattle.event_count.proofs.Acting.{AreBy, left_alone, events_of-mine, events_of-theirs}
 use Rattle.event_count.proofs.Cards.{of_only, each_set, dealt_set}
@@ -61,6 +62,11 @@ pushes_none actor n ne w [] by = refl
 pushes_none actor n ne w (e ∷ events) by =
     let here = no_push n w e (λ is. ne (is ∙ by.0)) in
     let rest = pushes_none actor n ne (effect w e) events by.1 in omega arith
+
+-- a step on another word leaves the bank
+pub still_banked : (words : List ℕ) (place n : ℕ) → BANK ≢ place
+    → banked words ≡ banked (slice_set words place n)
+still_banked words place n other = sym (get_or-set_other words place BANK n 0 other)
 
 module _ (k : RowSizes) (s : CountState) (history : List Event) (w : World)
     (r : Shows k s history w) (id : ℕ) (v : View) (c : Card)
@@ -125,7 +131,8 @@ module _ (k : RowSizes) (s : CountState) (history : List Event) (w : World)
   -- a step that is these events, and makes this of the word at a place
   pub acts_to : (events : List Event) (u : World) (d : Card) (place n : ℕ)
       (held : List (ℕ × Unit {0})) (new : View) → new.cards ≡ d ∷ []
-      → AreCounted (credits_for k) u (slice_set s.views id new) → Fitting k w u events c d
+      → AreCounted (credits_for k) (banked (slice_set s.words place n)) u (slice_set s.views id new)
+      → Fitting k w u events c d
       → Wording k s.words (slice_set s.words place n) w u (next_epoch k history)
       (next_epoch k (history ++ events)) c d
       → Adds k history w c d (stepped s place n id held new keeps) events u
@@ -154,16 +161,19 @@ module _ (k : RowSizes) (s : CountState) (history : List Event) (w : World)
     };
   }
 
-  -- the same of a step that has to do with no ticket
+  -- the same of a step that has to do with no ticket, nor with the bank
   pub acts : (events : List Event) (u : World) (d : Card) (place n : ℕ)
       (held : List (ℕ × Unit {0})) → v ≡ only c → d.credits ≡ c.credits
-      → u.lengths ≡ w.lengths → Fitting k w u events c d
+      → u.lengths ≡ w.lengths → BANK ≢ place → Fitting k w u events c d
       → Wording k s.words (slice_set s.words place n) w u (next_epoch k history)
       (next_epoch k (history ++ events)) c d
       → Adds k history w c d (stepped s place n id held (only d) keeps) events u
-  acts events u d place n held whole credits lengths f writes =
+  acts events u d place n held whole credits lengths other f writes =
       acts_to events u d place n held (only d) refl
-      (counted_still (credits_for k) w u s.views id v at r.counted c d whole credits lengths)
+      (subst (λ bank. AreCounted (credits_for k) bank u (slice_set s.views id (only d)))
+      (still_banked s.words place n other)
+      (counted_still (credits_for k) (banked s.words) w u s.views id v at r.counted c d whole
+      credits lengths))
       f writes
 
   -- a step that is none leaves history and World

@@ -71,22 +71,23 @@ module _ (k : RowSizes) (slots id : ℕ) (me : Sat) (is : me.0 ≡ only (card_in
         (
           events,
           u,
-          acts k s history w r id me.0 c at has events u d STATE new me.1 is refl refl f record {
-            written = written_state k s.words es w r.written u es' new (same_all w c.number) refl 0
-                shows_new
-                (ap (λ g. g.top) shows_new, ap (λ g. g.epoch) shows_new);
-            mine = λ was.
-                knows_on s.words words' w u es es' c.number c.stored c.stored c.looked c.next frame
-                (next_state s.words new c.number ∙ was.stores) was;
-            others = λ y _ was.
-                knows_on s.words words' w u es es' y.number y.stored y.stored y.looked y.next frame
-                (next_state s.words new y.number ∙ was.stores) was;
-            links = λ _. subst (λ xs. Chain words' (xs ++ w.stack)) (sym none_owed)
-                (chain_on s.words words' w.stack (λ m _. next_state s.words new m)
-                (chain_of s.words es w.stack (shown_fields s.words) r.written.stack));
-            others_links = λ y _ _ was.
-                links_on s.words words' y.linked y.owing (λ m _. next_state s.words new m) was;
-          },
+          acts k s history w r id me.0 c at has events u d STATE new me.1 is refl refl
+              (λ e. absurd (omega arith)) f record {
+                written = written_state k s.words es w r.written u es' new (same_all w c.number) refl 0
+                    shows_new
+                    (ap (λ g. g.top) shows_new, ap (λ g. g.epoch) shows_new);
+                mine = λ was.
+                    knows_on s.words words' w u es es' c.number c.stored c.stored c.looked c.next frame
+                    (next_state s.words new c.number ∙ was.stores) was;
+                others = λ y _ was.
+                    knows_on s.words words' w u es es' y.number y.stored y.stored y.looked y.next frame
+                    (next_state s.words new y.number ∙ was.stores) was;
+                links = λ _. subst (λ xs. Chain words' (xs ++ w.stack)) (sym none_owed)
+                    (chain_on s.words words' w.stack (λ m _. next_state s.words new m)
+                    (chain_of s.words es w.stack (shown_fields s.words) r.written.stack));
+                others_links = λ y _ _ was.
+                    links_on s.words words' y.linked y.owing (λ m _. next_state s.words new m) was;
+              },
         ),
         (
           w.stack,

@@ -75,16 +75,17 @@ module _ (k : RowSizes) (slots id : ℕ) (me : Sat) (is : me.0 ≡ only (card_in
       (next_parker s.words n seat x.number ∙ was.stores) was in (
         events,
         u,
-        acts k s history w r id me.0 c at has events u d (parker_place seat) n me.1 is credits rows.lengths f record {
-          written = written_parker k s.words es w r.written u es' seat b rows stack (ap length pre) signals
-              tokens known (sizes k s history w r id me.0 c at has).tokens epochs;
-          mine = λ was. reads words' es' (on c was);
-          others = λ x _ was. on x was;
-          links = λ was. linked words'
-              (links_on s.words words' c.linked c.owing (λ m _. next_parker s.words n seat m) was);
-          others_links = λ x _ _ was.
-              links_on s.words words' x.linked x.owing (λ m _. next_parker s.words n seat m) was;
-        },
+        acts k s history w r id me.0 c at has events u d (parker_place seat) n me.1 is credits
+            rows.lengths (λ e. absurd (omega arith)) f record {
+              written = written_parker k s.words es w r.written u es' seat b rows stack (ap length pre) signals
+                  tokens known (sizes k s history w r id me.0 c at has).tokens epochs;
+              mine = λ was. reads words' es' (on c was);
+              others = λ x _ was. on x was;
+              links = λ was. linked words'
+                  (links_on s.words words' c.linked c.owing (λ m _. next_parker s.words n seat m) was);
+              others_links = λ x _ _ was.
+                  links_on s.words words' x.linked x.owing (λ m _. next_parker s.words n seat m) was;
+            },
       )
 
   -- the first seat owed gets its token
@@ -208,14 +209,15 @@ module _ (k : RowSizes) (slots id : ℕ) (me : Sat) (is : me.0 ≡ only (card_in
         (
           [],
           w,
-          acts k s history w r id me.0 c at has [] w c place n me.1 is refl refl f record {
-            written = subst (λ ws. Written k ws w es') (sym same)
-                (subst (λ h. Written k s.words w (next_epoch k h)) (sym again) r.written);
-            mine = λ was. on c was;
-            others = λ x _ was. on x was;
-            links = λ was. subst (λ ws. Links ws c) (sym same) was;
-            others_links = λ x _ _ was. subst (λ ws. Links ws x) (sym same) was;
-          },
+          acts k s history w r id me.0 c at has [] w c place n me.1 is refl refl
+              (λ e. absurd (omega arith)) f record {
+                written = subst (λ ws. Written k ws w es') (sym same)
+                    (subst (λ h. Written k s.words w (next_epoch k h)) (sym again) r.written);
+                mine = λ was. on c was;
+                others = λ x _ was. on x was;
+                links = λ was. subst (λ ws. Links ws c) (sym same) was;
+                others_links = λ x _ _ was. subst (λ ws. Links ws x) (sym same) was;
+              },
         ),
         (
           ap (λ xs. next_place (foremost xs)) (sym owing),

@@ -8,6 +8,7 @@ use Rattle.event_count.specs.declared.rule.Sizes.{Sizes}
 use Rattle.event_count.specs.declared.rule.RowSizes.{RowSizes}
 use Rattle.event_count.specs.declared.view.Exchange.{Exchange}
 use Rattle.event_count.specs.declared.view.Finding.{Finding}
+use Rattle.event_count.specs.declared.view.BankBook.{BankBook}
 use Rattle.event_count.specs.declared.view.Card.{Card}
 use Rattle.event_count.specs.declared.view.View.{View}
 
@@ -21,6 +22,10 @@ found_in row length = record { row = Some row; word = length }
 
 abbrev pub found_at_stop : ℕ → Finding
 found_at_stop word = record { row = None; word = word }
+
+-- the seat has had nothing to do with the bank
+abbrev pub unused_book : BankBook
+unused_book = record { put_in = 0; taken_out = 0; withdrawals = 0 }
 
 -- the sizes of a count alone
 abbrev pub rowless : Sizes → RowSizes
@@ -59,6 +64,7 @@ opening_card k number = record {
   passed = slice_index_or (replicate k.waiters (replicate k.rows false)) number [];
   announcing = false;
   credits = k.credits;
+  book = unused_book;
   found = found_at_stop 0;
 }
 

@@ -1,5 +1,5 @@
 -- Where the words of a count's table lie: the stop word, the state word, and those of waiters and rows.
--- Each has a line of its own, the two of a waiter one together.
+-- Each has a line of its own, the two of a waiter one together. The bank lies beside the stop word.
 use Rattle.std.specs.Prelude.{ℕ, ◌+◌, ◌-◌, ◌*◌, List, replicate, slice_set}
 use Rattle.event_word.specs.Word.{nobody}
 use Rattle.event_count.specs.declared.rule.TheConstants.{LINE, STATE}

@@ -11,7 +11,7 @@ use Rattle.event_count.specs.Limits.{most_waiters}
 use Rattle.event_count.specs.Written.{Written}
 use Rattle.event_count.specs.Known.{world_at_first, next_epoch, Agrees, AreDealt, Each}
 use Rattle.event_count.specs.Kept.{Knows, Links}
-use Rattle.event_count.specs.Tickets.{credits_for, AreCounted}
+use Rattle.event_count.specs.Tickets.{credits_for, banked, AreCounted}
 
 -- the words of a count's table, and what each of its seats knows
 abbrev pub CountState : Type 0
@@ -31,7 +31,7 @@ pub record Shows (k : RowSizes) (s : CountState) (history : List Event) (w : Wor
   pub kept : Each (Knows s.words w (next_epoch k history)) s.views
   pub linked : Each (Links s.words) s.views
   pub dealt : AreDealt k s.views
-  pub counted : AreCounted (credits_for k) w s.views
+  pub counted : AreCounted (credits_for k) (banked s.words) w s.views
   pub few_credits : credits_for k ≤ row_limit
   pub plain : k.rows ≡ 0 → HasNoRows w
 

@@ -26,6 +26,7 @@ pub record IsLater (c d : Card) : Type 0 where
   pub passed : d.passed ≡ c.passed
   pub announcing : d.announcing ≡ c.announcing
   pub credits : d.credits ≡ c.credits
+  pub book : d.book ≡ c.book
   pub found : d.found ≡ c.found
   pub loads : c.loads ≤ d.loads
   pub exchanges : c.exchanges ≤ d.exchanges

@@ -54,7 +54,7 @@ pub fn counts_follow()
     ensures { CountsFollow }
 {}
 
-/// So does each step on a row or on the stop word.
+/// So does each step on a row or on the stop word, and one on the bank adds none.
 pub fn row_steps_add_their_events()
     ensures { RowStepsAddTheirEvents }
 {}

@@ -55,6 +55,7 @@
 //! | parker word of a waiter | all | 1 where it has a token |
 //! | length word of a row | all | how many jobs the row has, by their tickets |
 //! | stop word | all | 0 until somebody stops the count |
+//! | bank | all | how many credits no seat has, for any to withdraw |
 //!
 //! | Who waits | Its answer | Who gives it | Who takes it |
 //! |---|---|---|---|
@@ -117,5 +118,5 @@ pub use locked_count::{LockedCount, LockedSeat};
 pub use rule::{EPOCHS, Law, MOST_CREDITS, MOST_WAITERS, RowSizes, Sizes};
 pub use seat::Seat;
 pub use tokens::{Credit, Ticket};
-pub use view::{Card, Exchange, Finding, View};
+pub use view::{BankBook, Card, Exchange, Finding, View};
 pub use wait_point::WaitPoint;

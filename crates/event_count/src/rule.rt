@@ -19,10 +19,13 @@ pub const EPOCHS: u32 = 4_194_304;
 /// the block begins at an even word.
 pub const LINE: usize = 8;
 
-/// The place of the stop word, which has a line of its own.
+/// The place of the stop word, which has a line of its own but for the bank.
 pub const STOP: usize = 0;
 
-/// The place of the state word, which has one too.
+/// The place of the bank, the credits that no seat has. It lies beside the stop word.
+pub const BANK: usize = 1;
+
+/// The place of the state word, which has a line too.
 pub const STATE: usize = LINE;
 
 // The place of a waiter's next word: its line begins with it.

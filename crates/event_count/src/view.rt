@@ -17,6 +17,14 @@ pub struct Finding {
     pub word: u64,
 }
 
+/// How many credits a seat has put into the bank, all together, and how many it has taken out; and
+/// how often it took out what was there.
+pub struct BankBook {
+    pub put_in: u64,
+    pub taken_out: u64,
+    pub withdrawals: u64,
+}
+
 /// What one seat has done, and what it knows of itself.
 pub struct Card {
     /// How many seats of the count may wait.
@@ -54,6 +62,8 @@ pub struct Card {
     pub announcing: bool,
     /// How many more jobs it may publish.
     pub credits: u64,
+    /// What it has put into the bank, and taken out.
+    pub book: BankBook,
     /// What it found when it last looked at a row's length, or at the stop word.
     pub found: Finding,
 }

@@ -36,6 +36,7 @@ impl<K: Kind, A: Allocator> Count<K, A> {
         ensures owing { (card_of seat.new).owing ≡ (card_of seat.old).owing }
         ensures announcing { (card_of seat.new).announcing ≡ (card_of seat.old).announcing }
         ensures credits { (card_of seat.new).credits ≡ (card_of seat.old).credits }
+        ensures book { (card_of seat.new).book ≡ (card_of seat.old).book }
     {
         for _ in rt.forever() {
             let word = self.load_state(seat);
@@ -103,6 +104,7 @@ impl<K: Kind, A: Allocator> Count<K, A> {
         ensures owing { (card_of seat.new).owing ≡ (card_of seat.old).owing }
         ensures announcing { (card_of seat.new).announcing ≡ (card_of seat.old).announcing }
         ensures credits { (card_of seat.new).credits ≡ (card_of seat.old).credits }
+        ensures book { (card_of seat.new).book ≡ (card_of seat.old).book }
     {
         for _ in rt.forever() {
             if self.cancel_once(seat) {
@@ -158,6 +160,7 @@ impl<K: Kind, A: Allocator> Count<K, A> {
         ensures owes_none { (card_of seat.new).owing ≡ [] }
         ensures silent { (card_of seat.new).announcing ≡ false }
         ensures credits { (card_of seat.new).credits ≡ (card_of seat.old).credits }
+        ensures book { (card_of seat.new).book ≡ (card_of seat.old).book }
     {
         for _ in rt.forever() {
             if self.notify_once(seat) {
@@ -180,6 +183,7 @@ impl<K: Kind, A: Allocator> Count<K, A> {
         ensures owes_none { (card_of seat.new).owing ≡ [] }
         ensures silent { (card_of seat.new).announcing ≡ false }
         ensures credits { (card_of seat.new).credits ≡ (card_of seat.old).credits }
+        ensures book { (card_of seat.new).book ≡ (card_of seat.old).book }
     {
         for _ in rt.forever() {
             let word = self.load_state(seat);

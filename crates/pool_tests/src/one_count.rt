@@ -9,7 +9,7 @@ use std::process::Abort;
 use std::sync::Wait;
 use waking_rows::{OnOneCount, RowPoint, RowWaiter, WakingRows, WakingSeat, on_one_count};
 
-/// How many jobs a seat of rows for two workers may put in before it takes one out.
+/// How many credits a seat of rows for two workers begins with.
 const CREDITS: u32 = 174_762;
 
 // One seat puts so many jobs in at the back of a row, each of which another takes out.
@@ -35,8 +35,8 @@ fn pass_on<R: Wait + Abort>(
     }
 }
 
-// Nobody sleeps over a row with a job, nor once all were woken. A seat that has put in as many jobs
-// as it may gets the next one back, and who took them may put one in.
+// Nobody sleeps over a row with a job, nor once all were woken. A seat that puts in three times as
+// many jobs as it has credits is never refused, since those of who takes the jobs flow back.
 #[test]
 fn jobs_are_put_looked_at_and_taken(rt: HostRuntime) {
     let Ok(made) = on_one_count::<u32, Global>(&rt.alloc(), 2) else {
@@ -72,8 +72,7 @@ fn jobs_are_put_looked_at_and_taken(rt: HostRuntime) {
     assert!(rt; rows.pop_front(&mut second) == Some(8));
     point.enter(&rt, &mut waiter);
     point.leave(&rt, &mut waiter);
-    pass_on(&rt, &rows, &mut outsider, &mut first, CREDITS - 1);
-    assert!(rt; rows.push_back(&rt, &mut outsider, 0, 9) == Err(9));
+    pass_on(&rt, &rows, &mut outsider, &mut first, 3 * CREDITS);
     assert!(rt; rows.push_front(&rt, &mut first, 9).is_ok());
     point.wake_one(&rt, &mut notifier);
     point.wake_all(&rt, &mut notifier);

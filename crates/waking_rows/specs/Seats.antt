@@ -1,17 +1,20 @@
 -- What contracts say of rows that wake, and of their seats.
-use Rattle.std.specs.Prelude.{◌≡◌, ◌≢◌, ℕ, ◌+◌, ◌*◌, ◌/◌, ◌<◌, ◌≤◌, ◌↔◌, List, Result, MatchResult}
+use Rattle.std.specs.Prelude.{◌≡◌, ◌≢◌, ℕ, ◌+◌, ◌*◌, ◌/◌, ◌<◌, ◌≤◌, ◌↔◌, List, Option, Some, None}
+use Rattle.std.specs.Prelude.{Result, MatchResult}
 use Rattle.std.specs.Arc.{arc_value}
 use Rattle.event_word.specs.Step.{row_limit}
 use Rattle.event_count.specs.Seated.{TableId}
+use Rattle.event_count.specs.declared.view.BankBook.{BankBook}
 use Rattle.event_count.specs.Rows.Gains.{measuring}
 use Rattle.event_count.specs.Seats.{card_of, seat_id}
 use Rattle.event_count.specs.Rows.Seats.{row_count_id}
 use Rattle.run_queue.specs.SlotSeats.{rows_id, row_count_of, seat_count_of, table_of, number_in}
-use Rattle.run_queue.specs.SlotSeats.{puts_of, takes_of, front_of, claim_of, ClaimedOnce}
+use Rattle.run_queue.specs.SlotSeats.{puts_of, takes_of, front_of, claim_of, claims_of, ClaimedOnce}
 use Rattle.run_queue.specs.Elements.{empty_word}
 use Rattle.run_queue.specs.Limits.{most_jobs}
 use Rattle.waking_rows.specs.declared.waking_rows.WakingRows.{WakingRows}
 use Rattle.waking_rows.specs.declared.waking_rows.WakingSeat.{WakingSeat}
+use Rattle.waking_rows.specs.Credits.{kept, GoesToBank, funds_of}
 use Rattle.waking_rows.specs.Tickets.{jobs_in}
 
 -- with how many credits each seat begins of rows for so many workers: an even share of those that a
@@ -34,9 +37,21 @@ module _ {J : Type 0} where
   abbrev pub takes_by : WakingSeat J → List J
   takes_by seat = jobs_in (takes_of seat.slot)
 
-  -- how many more jobs it may put in before it takes one out
+  -- how many more jobs it may put in by its own credits, before it takes one out
   abbrev pub credits_by : WakingSeat J → ℕ
   credits_by seat = (card_of seat.seat).credits
+
+  -- what it has put into the bank of the count, and taken out
+  abbrev pub book_by : WakingSeat J → BankBook
+  book_by seat = (card_of seat.seat).book
+
+  -- with how many credits a put went: those of the seat, or of the bank where it had none
+  abbrev pub funds : WakingSeat J → WakingSeat J → ℕ
+  funds before after = funds_of (credits_by before) (book_by before) (book_by after)
+
+  -- a put goes to the bank where the seat has no credit, and nowhere else
+  abbrev pub IsPaid : WakingSeat J → WakingSeat J → Type 0
+  IsPaid before after = GoesToBank (credits_by before) (book_by before) (book_by after)
 
   -- the position of its next put at the front, and the element that it last claimed
   abbrev pub front_by : WakingSeat J → ℕ
@@ -50,11 +65,13 @@ module _ {J : Type 0} where
     pub once : ClaimedOnce before.slot after.slot wanted
     pub refused : IsRefused ↔ ((claim_of after.slot).found ≢ wanted)
 
-  -- a put is refused where the seat has no credit, and else exactly where its claim found its
-  -- element not empty
+  -- a put is refused without a claim where the seat has no credit and its look at the bank found
+  -- none, and else exactly where its claim found its element not empty
   pub record IsPut (IsRefused : Type 0) (before after : WakingSeat J) : Type 0 where
-    pub unpaid : credits_by before ≡ 0 → IsRefused
-    pub paid : 0 < credits_by before → Claims empty_word IsRefused before after
+    pub bank : IsPaid before after
+    pub unpaid : funds before after ≡ 0 → IsRefused
+    pub unclaimed : funds before after ≡ 0 → claims_of after.slot ≡ claims_of before.slot
+    pub paid : 0 < funds before after → Claims empty_word IsRefused before after
 
   -- it is of the same rows, and has the same number
   pub record IsSameSeat (before after : WakingSeat J) : Type 0 where
@@ -67,6 +84,11 @@ module _ {J : Type 0} where
   LooksAtLength before after row answer = (length : ℕ)
       × (card_of after.seat ≡ measuring (card_of before.seat) row length)
       × (length ≤ most_jobs → answer ≡ length) × (most_jobs < length → answer ≡ most_jobs)
+
+  -- after a take the seat has the credit of its job, and its surplus is in the bank
+  abbrev pub credits_after : Option J → ℕ → ℕ
+  credits_after (Some job) credits = kept (credits + 1)
+  credits_after None credits = credits
 
   -- an accepted job takes a credit, and a refused one none
   abbrev pub PaysIfOk : Result (Unit {0}) J → ℕ → ℕ → Type 0

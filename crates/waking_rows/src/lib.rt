@@ -16,7 +16,7 @@
 //!
 //! | Table | Has |
 //! |---|---|
-//! | of the count | the state word, the waiters' words, the length of each row, the stop word |
+//! | of the count | the state word, the waiters' words, the length of each row, the stop word, the bank |
 //! | of the slots | the phase of each element; in its slot a job beside the ticket that counts it |
 //!
 //! Both of a thread's seats are seats of the count too: one publishes, takes and notifies, the
@@ -25,9 +25,11 @@
 //! # What moves when
 //!
 //! ```text
-//! put     a credit for a ticket, length up   both into the slot   notify one
+//! put     without a credit: all of the bank  over 1,024: all but 512 back into it
+//!         a credit for a ticket, length up   both into the slot   notify one
 //!         where the slot takes none          ticket for a credit, length down   notify one
 //! take    job and ticket out of the slot     ticket for a credit, length down
+//!         over 1,024 credits: all but 512 into the bank
 //! sleep   the flag, then each row            all 0: commit   else: cancel
 //! ```
 //!

@@ -9,6 +9,7 @@ ghost use Rattle.event_count.specs.Seats.{card_of, seat_id, IsIdle};
 ghost use Rattle.event_count.specs.Rows.Seats.{row_count_id, row_sizes_of, IsSilent};
 ghost use Rattle.run_queue.specs.Limits.{most_rows};
 ghost use Rattle.run_queue.specs.SlotSeats.{number_in, puts_of, takes_of, table_of};
+ghost use Rattle.waking_rows.specs.Credits.{HasBanked};
 ghost use Rattle.waking_rows.specs.Points.{count_at, waiters_at};
 ghost use Rattle.waking_rows.specs.Seats.{place_of, rows_in, seats_in, home_of, number_by};
 ghost use Rattle.waking_rows.specs.Seats.{puts_by, takes_by, credits_by, first_credits};
@@ -40,7 +41,7 @@ fn credits_each(seats: u32) -> u32
 }
 
 /// A row and a waiter for each worker, and beside theirs one seat more at each, for one that only
-/// puts jobs in.
+/// puts jobs in. The credits of the point's seats are in the bank.
 pub fn on_one_count<J: Drop, A: Allocator + Clone>(
     alloc: &A,
     workers: u16,
@@ -57,6 +58,8 @@ pub fn on_one_count<J: Drop, A: Allocator + Clone>(
         All (λ s. (puts_by s ≡ []) × (takes_by s ≡ [])) made.row_seats.items) }
     ensures credits { IfOk result (λ made.
         All (λ s. credits_by s ≡ first_credits workers) made.row_seats.items) }
+    ensures banked { IfOk result (λ made. All (λ s. HasBanked (card_of s.seat)
+        (first_credits workers)) made.waiters.items) }
     ensures waiters { IfOk result (λ made. waiters_at made.point ≡ workers) }
     ensures seats { IfOk result (λ made. made.point.seats ≡ workers + 1) }
     ensures all { IfOk result (λ made. length made.waiters.items ≡ workers + 1) }
@@ -82,7 +85,7 @@ pub fn on_one_count<J: Drop, A: Allocator + Clone>(
         return Err(AllocError);
     };
     let others = seats.split_off(usize::from(workers) + 1)?;
-    let waiters = waiters_of(alloc, seats)?;
+    let waiters = waiters_of(alloc, &count, seats)?;
     let Ok(count) = Arc::new(alloc.clone()?, count) else {
         return Err(AllocError);
     };

@@ -5,8 +5,9 @@ ghost use Rattle.event_word.specs.declared.phase.Phase.TheVariants.{Running, Pre
 ghost use Rattle.event_count.specs.Gains.{prewaiting};
 ghost use Rattle.event_count.specs.Kinds.{with_rows};
 ghost use Rattle.event_count.specs.Rows.Seats.{row_count_id, row_sizes_of, IsSilent};
-ghost use Rattle.event_count.specs.Seats.{card_of, seat_id};
+ghost use Rattle.event_count.specs.Seats.{card_of, seat_id, IsSeatOf};
 ghost use Rattle.event_count.specs.Waits.{RestsOnCancel};
+ghost use Rattle.waking_rows.specs.Credits.{banking};
 
 use event_count::{
     Committed, CountFault, MOST_WAITERS, PassAll, RowCount, RowFault, RowSizes, Seat, WaitPoint,
@@ -34,16 +35,23 @@ pub struct RowWaiter {
     ghost silent: { IsSilent seat },
 }
 
-/// Each seat as a waiter's.
+/// Each seat as a waiter's. Its credits are in the bank of the count, since a waiter puts no job in.
 pub(crate) fn waiters_of<A: Allocator + Clone>(
     alloc: &A,
+    count: &RowCount<A>,
     seats: Vec<Seat, A>,
 ) -> Result<Vec<RowWaiter, A>, std::alloc::AllocError>
     requires silent { All IsSilent seats.items }
-    ensures seats { IfOk result (λ list. map (λ waiter. waiter.seat) list.items ≡ seats.items) }
+    requires ours { All (IsSeatOf count.now) seats.items }
+    ensures cards { IfOk result (λ list. map (λ waiter. card_of waiter.seat) list.items
+        ≡ map (λ seat. banking (card_of seat)) seats.items) }
+    ensures ours { IfOk result (λ list.
+        All (λ waiter. seat_id waiter.seat ≡ row_count_id count.now) list.items) }
 {
     let mut list = Vec::with_capacity(alloc.clone()?, seats.len())?;
-    for seat in seats {
+    for mut seat in seats {
+        let credits = seat.credits();
+        count.deposit(&mut seat, credits);
         list.push_reserved(RowWaiter { seat });
     }
     Ok(list)
@@ -95,7 +103,7 @@ impl<A: Allocator + Clone> WaitPoint<A> for RowPoint<A> {
             Err(RowFault::TooManyWaiters | RowFault::TooManyCredits) => unreachable!(),
             Err(RowFault::NoMemory) => return Err(CountFault::NoMemory),
         };
-        let list = waiters_of(&alloc, seats)?;
+        let list = waiters_of(&alloc, &count, seats)?;
         match Arc::new(alloc, count) {
             Ok(count) => Ok((
                 RowPoint {

@@ -14,6 +14,7 @@ use std::sync::Arc;
 
 mod as_rows;
 mod calls;
+mod credits;
 mod ending;
 
 /// Rows of slots whose lengths a count has, beside those who wait at it.

@@ -13,13 +13,13 @@ use Rattle.event_count.specs.Cards.{only, spent}
 use Rattle.event_count.specs.Tickets.{card_credits, weight, AreCounted, tickets_over}
 use Rattle.event_count.proofs.Totals.{total-set_at}
 
-module _ (all : ℕ) (w u : World) (views : List View) (id : ℕ) (v : View)
-    (at : get_elem? views id ≡ some v) (counts : AreCounted all w views) where
+module _ (all bank : ℕ) (w u : World) (views : List View) (id : ℕ) (v : View)
+    (at : get_elem? views id ≡ some v) (counts : AreCounted all bank w views) where
   -- one view changes, and so do the lengths of the rows of its tickets
   pub counted_set : (new : View) → weight new ≡ weight v
       → ((row : ℕ) → times row new.tickets + length_of w row
       ≡ times row v.tickets + length_of u row)
-      → AreCounted all u (set views id new)
+      → AreCounted all bank u (set views id new)
   counted_set new same moves = record {
     tickets = λ row. let moved = total-set_at (λ y. times row y.tickets) views id v new at in
         let sum = counts.tickets row in let moves_here = moves row in omega arith;
@@ -29,18 +29,18 @@ module _ (all : ℕ) (w u : World) (views : List View) (id : ℕ) (v : View)
 
   -- a view in use changes in nothing that counts
   pub counted_still : (a d : Card) → v ≡ only a → d.credits ≡ a.credits → u.lengths ≡ w.lengths
-      → AreCounted all u (set views id (only d))
+      → AreCounted all bank u (set views id (only d))
   counted_still a d whole credits lengths = counted_set (only d)
       (let before = ap weight whole in omega arith)
       (λ row. let before = ap (λ (y : View). times row y.tickets) whole in
       let here = ap (λ ls. slice_index ls row) lengths in omega arith)
 
-module _ (all : ℕ) (w : World) (views : List View) (counts : AreCounted all w views) where
+module _ (all bank : ℕ) (w : World) (views : List View) (counts : AreCounted all bank w views) where
   -- a view is cut in two
   pub counted_split : (id : ℕ) (v left right : View) → get_elem? views id ≡ some v
       → weight left + weight right ≡ weight v
       → ((row : ℕ) → times row left.tickets + times row right.tickets ≡ times row v.tickets)
-      → AreCounted all w (set views id left ++ right ∷ [])
+      → AreCounted all bank w (set views id left ++ right ∷ [])
   counted_split id v left right at same each = record {
     tickets = λ row. let f : View → ℕ = λ y. times row y.tickets in
         let moved = total-set_at f views id v left at in
@@ -55,7 +55,7 @@ module _ (all : ℕ) (w : World) (views : List View) (counts : AreCounted all w 
   pub counted_join : (id : ℕ) (v : View) (other : ℕ) (x both : View) → get_elem? views id ≡ some v
       → get_elem? (set views id both) other ≡ some x → weight both ≡ weight v + weight x
       → ((row : ℕ) → times row both.tickets ≡ times row v.tickets + times row x.tickets)
-      → AreCounted all w (set (set views id both) other spent)
+      → AreCounted all bank w (set (set views id both) other spent)
   counted_join id v other x both at at' same each = record {
     tickets = λ row. let f : View → ℕ = λ y. times row y.tickets in
         let moved = total-set_at f views id v both at in
@@ -67,7 +67,7 @@ module _ (all : ℕ) (w : World) (views : List View) (counts : AreCounted all w 
   }
 
   -- one view more, with nothing
-  pub counted_spent : AreCounted all w (views ++ spent ∷ [])
+  pub counted_spent : AreCounted all bank w (views ++ spent ∷ [])
   counted_spent = record {
     tickets = λ row. let f : View → ℕ = λ y. times row y.tickets in
         let longer = total-append f views (spent ∷ []) in

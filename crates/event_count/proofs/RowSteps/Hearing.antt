@@ -101,6 +101,7 @@ pub record KeepsSeat (c d : Card) (word : ℕ) : Type 0 where
   pub looked : d.looked ≡ word
   pub next : d.next ≡ None
   pub credits : d.credits ≡ c.credits
+  pub book : d.book ≡ c.book
   pub flag : d.passed_flag ≡ c.passed_flag
   pub passed : d.passed ≡ c.passed
 
@@ -116,6 +117,7 @@ keeps_by true c word = record {
   looked = refl;
   next = refl;
   credits = refl;
+  book = refl;
   flag = refl;
   passed = refl;
 }
@@ -130,6 +132,7 @@ keeps_by false c word = record {
   looked = refl;
   next = refl;
   credits = refl;
+  book = refl;
   flag = refl;
   passed = refl;
 }

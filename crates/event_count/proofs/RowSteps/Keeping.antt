@@ -3,19 +3,20 @@ use Rattle.std.proofs.Common.{◌≡◌, ℕ, ◌+◌, ◌-◌, ◌%◌, ◌^◌
 use mathlib.Core.Option.{none}
 use prog.Atomic.{either}
 use Rattle.atomic_table.specs.Table.{step}
-use Rattle.event_count.specs.declared.rule.TheConstants.{STOP}
+use Rattle.event_count.specs.declared.rule.TheConstants.{STOP, BANK}
 use Rattle.event_count.specs.declared.rule.RowSizes.{RowSizes}
 use Rattle.event_count.specs.Places.{row_place}
 use Rattle.event_count.specs.Cards.{holding, only, card_in}
 use Rattle.event_count.specs.Plays.{Sat, Told}
 use Rattle.event_count.specs.Steps.{AddsWith}
 use Rattle.event_count.specs.Rows.Plays.{publishes, redeems, passes, measures, passes_flag, stops}
-use Rattle.event_count.specs.Rows.Plays.{weighs}
+use Rattle.event_count.specs.Rows.Plays.{weighs, deposits, withdraws}
 use Rattle.event_count.specs.Rows.Steps.{RowStepsOf, TicketStepsOf, RowStepsAddTheirEvents}
 use Rattle.event_count.proofs.Adding.{adds}
 use Rattle.event_count.proofs.RowSteps.Publishing.{AdvancesWith, publish_adds, take_adds}
 use Rattle.event_count.proofs.RowSteps.Passing.{pass_adds, measure_adds, pass_flag_adds, weigh_adds}
 use Rattle.event_count.proofs.RowSteps.Passing.{stop_adds}
+use Rattle.event_count.proofs.RowSteps.Banking.{deposit_adds, withdraw_adds}
 
 module _ (k : RowSizes) (slots : ℕ) (me : Sat) where
   -- a step of the seat, whichever number its view has
@@ -42,6 +43,9 @@ module _ (k : RowSizes) (slots : ℕ) (me : Sat) where
     stop = λ some_rows running owes_none silent.
         adds k slots me is STOP 0 1 (λ n. either (n == 0) 1 n) stops
         (λ id. stop_adds k slots id me is some_rows running owes_none silent);
+    deposit = λ credits enough. adds k slots me is BANK credits 0
+        (λ n. (n + credits) % 2 ^ 64) deposits (λ id. deposit_adds k slots id me is credits enough);
+    withdraw = adds k slots me is BANK 0 0 (λ _. 0) withdraws (λ id. withdraw_adds k slots id me is);
   }
 
   steps_with_ticket : (row : ℕ) → me.0 ≡ holding (row ∷ []) (card_in me.0)

@@ -1,5 +1,5 @@
 -- Looks at rows and at the stop word, and a stop, add their events, and so keep the rule.
-use Rattle.std.proofs.Common.{◌≡◌, ℕ, ◌+◌, ◌<◌, ◌==◌, Bool, true, false, List, [], ◌∷◌}
+use Rattle.std.proofs.Common.{◌≡◌, ◌≢◌, ℕ, ◌+◌, ◌<◌, ◌==◌, Bool, true, false, List, [], ◌∷◌}
 use Rattle.std.proofs.Common.{slice_index, length, sym, ap, refl, ◌∙◌, subst, arith}
 use Rattle.std.proofs.Common.{◌↔◌, set, get_or-set_same, get_or-set_other, eq-eqb, ne_eqb}
 use Rattle.std.proofs.lemmas.Bool.{eqb-true}
@@ -14,7 +14,7 @@ use Rattle.event_word.specs.declared.event.Event.TheVariants.{Pass, PassFlag, St
 use Rattle.event_word.specs.World.{World, length_of}
 use Rattle.event_word.specs.Step.{effect}
 use Rattle.event_word.proofs.Keeps.{pre_known}
-use Rattle.event_count.specs.declared.rule.TheConstants.{STOP}
+use Rattle.event_count.specs.declared.rule.TheConstants.{STOP, BANK}
 use Rattle.event_count.specs.declared.rule.RowSizes.{RowSizes}
 use Rattle.event_count.specs.declared.view.Finding.{Finding}
 use Rattle.event_count.specs.declared.view.Card.{Card}
@@ -61,7 +61,7 @@ module _ (k : RowSizes) (slots id : ℕ) (me : Sat) (is : me.0 ≡ only (card_in
   has = ap (λ v. v.cards) is
 
   module _ (s : CountState) (shows : ShowsWorld k s) (at : get_elem? s.views id ≡ some me.0)
-      (place : ℕ) (aside : IsAside place) where
+      (place : ℕ) (aside : IsAside place) (other : BANK ≢ place) where
     -- a load of such a word is these events
     loaded : (events : List Event) (u : World) (d : Card) → Fitting k shows.1 u events c d
         → d.credits ≡ c.credits → d.epoch ≡ c.epoch → SameRows shows.1 u → SameWaits shows.1 u
@@ -73,7 +73,7 @@ module _ (k : RowSizes) (slots id : ℕ) (me : Sat) (is : me.0 ≡ only (card_in
         let n = slice_index s.words place in (
           events,
           u,
-          acts k s history w r id me.0 c at has events u d place n me.1 is credits rows.lengths f
+          acts k s history w r id me.0 c at has events u d place n me.1 is credits rows.lengths other f
               (wording_aside k s history w r id me.0 c at has events u d place n aside f still same
               (stop_same k s.words _ w r.written u place rows)
               (rows_same k s.words _ w r.written u place rows) reads links),
@@ -147,7 +147,7 @@ module _ (k : RowSizes) (slots id : ℕ) (me : Sat) (is : me.0 ≡ only (card_in
                 let none_there = eqb-true word 0 zero_found in
                 let here = r.written.rows row less in
                 loaded s shows at place (aside_row (k.waiters + k.rows) row)
-                (Pass c.number row ∷ []) (effect w (Pass c.number row))
+                (λ e. absurd (omega arith)) (Pass c.number row ∷ []) (effect w (Pass c.number row))
                 (record (passing_by true c row) { found = found_in row word })
                 (pass_fits k s history w r id me.0 c at has row (found_in row word) less pre
                 (omega arith))
@@ -156,7 +156,7 @@ module _ (k : RowSizes) (slots id : ℕ) (me : Sat) (is : me.0 ≡ only (card_in
                 (λ ws es was. was) (λ ws was. was)
             taken s shows at false some_found =
                 loaded_none s shows at (row_place (k.waiters + k.rows) row)
-                (aside_row (k.waiters + k.rows) row)
+                (aside_row (k.waiters + k.rows) row) (λ e. absurd (omega arith))
                 (found_in row (slice_index s.words (row_place (k.waiters + k.rows) row)))
 
     pub pass_keeps_at : (place : ℕ) → place ≡ row_place (k.waiters + k.rows) row
@@ -181,7 +181,7 @@ module _ (k : RowSizes) (slots id : ℕ) (me : Sat) (is : me.0 ≡ only (card_in
           let going = r.written.stop.0 (eqb-true word 0 zero_found) in
           let d = record (passing_flag_by true c) { found = found_at_stop word } in (
             d,
-            loaded s shows at STOP aside_stop (PassFlag c.number ∷ [])
+            loaded s shows at STOP aside_stop (λ e. absurd (omega arith)) (PassFlag c.number ∷ [])
                 (effect w (PassFlag c.number)) d
                 (pass_flag_fits k s history w r id me.0 c at has (found_at_stop word) pre going) refl refl
                 (same_rows w (effect w (PassFlag c.number)) refl refl)
@@ -195,7 +195,7 @@ module _ (k : RowSizes) (slots id : ℕ) (me : Sat) (is : me.0 ≡ only (card_in
           )
       by_found false some_found = let word = slice_index s.words STOP in (
         record c { found = found_at_stop word },
-        loaded_none s shows at STOP aside_stop (found_at_stop word),
+        loaded_none s shows at STOP aside_stop (λ e. absurd (omega arith)) (found_at_stop word),
         (
           refl,
           ap (λ x. (only (record (passing_flag_by x c) { found = found_at_stop word }), me.1)) (sym some_found),
@@ -225,7 +225,8 @@ module _ (k : RowSizes) (slots id : ℕ) (me : Sat) (is : me.0 ≡ only (card_in
         (
           events,
           u,
-          acts k s history w r id me.0 c at has events u d STOP 1 me.1 is refl refl f
+          acts k s history w r id me.0 c at has events u d STOP 1 me.1 is refl refl
+              (λ e. absurd (omega arith)) f
               (wording_aside k s history w r id me.0 c at has events u d STOP 1 aside_stop f refl
               (record { pre = refl; signals = refl; stack = refl; tokens = refl })
               (stopped k s shows c.number) (rows_stopped k s shows c.number) (λ ws es was. was) (λ ws was. was)),
@@ -238,7 +239,7 @@ module _ (k : RowSizes) (slots id : ℕ) (me : Sat) (is : me.0 ≡ only (card_in
       ))
       (λ miss. (
         record c { found = found_at_stop word },
-        loaded_none s shows at STOP aside_stop (found_at_stop word),
+        loaded_none s shows at STOP aside_stop (λ e. absurd (omega arith)) (found_at_stop word),
         (
           refl,
           ap (λ x. (only (record (stopping_by x c) { found = found_at_stop word }), me.1))
@@ -262,7 +263,8 @@ module _ (k : RowSizes) (slots id : ℕ) (me : Sat) (is : me.0 ≡ only (card_in
         let place = row_place (k.waiters + k.rows) row in
         let word = slice_index s.words place in (
           measuring c row word,
-          loaded_none s shows at place (aside_row (k.waiters + k.rows) row) (found_in row word),
+          loaded_none s shows at place (aside_row (k.waiters + k.rows) row)
+              (λ e. absurd (omega arith)) (found_in row word),
           (
             row,
             (
@@ -288,7 +290,7 @@ module _ (k : RowSizes) (slots id : ℕ) (me : Sat) (is : me.0 ≡ only (card_in
       let sum = shows.2.counted.credits in
       let mine = ap (λ v. card_credits v.cards) is in (
         c,
-        loaded_none s shows at STOP aside_stop c.found,
+        loaded_none s shows at STOP aside_stop (λ e. absurd (omega arith)) c.found,
         (refl, (λ i. (sym is i, me.1)), omega arith),
       )
 

@@ -21,13 +21,13 @@ use Rattle.event_count.specs.Places.{row_place}
 use Rattle.event_count.specs.Cards.{holding, only, card_in}
 use Rattle.event_count.specs.Gains.{foremost}
 use Rattle.event_count.specs.Plays.{Sat, Told}
-use Rattle.event_count.specs.Tickets.{card_credits, credits_for, weight}
+use Rattle.event_count.specs.Tickets.{card_credits, credits_for, banked, weight, AreCounted}
 use Rattle.event_count.specs.Shown.{CountState, ShowsWorld}
 use Rattle.event_count.specs.Steps.{Adds}
 use Rattle.event_count.specs.Rows.Gains.{publishing, redeeming}
 use Rattle.event_count.specs.Rows.Plays.{publishes, redeems}
 use Rattle.event_count.proofs.Totals.{le_total}
-use Rattle.event_count.proofs.Steps.{acts_to, truth}
+use Rattle.event_count.proofs.Steps.{acts_to, still_banked, truth}
 use Rattle.event_count.proofs.Events.{sizes}
 use Rattle.event_count.proofs.RowSteps.Counting.{counted_set, some_of_all}
 use Rattle.event_count.proofs.RowSteps.Aside.{aside_row, wording_aside, stop_other, rows_moved}
@@ -124,10 +124,13 @@ module _ (k : RowSizes) (slots id : ℕ) (me : Sat) where
             events,
             u,
             acts_to k s history w r id me.0 c at has events u d place n me.1 (holding (row ∷ []) d) refl
-                (counted_set (credits_for k) w u s.views id me.0 at r.counted (holding (row ∷ []) d)
-                weighs
+                (subst (λ bank. AreCounted (credits_for k) bank u
+                (slice_set s.views id (holding (row ∷ []) d)))
+                (still_banked s.words place n (λ e. absurd (omega arith)))
+                (counted_set (credits_for k) (banked s.words) w u s.views id me.0 at r.counted
+                (holding (row ∷ []) d) weighs
                 (λ m. let none_here = ap (λ (v : View). times m v.tickets) is in
-                let more = ticket_more w u row jobs known refl refl m in omega arith))
+                let more = ticket_more w u row jobs known refl refl m in omega arith)))
                 f
                 (wording_aside k s history w r id me.0 c at has events u d place n
                 (aside_row (k.waiters + k.rows) row) f refl
@@ -194,9 +197,12 @@ module _ (k : RowSizes) (slots id : ℕ) (me : Sat) where
             events,
             u,
             acts_to k s history w r id me.0 c at has events u d place n me.1 (only d) refl
-                (counted_set (credits_for k) w u s.views id me.0 at r.counted (only d) weighs
+                (subst (λ bank. AreCounted (credits_for k) bank u (slice_set s.views id (only d)))
+                (still_banked s.words place n (λ e. absurd (omega arith)))
+                (counted_set (credits_for k) (banked s.words) w u s.views id me.0 at r.counted
+                (only d) weighs
                 (λ m. let some_here = ap (λ (v : View). times m v.tickets) is in
-                let fewer = ticket_fewer w u row jobs known refl (omega arith) m in omega arith))
+                let fewer = ticket_fewer w u row jobs known refl (omega arith) m in omega arith)))
                 f
                 (wording_aside k s history w r id me.0 c at has events u d place n
                 (aside_row (k.waiters + k.rows) row) f refl

@@ -56,7 +56,7 @@ module _ (k : RowSizes) (id : ℕ) (v left right : View) (c : Card) (n : ℕ)
               let b = ap (λ (cs : List Card). length cs) keeps in
               let d = ap (λ (cs : List Card). length cs) none in let sum = deals.all in omega arith;
         })
-        (λ all w counts. counted_split all w s.views counts id v left right at same each_row)
+        (λ all bank w counts. counted_split all bank w s.views counts id v left right at same each_row)
         shows
 
 -- a view without cards is taken in by one in use, whose card changes in its credits alone
@@ -91,7 +91,7 @@ module _ (k : RowSizes) (id : ℕ) (v : View) (other : ℕ) (x both : View) (c :
               let b = ap (λ (cs : List Card). length cs) keeps in
               let d = ap (λ (cs : List Card). length cs) none in let sum = deals.all in omega arith;
         })
-        (λ all w counts. counted_join all w s.views counts id v other x both at at' same each_row)
+        (λ all bank w counts. counted_join all bank w s.views counts id v other x both at at' same each_row)
         shows
 
 -- a ticket is cut off

@@ -25,6 +25,7 @@ pub record IsAfterPasses (c d : Card) : Type 0 where
   pub epoch : d.epoch ≡ c.epoch
   pub announcing : d.announcing ≡ c.announcing
   pub credits : d.credits ≡ c.credits
+  pub book : d.book ≡ c.book
 
 -- the row is the first in which the seat found jobs
 pub record FindsJobs (rows : ℕ) (c : Card) (row : ℕ) (d before : Card) : Type 0 where

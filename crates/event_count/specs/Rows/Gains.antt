@@ -1,6 +1,7 @@
--- What the steps on rows and on the stop word make of a seat's card.
+-- What the steps on rows, on the stop word and on the bank make of a seat's card.
 use Rattle.std.specs.Prelude.{ℕ, ◌+◌, ◌-◌, ◌==◌, Bool, true, false, [], ◌∷◌, slice_set}
 use Rattle.event_word.specs.declared.event.Event.TheVariants.{Publish, Take, Pass, PassFlag, Stop}
+use Rattle.event_count.specs.declared.view.BankBook.{BankBook}
 use Rattle.event_count.specs.declared.view.Card.{Card}
 use Rattle.event_count.specs.Cards.{found_in, found_at_stop}
 use Rattle.event_count.specs.Gains.{gaining}
@@ -58,3 +59,26 @@ lending c = record c { credits = c.credits - 1 }
 
 abbrev pub accepting : Card → Card
 accepting c = record c { credits = c.credits + 1 }
+
+-- so many credits more were put into the bank, or taken out at once
+abbrev pub paying_in : BankBook → ℕ → BankBook
+paying_in book credits = record book { put_in = book.put_in + credits }
+
+abbrev pub taking_out : BankBook → ℕ → BankBook
+taking_out book found = record book {
+  taken_out = book.taken_out + found;
+  withdrawals = book.withdrawals + 1;
+}
+
+-- after so many credits were put into the bank, or all were taken out that were found there
+abbrev pub depositing : Card → ℕ → Card
+depositing c credits = record c {
+  credits = c.credits - credits;
+  book = paying_in c.book credits;
+}
+
+abbrev pub withdrawing : Card → ℕ → Card
+withdrawing c found = record c {
+  credits = c.credits + found;
+  book = taking_out c.book found;
+}

@@ -1,7 +1,7 @@
--- What each step on a row, or on the stop word, tells the seat that makes it.
+-- What each step on a row, on the stop word, or on the bank tells the seat that makes it.
 use Rattle.std.specs.Prelude.{◌≡◌, ℕ, ◌+◌, ◌<◌, ◌≤◌, true, [], ◌∷◌}
 use Rattle.event_word.specs.Step.{row_limit}
-use Rattle.event_count.specs.declared.rule.TheConstants.{STOP}
+use Rattle.event_count.specs.declared.rule.TheConstants.{STOP, BANK}
 use Rattle.event_count.specs.declared.view.Card.{Card}
 use Rattle.event_count.specs.declared.view.View.{View}
 use Rattle.event_count.specs.Places.{row_place}
@@ -10,7 +10,7 @@ use Rattle.event_count.specs.Kinds.{has_passed_row}
 use Rattle.event_count.specs.Gains.{foremost}
 use Rattle.event_count.specs.Plays.{Told}
 use Rattle.event_count.specs.Rows.Gains.{publishing, redeeming, passing, measuring, passing_flag}
-use Rattle.event_count.specs.Rows.Gains.{stopping, lending, accepting}
+use Rattle.event_count.specs.Rows.Gains.{stopping, lending, accepting, depositing, withdrawing}
 
 -- the step is on the length of this row
 abbrev pub IsOnRow : Card → ℕ → ℕ → Type 0
@@ -53,6 +53,17 @@ stops step before found after = (step.word ≡ STOP)
 abbrev pub weighs : Told
 weighs step before found after = (step.word ≡ STOP) × (after ≡ before)
     × ((card_in before.0).credits ≤ row_limit)
+
+-- credits of the seat are put into the bank
+abbrev pub deposits : Told
+deposits step before found after = (step.word ≡ BANK)
+    × (after ≡ (only (depositing (card_in before.0) step.first), before.1))
+
+-- the credits that are found in the bank come to the seat; it never has more than a row counts jobs
+abbrev pub withdraws : Told
+withdraws step before found after = (step.word ≡ BANK)
+    × (after ≡ (only (withdrawing (card_in before.0) found), before.1))
+    × ((card_in after.0).credits ≤ row_limit)
 
 -- a ticket is cut off: what the seat is left with, and the view of the ticket
 abbrev pub after_cut : View → View

@@ -1,10 +1,11 @@
--- What each step on a row, or on the stop word, adds to the history that the table shows.
-use Rattle.std.specs.Prelude.{◌≡◌, ℕ, ◌+◌, ◌-◌, ◌<◌, ◌%◌, ◌^◌, ◌==◌, false, [], ◌∷◌}
+-- What each step on a row or on the stop word adds to the history that the table shows. One on the
+-- bank adds nothing.
+use Rattle.std.specs.Prelude.{◌≡◌, ℕ, ◌+◌, ◌-◌, ◌<◌, ◌≤◌, ◌%◌, ◌^◌, ◌==◌, false, [], ◌∷◌}
 use mathlib.Core.Option.{none}
 use prog.Atomic.{either}
 use Rattle.atomic_table.specs.Table.{step}
 use Rattle.event_word.specs.declared.phase.Phase.TheVariants.{Running, Pre}
-use Rattle.event_count.specs.declared.rule.TheConstants.{STOP}
+use Rattle.event_count.specs.declared.rule.TheConstants.{STOP, BANK}
 use Rattle.event_count.specs.declared.rule.RowSizes.{RowSizes}
 use Rattle.event_count.specs.declared.view.Card.{Card}
 use Rattle.event_count.specs.Places.{row_place}
@@ -12,9 +13,9 @@ use Rattle.event_count.specs.Cards.{holding, only, card_in}
 use Rattle.event_count.specs.Plays.{Sat}
 use Rattle.event_count.specs.Steps.{AddsWith, AddsEvents, Loads}
 use Rattle.event_count.specs.Rows.Plays.{publishes, redeems, passes, measures, passes_flag, stops}
-use Rattle.event_count.specs.Rows.Plays.{weighs}
+use Rattle.event_count.specs.Rows.Plays.{weighs, deposits, withdraws}
 
--- each step on a row or on the stop word of a seat whose card is c, where it may be taken
+-- each step on a row, the stop word or the bank of a seat whose card is c, where it may be taken
 pub record RowStepsOf (k : RowSizes) (slots : ℕ) (me : Sat) (c : Card) : Type 0 where
   pub publish : (row : ℕ) → row < k.rows → c.phase ≡ Running → c.owing ≡ []
       → c.announcing ≡ false → 0 < c.credits
@@ -28,6 +29,10 @@ pub record RowStepsOf (k : RowSizes) (slots : ℕ) (me : Sat) (c : Card) : Type 
   pub weigh : Loads k slots me STOP weighs
   pub stop : 0 < k.rows → c.phase ≡ Running → c.owing ≡ [] → c.announcing ≡ false
       → AddsEvents k slots me (step slots STOP 0 1 none) (λ n. either (n == 0) 1 n) stops
+  pub deposit : (credits : ℕ) → credits ≤ c.credits
+      → AddsEvents k slots me (step slots BANK credits 0 none) (λ n. (n + credits) % 2 ^ 64)
+      deposits
+  pub withdraw : AddsEvents k slots me (step slots BANK 0 0 none) (λ _. 0) withdraws
 
 -- the same of a seat that has taken in a ticket of the row
 pub record TicketStepsOf (k : RowSizes) (slots : ℕ) (me : Sat) (c : Card) (row : ℕ) : Type 0 where

@@ -1,4 +1,4 @@
-//! What the steps on rows and on the stop word tell, and how tickets and credits move.
+//! What the steps on rows, the stop word and the bank tell, and how tickets and credits move.
 use crate::view::View;
 use atomic_table::{Join, Play, Split};
 
@@ -63,6 +63,24 @@ impl Play<(), View> for Weighs {
     ghost use Rattle.event_count.specs.Rows.Plays.{weighs};
 
     ghost then = { weighs };
+}
+
+/// Credits of the seat are in the bank.
+pub struct Deposits;
+
+impl Play<(), View> for Deposits {
+    ghost use Rattle.event_count.specs.Rows.Plays.{deposits};
+
+    ghost then = { deposits };
+}
+
+/// The seat has what was in the bank.
+pub struct Withdraws;
+
+impl Play<(), View> for Withdraws {
+    ghost use Rattle.event_count.specs.Rows.Plays.{withdraws};
+
+    ghost then = { withdraws };
 }
 
 /// A ticket is cut off.

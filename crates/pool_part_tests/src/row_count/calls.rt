@@ -102,6 +102,32 @@ fn a_credit_goes_round(rt: HostRuntime) {
     assert!(rt; count.close(seats) == 0x3FFF);
 }
 
+// One seat publishes jobs that another takes, which puts its credits into the bank. As many come out
+// as went in, and so two are enough for any number of jobs. Nobody else has any then.
+#[test]
+fn credits_flow_back(rt: HostRuntime) {
+    let (count, mut waiter, mut notifier) = pair(&rt, rt.alloc());
+    assert!(rt; count.withdraw(&mut notifier) == 0 && notifier.credits() == 1);
+    for _ in 0..1_000 {
+        if notifier.credits() == 0 {
+            count.withdraw(&mut notifier);
+        }
+        let Some(ticket) = count.publish(&mut notifier, 0) else {
+            panic!(rt; "there is a credit")
+        };
+        count.notify(&rt, &mut notifier);
+        count.take(&mut waiter, ticket);
+        let credits = waiter.credits();
+        count.deposit(&mut waiter, credits);
+    }
+    assert!(rt; count.withdraw(&mut waiter) == 1 && notifier.credits() == 1);
+    assert!(rt; count.withdraw(&mut notifier) == 0, "the waiter has it");
+    let credits = waiter.credits();
+    count.deposit(&mut waiter, credits);
+    assert!(rt; waiter.credits() == 0 && count.lend(&mut waiter).is_none());
+    assert!(rt; count.withdraw(&mut notifier) == 1 && notifier.credits() == 2);
+}
+
 // A waiter that has passed all takes the signal of a job that comes then, and finds the stop.
 #[test]
 fn a_job_and_a_stop_behind_a_pass(rt: HostRuntime) {

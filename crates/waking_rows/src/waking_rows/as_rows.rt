@@ -5,8 +5,8 @@ ghost use Rattle.run_queue.specs.Account.{AddsIfOk};
 ghost use Rattle.run_queue.specs.Elements.{ready_word};
 ghost use Rattle.run_queue.specs.Limits.{most_jobs};
 ghost use Rattle.run_queue.specs.Positions.{position_before, element_at, row_with};
-ghost use Rattle.waking_rows.specs.Seats.{credits_by, front_by, claimed_by};
-ghost use Rattle.waking_rows.specs.Seats.{Claims, IsPut, PaysIfOk, LooksAtLength};
+ghost use Rattle.waking_rows.specs.Seats.{credits_by, book_by, funds, front_by, claimed_by};
+ghost use Rattle.waking_rows.specs.Seats.{Claims, IsPut, PaysIfOk, LooksAtLength, credits_after};
 
 use crate::opening::rows_alone;
 use crate::waking_rows::{WakingRows, WakingSeat};
@@ -56,9 +56,9 @@ impl<J: Drop, A: Allocator + Clone> Rows<J, A> for WakingRows<J, A> {
         ensures puts { AddsIfOk result job (puts_by seat.old) (puts_by seat.new) }
         ensures takes { takes_by seat.new ≡ takes_by seat.old }
         ensures refused { IsPut (IsErr result) seat.old seat.new }
-        ensures at_front { 0 < credits_by seat.old → claimed_by seat.new
+        ensures at_front { 0 < funds seat.old seat.new → claimed_by seat.new
             ≡ element_at (number_by seat.old) (front_by seat.old) }
-        ensures credits { PaysIfOk result (credits_by seat.old) (credits_by seat.new) }
+        ensures credits { PaysIfOk result (funds seat.old seat.new) (credits_by seat.new) }
     {
         self.push_front(rt, seat, job)
     }
@@ -73,8 +73,9 @@ impl<J: Drop, A: Allocator + Clone> Rows<J, A> for WakingRows<J, A> {
         ensures claim { Claims ready_word (IsNone result) seat.old seat.new }
         ensures before_front { claimed_by seat.new
             ≡ element_at (number_by seat.old) (position_before (front_by seat.old)) }
-        ensures credits { credits_by seat.new
-            ≡ credits_by seat.old + length (option_to_list result) }
+        ensures credits { credits_by seat.new ≡ credits_after result (credits_by seat.old) }
+        ensures saved { credits_by seat.new + (book_by seat.new).put_in
+            ≡ credits_by seat.old + (book_by seat.old).put_in + length (option_to_list result) }
     {
         self.pop_front(seat)
     }
@@ -88,8 +89,8 @@ impl<J: Drop, A: Allocator + Clone> Rows<J, A> for WakingRows<J, A> {
         ensures puts { AddsIfOk result job (puts_by seat.old) (puts_by seat.new) }
         ensures takes { takes_by seat.new ≡ takes_by seat.old }
         ensures refused { IsPut (IsErr result) seat.old seat.new }
-        ensures in_row { 0 < credits_by seat.old → row_with (claimed_by seat.new) ≡ row }
-        ensures credits { PaysIfOk result (credits_by seat.old) (credits_by seat.new) }
+        ensures in_row { 0 < funds seat.old seat.new → row_with (claimed_by seat.new) ≡ row }
+        ensures credits { PaysIfOk result (funds seat.old seat.new) (credits_by seat.new) }
     {
         self.push_back(rt, seat, row, job)
     }
@@ -103,8 +104,9 @@ impl<J: Drop, A: Allocator + Clone> Rows<J, A> for WakingRows<J, A> {
         ensures takes { takes_by seat.new ≡ takes_by seat.old ++ option_to_list result }
         ensures claim { Claims ready_word (IsNone result) seat.old seat.new }
         ensures in_row { row_with (claimed_by seat.new) ≡ row }
-        ensures credits { credits_by seat.new
-            ≡ credits_by seat.old + length (option_to_list result) }
+        ensures credits { credits_by seat.new ≡ credits_after result (credits_by seat.old) }
+        ensures saved { credits_by seat.new + (book_by seat.new).put_in
+            ≡ credits_by seat.old + (book_by seat.old).put_in + length (option_to_list result) }
     {
         self.pop_back(rt, seat, row)
     }

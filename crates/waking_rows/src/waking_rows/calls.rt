@@ -7,8 +7,9 @@ ghost use Rattle.event_count.specs.Rows.Seats.{row_of, ticket_id, IsSilent};
 ghost use Rattle.run_queue.specs.Account.{AddsIfOk};
 ghost use Rattle.run_queue.specs.Elements.{ready_word};
 ghost use Rattle.run_queue.specs.Positions.{position_before, element_at, row_with};
+ghost use Rattle.waking_rows.specs.Credits.{saving};
 ghost use Rattle.waking_rows.specs.Seats.{IsSeatOf, IsSameSeat, number_by, puts_by, takes_by};
-ghost use Rattle.waking_rows.specs.Seats.{count_in, rows_in, credits_by, front_by, claimed_by};
+ghost use Rattle.waking_rows.specs.Seats.{count_in, rows_in, credits_by, funds, front_by, claimed_by};
 ghost use Rattle.waking_rows.specs.Seats.{Claims, IsPut, PaysIfOk};
 ghost use Rattle.waking_rows.specs.Tickets.{job_back};
 
@@ -29,11 +30,12 @@ impl<J, A: Allocator> WakingRows<J, A> {
         ensures puts { AddsIfOk result job (puts_by seat.old) (puts_by seat.new) }
         ensures takes { takes_by seat.new ≡ takes_by seat.old }
         ensures refused { IsPut (IsErr result) seat.old seat.new }
-        ensures at_front { 0 < credits_by seat.old → claimed_by seat.new
+        ensures at_front { 0 < funds seat.old seat.new → claimed_by seat.new
             ≡ element_at (number_by seat.old) (front_by seat.old) }
-        ensures credits { PaysIfOk result (credits_by seat.old) (credits_by seat.new) }
+        ensures credits { PaysIfOk result (funds seat.old seat.new) (credits_by seat.new) }
     {
         let row = seat.slot.number() as u16;
+        self.fund(&mut seat.seat);
         let Some(ticket) = self.count.publish(&mut seat.seat, row) else {
             return Err(job);
         };
@@ -59,9 +61,10 @@ impl<J, A: Allocator> WakingRows<J, A> {
         ensures puts { AddsIfOk result job (puts_by seat.old) (puts_by seat.new) }
         ensures takes { takes_by seat.new ≡ takes_by seat.old }
         ensures refused { IsPut (IsErr result) seat.old seat.new }
-        ensures in_row { 0 < credits_by seat.old → row_with (claimed_by seat.new) ≡ row }
-        ensures credits { PaysIfOk result (credits_by seat.old) (credits_by seat.new) }
+        ensures in_row { 0 < funds seat.old seat.new → row_with (claimed_by seat.new) ≡ row }
+        ensures credits { PaysIfOk result (funds seat.old seat.new) (credits_by seat.new) }
     {
+        self.fund(&mut seat.seat);
         let Some(ticket) = self.count.publish(&mut seat.seat, row) else {
             return Err(job);
         };
@@ -82,11 +85,12 @@ impl<J, A: Allocator> WakingRows<J, A> {
         ensures before_front { claimed_by seat.new
             ≡ element_at (number_by seat.old) (position_before (front_by seat.old)) }
         ensures redeemed { IfSome result (λ _.
-            card_of seat.new.seat ≡ redeeming (card_of seat.old.seat) (number_by seat.old)) }
+            card_of seat.new.seat
+            ≡ saving (redeeming (card_of seat.old.seat) (number_by seat.old))) }
         ensures unpaid { IfNone result (card_of seat.new.seat ≡ card_of seat.old.seat) }
     {
         let it = self.slots.pop_front(&mut seat.slot)?;
-        Some(self.redeem(&mut seat.seat, it))
+        Some(self.collect(&mut seat.seat, it))
     }
 
     /// Takes the job at the back of a row, where there is one.
@@ -99,11 +103,11 @@ impl<J, A: Allocator> WakingRows<J, A> {
         ensures claim { Claims ready_word (IsNone result) seat.old seat.new }
         ensures in_row { row_with (claimed_by seat.new) ≡ row }
         ensures redeemed { IfSome result (λ _.
-            card_of seat.new.seat ≡ redeeming (card_of seat.old.seat) row) }
+            card_of seat.new.seat ≡ saving (redeeming (card_of seat.old.seat) row)) }
         ensures unpaid { IfNone result (card_of seat.new.seat ≡ card_of seat.old.seat) }
     {
         let it = self.slots.pop_back(rt, &mut seat.slot, row)?;
-        Some(self.redeem(&mut seat.seat, it))
+        Some(self.collect(&mut seat.seat, it))
     }
 
     // Notifies one of a job that was published, and then laid into its slot or not. One that was
@@ -121,6 +125,7 @@ impl<J, A: Allocator> WakingRows<J, A> {
         ensures idle { IsIdle seat.new }
         ensures silent { IsSilent seat.new }
         ensures answer { result ≡ job_back laid }
+        ensures book { (card_of seat.new).book ≡ (card_of seat.old).book }
         ensures credits { MatchResult laid
             (λ _. (card_of seat.new).credits ≡ (card_of seat.old).credits)
             (λ _. (card_of seat.new).credits ≡ (card_of seat.old).credits + 1) }
@@ -131,6 +136,21 @@ impl<J, A: Allocator> WakingRows<J, A> {
         };
         self.count.notify(rt, seat);
         answer
+    }
+
+    // The job of a take, whose ticket goes back, and the surplus of credits into the bank.
+    fn collect(&self, seat: &mut Seat, it: Ticketed<J>) -> J
+        requires ours { seat_id seat.old ≡ count_in self.now }
+        requires idle { IsIdle seat.old }
+        requires counted { ticket_id it.ticket ≡ count_in self.now }
+        ensures ours { seat_id seat.new ≡ seat_id seat.old }
+        ensures job { result ≡ it.job }
+        ensures card { card_of seat.new
+            ≡ saving (redeeming (card_of seat.old) (row_of it.ticket)) }
+    {
+        let job = self.redeem(seat, it);
+        self.save(seat);
+        job
     }
 
     // The job, whose ticket goes back.

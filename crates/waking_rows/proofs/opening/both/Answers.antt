@@ -1,8 +1,8 @@
-use Rattle.std.proofs.Common.{rules, refl, ◌≡◌, ◌∙◌, [], ◌∷◌, ◌++◌, ap, arith, length, map, sym, append_assoc}
+use Rattle.std.proofs.Common.{◌≡◌, ◌∙◌, [], ◌∷◌, ◌++◌, ap, arith, length, map, sym, append_assoc}
 use Rattle.std.proofs.Common.{⊎_elim}
-use Rattle.std.specs.Iterator.Adapters.{zip_first, zip_second}
+use Rattle.std.specs.Iterator.Adapters.{zip_first}
 use Rattle.std.specs.Vec.Iter.{into_iter_items}
-use Rattle.std.proofs.lemmas.List.{map_push, append-nil}
+use Rattle.std.proofs.lemmas.List.{map_push}
 use Rattle.event_count.specs.Seats.{card_of, seat_id, IsIdle}
 use Rattle.event_count.specs.Rows.Seats.{IsSilent}
 use Rattle.run_queue.specs.SlotSeats.{number_in, puts_of, takes_of, table_of}
