@@ -7,7 +7,8 @@ from typing import Any, Dict, Tuple, Type
 __all__ = [
     "BadArgument", "BadArity", "BadBlock", "BadField", "BadTensor", "BadVersion", "BadWorkers",
     "Fault", "NoMemory", "NotJson", "OutOfRange", "ProgramFailed", "ReadFault", "ShapeMismatch",
-    "TimedOut", "TooLarge", "TooLong", "UnknownInput", "UnknownOp", "WriteFault",
+    "TimedOut", "TooLarge", "TooLong", "TooManySteps", "TooManyWorkers", "UnknownInput", "UnknownOp",
+    "WriteFault",
 ]
 
 
@@ -115,6 +116,14 @@ class ReadFault(Fault):
 
 class WriteFault(Fault):
     number, name = 17, "WriteFault"
+
+
+class TooManyWorkers(Fault):
+    number, name = 19, "TooManyWorkers"
+
+
+class TooManySteps(Fault):
+    number, name = 20, "TooManySteps"
 
 
 FAULTS: Dict[int, Type[Fault]] = {it.number: it for it in Fault.__subclasses__()}

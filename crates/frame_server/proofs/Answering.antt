@@ -1,5 +1,5 @@
 -- Frames of answers, and how they are written.
-use Rattle.std.proofs.Common.{◌≡◌, ◌≢◌, ◌⊎◌, ◌<◌, ◌+◌, ◌-◌, ℕ, ℤ, Bool, true, false, List, [], ◌∷◌, ◌++◌, length, map, take, drop, get_or, set, Option, Result, Ok, Err, OnErr}
+use Rattle.std.proofs.Common.{◌≡◌, ◌≢◌, ◌⊎◌, ◌<◌, ◌+◌, ◌-◌, ℕ, ℤ, Bool, true, false, List, [], ◌∷◌, ◌++◌, length, map, take, drop, get_or, set, Option, None, Result, Ok, Err, OnErr}
 use Rattle.std.proofs.Common.{refl, ap, sym, ◌∙◌, subst, append_assoc, arith, length-append, inl, inr}
 use Rattle.std.specs.Prelude.{nat_lt, MatchResult, if◌then◌else◌}
 use Rattle.std.specs.List.{flat_map}
@@ -13,18 +13,23 @@ use Rattle.std.specs.Io.KnownBytes.{Appends}
 use Rattle.expr_reader.specs.Asked.{asked_under}
 use Rattle.expr_reader.specs.Frame.{frame_inputs, request_of_frame}
 use Rattle.expr_reader.specs.Place.{here, unlocated}
-use Rattle.expr_reader.specs.Request.{data_of, text_asked}
+use Rattle.expr_reader.specs.Contents.{Contents}
+use Rattle.expr_reader.specs.Request.{Asked, data_of, text_asked}
 use Rattle.expr_reader.specs.Steps.{and_then}
 use Rattle.expr_reader.specs.declared.request.Request.{Request}
 use Rattle.expr_reader.specs.Limits.{most_bytes, most_values}
 use Rattle.expr_reader.specs.declared.fault.Fault.{Fault}
 use Rattle.expr_reader.specs.declared.fault.Fault.TheVariants.{TooLong, NoMemory}
 use Rattle.tensor_runner.specs.Answer.{tensor, fault, answer_from, asked_tensor}
+use Rattle.tensor_runner.specs.Limited.{over_limits, refusal}
+use Rattle.tensor_runner.specs.declared.limits.LimitFault.{LimitFault}
+use Rattle.tensor_runner.specs.declared.limits.Limits.{Limits}
 use Rattle.tensor_runner.specs.Pieces.{AppendsFront}
 use Rattle.tensor_runner.proofs.Streams.{Appends-trans}
 use Rattle.frame_server.specs.Answer.{answer_of, answer_bytes, IsAnswerTo, IsShort}
-use Rattle.frame_server.specs.Answering.{front_bytes, bytes_in, IsFrameOfTensor, IsFaultOf}
+use Rattle.frame_server.specs.Answering.{front_bytes, bytes_in, IsOwnFrame, IsFaultOf}
 use Rattle.frame_server.specs.Frame.{frame_bytes, frame_in, header_len, value_count, number_bytes, value_bytes, IsWhole}
+use Rattle.frame_server.specs.Limited.{frame_unless, request_in, IsFrameWithin}
 use Rattle.frame_server.specs.Taking.{IsTooLong, IsPassed, frame_under}
 use Rattle.frame_server.specs.declared.frame.AnswerFrame.{AnswerFrame}
 use Rattle.frame_server.specs.declared.frame.WholeFrame.{WholeFrame}
@@ -116,17 +121,37 @@ pub IsAnswerTo-passed : (bytes : List ℕ) (f : Fault) → IsWhole bytes → IsP
 IsAnswerTo-passed bytes f whole (inl memory) = inr (ap fault memory.0, memory.1)
 IsAnswerTo-passed bytes f whole (inr long) = inl (ap fault long.0 ∙ sym (too_long bytes whole long.1))
 
--- the frame of the tensor that a frame's request asks for, or want of memory
-pub IsFrameOfTensor-asked : (bytes : List ℕ) (frame : WholeFrame) (request : Request) (r : Result AnswerFrame Fault) → frame_under frame ≡ frame_in bytes
+-- the frame of the tensor that a frame's request asks for, or of the limit that it is over, or want of memory
+pub IsOwnFrame-asked : (limits : Limits) (bytes : List ℕ) (frame : WholeFrame) (request : Request) (r : Result AnswerFrame Fault)
+    → frame_under frame ≡ frame_in bytes
     → request_of_frame frame.header.items frame.values.items ≡ Ok (asked_under request)
-    → MatchResult r (λ a. bytes_in a ≡ answer_bytes (tensor (asked_tensor (asked_under request)))) (λ f. f ≡ NoMemory)
-    → IsShort (header_len bytes) (value_count bytes) → MatchResult r (IsFrameOfTensor bytes) (IsFaultOf bytes)
-IsFrameOfTensor-asked bytes frame request (Ok a) same asks written short = record {
-  found = asked_tensor (asked_under request);
-  answers = ap answer_of (sym same) ∙ ap answer_from asks;
-  written = written;
-}
-IsFrameOfTensor-asked bytes frame request (Err f) same asks memory short = inr (ap fault memory, short)
+    → MatchResult r (λ a. bytes_in a
+    ≡ frame_unless (over_limits limits (asked_under request)) (answer_bytes (tensor (asked_tensor (asked_under request))))) (λ f. f ≡ NoMemory)
+    → IsShort (header_len bytes) (value_count bytes) → MatchResult r (IsOwnFrame limits bytes) (IsFaultOf bytes)
+IsOwnFrame-asked limits bytes frame request (Ok a) same asks written short =
+    let asked : request_in (frame_in bytes) ≡ Ok (asked_under request) = ap request_in (sym same) ∙ asks in
+    written ∙ sym (ap (λ (o : Result Asked Fault). frame_unless (refusal limits o) (answer_bytes (answer_from o))) asked)
+IsOwnFrame-asked limits bytes frame request (Err f) same asks memory short = inr (ap fault memory, short)
+
+-- where a request is over no limit
+pub unlimited : (r : Result AnswerFrame Fault) (o : Option LimitFault) (own : List ℕ) → o ≡ None
+    → MatchResult r (λ a. bytes_in a ≡ own) (λ f. f ≡ NoMemory) → MatchResult r (λ a. bytes_in a ≡ frame_unless o own) (λ f. f ≡ NoMemory)
+unlimited (Ok a) o own none written = written ∙ sym (ap (λ (p : Option LimitFault). frame_unless p own) none)
+unlimited (Err f) o own none memory = memory
+
+-- the frame of a fault
+fault_is_no_tensor : (f : Fault) (t : Contents) → fault f ≡ tensor t → ⊥
+fault_is_no_tensor f t is = cc
+
+fault-frame : (limits : Limits) (r : Result Asked Fault) (f : Fault) → fault f ≡ answer_from r
+    → answer_bytes (fault f) ≡ frame_unless (refusal limits r) (answer_bytes (answer_from r))
+fault-frame limits (Ok a) f is = absurd (fault_is_no_tensor f (asked_tensor a) is)
+fault-frame limits (Err g) f is = ap answer_bytes is
+
+pub IsFrameWithin-fault : (limits : Limits) (bytes : List ℕ) (f : Fault) (answer : List ℕ) → IsFaultOf bytes f → answer ≡ answer_bytes (fault f)
+    → IsFrameWithin limits bytes answer
+IsFrameWithin-fault limits bytes f answer (inl own) is = inl (is ∙ fault-frame limits (request_in (frame_in bytes)) f own)
+IsFrameWithin-fault limits bytes f answer (inr memory) is = inr (is ∙ ap answer_bytes memory.0, memory.1)
 
 -- the first fault of a frame, or want of memory
 pub IsFaultOf-asked : (bytes : List ℕ) (frame : WholeFrame) (f : Fault) → frame_under frame ≡ frame_in bytes

@@ -4,3 +4,4 @@ pub mod Answering
 pub mod Serving
 pub mod Takings
 pub mod Written
+pub mod Unlimited

@@ -5,9 +5,11 @@ use Rattle.std.specs.List.{flat_map}
 use Rattle.expr_reader.specs.Contents.{Contents}
 use Rattle.expr_reader.specs.declared.fault.Fault.{Fault}
 use Rattle.expr_reader.specs.declared.fault.Fault.TheVariants.{TooLong, NoMemory}
-use Rattle.tensor_runner.specs.Answer.{Answer, tensor, fault}
-use Rattle.frame_server.specs.Answer.{answer_of, answer_bytes, IsAnswerTo}
-use Rattle.frame_server.specs.Frame.{frame_in, number_bytes, value_bytes}
+use Rattle.tensor_runner.specs.Answer.{fault}
+use Rattle.tensor_runner.specs.declared.limits.Limits.{Limits}
+use Rattle.frame_server.specs.Answer.{answer_bytes, IsAnswerTo}
+use Rattle.frame_server.specs.Frame.{number_bytes, value_bytes}
+use Rattle.frame_server.specs.Limited.{frame_within}
 use Rattle.frame_server.specs.declared.frame.AnswerFrame.{AnswerFrame}
 
 -- the sizes of a frame and its header
@@ -23,17 +25,9 @@ values_in (Some t) = t.values
 abbrev pub bytes_in : AnswerFrame → List ℕ
 bytes_in frame = cow_slice_items frame.front ++ flat_map value_bytes (values_in frame.tensor)
 
--- the frame of an answer to what these bytes ask
-pub record IsFrameFor (bytes : List ℕ) (frame : AnswerFrame) : Type 0 where
-  pub answer : Answer
-  pub answers : IsAnswerTo bytes answer
-  pub written : bytes_in frame ≡ answer_bytes answer
-
--- the frame of the tensor that these bytes ask for
-pub record IsFrameOfTensor (bytes : List ℕ) (frame : AnswerFrame) : Type 0 where
-  pub found : Contents
-  pub answers : answer_of (frame_in bytes) ≡ tensor found
-  pub written : bytes_in frame ≡ answer_bytes (tensor found)
+-- the frame of the bytes' own answer, or of the limit that their request is over
+abbrev pub IsOwnFrame : Limits → List ℕ → AnswerFrame → Type 0
+IsOwnFrame limits bytes frame = bytes_in frame ≡ frame_within limits bytes
 
 abbrev pub IsFaultOf : List ℕ → Fault → Type 0
 IsFaultOf bytes f = IsAnswerTo bytes (fault f)

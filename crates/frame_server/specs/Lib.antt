@@ -1,6 +1,8 @@
 pub mod Answer
 pub mod Ending
 pub mod Frame
+pub mod Limited
+pub mod LimitedEnding
 pub mod Stream
 -- for private clauses alone
 pub mod Answering

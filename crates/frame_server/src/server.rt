@@ -1,6 +1,8 @@
 //! Answers many requests, a frame each.
 
 ghost use Rattle.std.specs.Prelude.{◌≡◌, ℕ, List, Some, Err, IfSome, OnOk};
+ghost use Rattle.frame_server.specs.Limited.{GoesByFramesWithin, AnswersFramesWithin};
+ghost use Rattle.frame_server.specs.Limited.{BreaksOffWithin, CutsFramesShortWithin};
 ghost use Rattle.frame_server.specs.Stream.{GoesByFrames, AnswersFrames, BreaksOff};
 ghost use Rattle.frame_server.specs.Stream.{CutsFramesShort, StopsReading};
 ghost use Rattle.tensor_runner.specs.History.{IsNew};
@@ -13,7 +15,7 @@ use crate::writing::{OutputBuffer, write_frame};
 use std::alloc::Global;
 use std::sync::Wait;
 use std::thread::Threads;
-use tensor_runner::{Client, StreamFault};
+use tensor_runner::{Client, Limits, StreamFault};
 
 /// Answers each frame of the client's, in order, by the frame of the tensor that its request's
 /// workers work out, or of its first fault, until the client's bytes end. Each answer is written
@@ -54,13 +56,53 @@ pub fn answer_frames<RT: Threads + Wait + Sync, C: Client>(
     ensures no_failure { OnOk result ((C.read_failures client.new ≡ C.read_failures client.old)
         × (C.write_failures client.new ≡ C.write_failures client.old)) }
 {
+    answer_frames_within(rt, alloc, Limits::none(), client)
+}
+
+/// Answers each frame of the client's as [`answer_frames`] does, but for requests that are over these
+/// limits: each of them is answered by the frame of the limit, none of it is worked out, and the next
+/// frame is answered.
+///
+/// # Errors
+///
+/// As [`answer_frames`].
+pub fn answer_frames_within<RT: Threads + Wait + Sync, C: Client>(
+    rt: &RT,
+    alloc: Global,
+    limits: Limits,
+    client: &mut C,
+) -> Result<(), StreamFault>
+    requires by_frames { GoesByFramesWithin limits C.owes_nothing }
+    requires new { IfSome (C.history client.old) IsNew }
+
+    ensures answered { (stream held : List ℕ) → C.remaining client.old ≡ Some stream
+        → C.contents client.old ≡ Some held
+        → OnOk result (AnswersFramesWithin limits stream held (C.contents client.new)) }
+    // Nothing of a frame is answered that isn't whole.
+    ensures broken_off { (stream held : List ℕ) → C.remaining client.old ≡ Some stream
+        → C.contents client.old ≡ Some held → result ≡ Err StreamFault.ReadFault
+        → BreaksOffWithin limits stream held (C.remaining client.new) (C.contents client.new) }
+    ensures cut_short { (stream held : List ℕ) → C.remaining client.old ≡ Some stream
+        → C.contents client.old ≡ Some held → result ≡ Err StreamFault.WriteFault
+        → CutsFramesShortWithin limits stream held (C.contents client.new) }
+
+    ensures read_fault { result ≡ Err StreamFault.ReadFault
+        → StopsReading (C.read_failures client.old) (C.read_failures client.new)
+        (C.remaining client.old) (C.remaining client.new)
+        × (C.write_failures client.new ≡ C.write_failures client.old) }
+    ensures write_fault { result ≡ Err StreamFault.WriteFault
+        → (C.read_failures client.new ≡ C.read_failures client.old)
+        × HasFailed (C.write_failures client.old) (C.write_failures client.new) }
+    ensures no_failure { OnOk result ((C.read_failures client.new ≡ C.read_failures client.old)
+        × (C.write_failures client.new ≡ C.write_failures client.old)) }
+{
     let mut buffer = InputBuffer::new();
     let mut room = OutputBuffer::new();
     for turn in rt.forever() {
         let Some(next) = next_frame(alloc, client, &mut buffer)? else {
             return Ok(());
         };
-        let frame = answer(rt, alloc, next);
+        let frame = answer(rt, alloc, limits, next);
         write_frame(alloc, client, &mut room, &frame)?;
     }
     unreachable!()

@@ -1,14 +1,37 @@
 //! Answers the requests of standard input, a line each, on standard output, a line each, until the
-//! input ends, as `tensor_runner` says. It takes no arguments and ignores any.
+//! input ends, as `tensor_runner` says. Its options are limits.
 #![tactic(auto)]
 
-use std::io;
 use std::process::ExitCode;
+use std::{env, io};
 use tensor_runner::{
-    Connection, CountedReader, CountedWriter, Uninterrupted, grow_stack, serve_lines,
+    Command, Connection, CountedReader, CountedWriter, Uninterrupted, VERSION, command_of,
+    grow_stack, serve_lines_within,
 };
 
+const USAGE: &str = "usage: tensor_lines [--most-workers N] [--most-steps N] < LINES\n";
+
 fn main(rt: HostRuntime) -> io::Result<ExitCode> {
+    let given: Vec<String> = env::args(&rt)?.skip(1).collect(rt.alloc())?;
+    let mut words = Vec::new(rt.alloc());
+    for word in &given {
+        words.push(word.as_str())?;
+    }
+    let limits = match command_of(&words) {
+        Some(Command::Serve(limits)) => limits,
+        Some(Command::Help) => {
+            print!(rt; "{USAGE}")?;
+            return Ok(ExitCode::from(0));
+        }
+        Some(Command::Version) => {
+            println!(rt; "tensor_lines {VERSION}")?;
+            return Ok(ExitCode::from(0));
+        }
+        None => {
+            eprint!(rt; "tensor_lines: no such options\n{USAGE}")?;
+            return Ok(ExitCode::from(2));
+        }
+    };
     let mut client = Connection {
         source: CountedReader::new(Uninterrupted { stream: rt.stdin() }),
         sink: CountedWriter::new(Uninterrupted {
@@ -16,7 +39,7 @@ fn main(rt: HostRuntime) -> io::Result<ExitCode> {
         }),
     };
     grow_stack(&rt, &mut client.source.reader);
-    let ending = serve_lines(&rt, rt.alloc(), &mut client);
+    let ending = serve_lines_within(&rt, rt.alloc(), limits, &mut client);
     if let Some(complaint) = ending.complaint {
         eprint!(rt; "{complaint}")?;
     }

@@ -2,11 +2,13 @@
 use Rattle.std.proofs.Common.{◌≡◌, ℕ, List, [], ◌∷◌, ◌++◌, Option, Some, None, IfSome, option_map, refl, ap, sym, ◌∙◌, subst, append_assoc}
 use Rattle.std.proofs.lemmas.List.{append-nil}
 use Rattle.std.proofs.lemmas.List.Elements.{All-push, All-nil}
-use Rattle.tensor_runner.specs.Answer.{Answer, IsAnswerTo, line_of}
-use Rattle.tensor_runner.specs.Taking.{HasNoFeed, with_feeds, IsCaughtUp, Reads}
-use Rattle.tensor_runner.specs.History.{History, OwesNothing, IsNew, reading, writing}
-use Rattle.tensor_runner.specs.Lines.{AreAnswersTo, whole_lines, lines_answering}
-use Rattle.tensor_runner.proofs.Parts.{whole_lines-with_feeds, whole_lines-open, with_feeds-push, AreAnswersTo-append, lines_answering-push}
+use Rattle.std.specs.List.{concat}
+use Rattle.tensor_runner.specs.Limited.{AreLinesWithin, IsLineWithin, OwesNothingWithin}
+use Rattle.tensor_runner.specs.Taking.{HasNoFeed, with_feeds, IsCaughtUp, OwesNothingInLine, Reads}
+use Rattle.tensor_runner.specs.History.{History, IsNew, reading, writing}
+use Rattle.tensor_runner.specs.Lines.{whole_lines}
+use Rattle.tensor_runner.specs.declared.limits.Limits.{Limits}
+use Rattle.tensor_runner.proofs.Parts.{whole_lines-with_feeds, whole_lines-open, with_feeds-push, answered-append, concat-push}
 use Rattle.tensor_runner.proofs.Streams.{Consumes-trans}
 
 -- one write and then another
@@ -36,57 +38,59 @@ Reads-trans a b c h k m xs ys first then = record {
   noted = reading-more h k m xs ys first.noted then.noted;
 }
 
--- where a line isn't at its end, nothing is owed
-pub OwesNothing-in_line : (held bytes : List ℕ) (h k : Option History) → IfSome h (IsCaughtUp held) → k ≡ option_map (reading bytes) h
-    → HasNoFeed (held ++ bytes) → IfSome k OwesNothing
-OwesNothing-in_line held bytes None k up noted plain = subst (λ (o : Option History). IfSome o OwesNothing) (sym noted) tt
-OwesNothing-in_line held bytes (Some h) k up noted plain =
-    let taken : h.taken ++ bytes ≡ with_feeds up.done ++ (held ++ bytes) =
-    ap (λ (t : List ℕ). t ++ bytes) up.taken ∙ append_assoc (with_feeds up.done) held bytes in
-    let whole : whole_lines (h.taken ++ bytes) ≡ up.done =
-    ap whole_lines taken
-    ∙ whole_lines-with_feeds up.done (held ++ bytes) up.no_feeds
-    ∙ ap (λ (l : List (List ℕ)). up.done ++ l) (whole_lines-open (held ++ bytes) plain)
-    ∙ append-nil up.done in
-    subst (λ (o : Option History). IfSome o OwesNothing) (sym noted) (record {
-      answers = up.answers;
-      answered = subst (λ (l : List (List ℕ)). AreAnswersTo l up.answers) (sym whole) up.answered;
-      written = up.written;
-    })
+-- under limits
+module _ (limits : Limits) where
+  -- where a line isn't at its end, nothing is owed
+  pub owes-in_line : (held : List ℕ) (h : Option History) (owes : History → Type 0) → IfSome h (IsCaughtUp limits held)
+      → ((k : History) → OwesNothingWithin limits k → owes k) → IfSome h (OwesNothingInLine owes held)
+  owes-in_line held None owes up goes = tt
+  owes-in_line held (Some h) owes up goes = λ bytes plain.
+      let taken : h.taken ++ bytes ≡ with_feeds up.done ++ (held ++ bytes) =
+      ap (λ (t : List ℕ). t ++ bytes) up.taken ∙ append_assoc (with_feeds up.done) held bytes in
+      let whole : whole_lines (h.taken ++ bytes) ≡ up.done =
+      ap whole_lines taken
+      ∙ whole_lines-with_feeds up.done (held ++ bytes) up.no_feeds
+      ∙ ap (λ (l : List (List ℕ)). up.done ++ l) (whole_lines-open (held ++ bytes) plain)
+      ∙ append-nil up.done in
+      goes (reading bytes h) (record {
+        answers = up.answers;
+        answered = subst (λ (l : List (List ℕ)). AreLinesWithin limits l up.answers) (sym whole) up.answered;
+        written = up.written;
+      })
 
--- a new client
-pub IsCaughtUp-new : (h : Option History) → IfSome h IsNew → IfSome h (IsCaughtUp [])
-IsCaughtUp-new None new = tt
-IsCaughtUp-new (Some h) new = record {
-  done = [];
-  answers = [];
-  no_feeds = All-nil HasNoFeed;
-  answered = tt;
-  taken = new.0;
-  written = new.1;
-}
+  -- a new client
+  pub IsCaughtUp-new : (h : Option History) → IfSome h IsNew → IfSome h (IsCaughtUp limits [])
+  IsCaughtUp-new None new = tt
+  IsCaughtUp-new (Some h) new = record {
+    done = [];
+    answers = [];
+    no_feeds = All-nil HasNoFeed;
+    answered = tt;
+    taken = new.0;
+    written = new.1;
+  }
 
--- a line more is taken and answered
-pub IsCaughtUp-more : (held new line bytes : List ℕ) (a : Answer) (h k m : Option History) → IfSome h (IsCaughtUp held)
-    → k ≡ option_map (reading bytes) h → m ≡ option_map (writing (line_of a)) k → held ++ bytes ≡ line ++ 10 ∷ new
-    → HasNoFeed line → IsAnswerTo line a → IfSome m (IsCaughtUp new)
-IsCaughtUp-more held new line bytes a None k m up read written parted plain answers =
-    subst (λ (o : Option History). IfSome o (IsCaughtUp new))
-    (sym (written ∙ ap (λ (o : Option History). option_map (writing (line_of a)) o) read)) tt
-IsCaughtUp-more held new line bytes a (Some h) k m up read written parted plain answers =
-    let taken : h.taken ++ bytes ≡ with_feeds (up.done ++ line ∷ []) ++ new =
-    ap (λ (t : List ℕ). t ++ bytes) up.taken
-    ∙ append_assoc (with_feeds up.done) held bytes
-    ∙ ap (λ (t : List ℕ). with_feeds up.done ++ t) parted
-    ∙ sym (with_feeds-push up.done line new) in
-    let all : h.written ++ line_of a ≡ lines_answering (up.answers ++ a ∷ []) =
-    ap (λ (t : List ℕ). t ++ line_of a) up.written ∙ lines_answering-push up.answers a in
-    subst (λ (o : Option History). IfSome o (IsCaughtUp new))
-    (sym (written ∙ ap (λ (o : Option History). option_map (writing (line_of a)) o) read)) (record {
-      done = up.done ++ line ∷ [];
-      answers = up.answers ++ a ∷ [];
-      no_feeds = All-push HasNoFeed up.done line up.no_feeds plain;
-      answered = AreAnswersTo-append up.done (line ∷ []) up.answers (a ∷ []) up.answered (answers, tt);
-      taken = taken;
-      written = all;
-    })
+  -- a line more is taken and answered
+  pub IsCaughtUp-more : (held new line bytes : List ℕ) (a : List ℕ) (h k m : Option History) → IfSome h (IsCaughtUp limits held)
+      → k ≡ option_map (reading bytes) h → m ≡ option_map (writing a) k → held ++ bytes ≡ line ++ 10 ∷ new
+      → HasNoFeed line → IsLineWithin limits line a → IfSome m (IsCaughtUp limits new)
+  IsCaughtUp-more held new line bytes a None k m up read written parted plain answers =
+      subst (λ (o : Option History). IfSome o (IsCaughtUp limits new))
+      (sym (written ∙ ap (λ (o : Option History). option_map (writing a) o) read)) tt
+  IsCaughtUp-more held new line bytes a (Some h) k m up read written parted plain answers =
+      let taken : h.taken ++ bytes ≡ with_feeds (up.done ++ line ∷ []) ++ new =
+      ap (λ (t : List ℕ). t ++ bytes) up.taken
+      ∙ append_assoc (with_feeds up.done) held bytes
+      ∙ ap (λ (t : List ℕ). with_feeds up.done ++ t) parted
+      ∙ sym (with_feeds-push up.done line new) in
+      let all : h.written ++ a ≡ concat (up.answers ++ a ∷ []) =
+      ap (λ (t : List ℕ). t ++ a) up.written ∙ concat-push up.answers a in
+      subst (λ (o : Option History). IfSome o (IsCaughtUp limits new))
+      (sym (written ∙ ap (λ (o : Option History). option_map (writing a) o) read)) (record {
+        done = up.done ++ line ∷ [];
+        answers = up.answers ++ a ∷ [];
+        no_feeds = All-push HasNoFeed up.done line up.no_feeds plain;
+        answered = answered-append limits up.done (line ∷ []) up.answers (a ∷ []) up.answered (answers, tt);
+        taken = taken;
+        written = all;
+      })

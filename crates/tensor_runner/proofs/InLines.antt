@@ -5,10 +5,10 @@ use Rattle.std.proofs.lemmas.List.{append-nil}
 use Rattle.std.proofs.lemmas.List.Elements.{All-append, All-nil}
 use Rattle.std.specs.Io.KnownBytes.{Consumes, Keeps, IsAtEnd}
 use Rattle.tensor_runner.specs.Kept.{IsKept}
-use Rattle.tensor_runner.specs.Taking.{HasNoFeed, IsCaughtUp, Reads, TakesPiece, InLine, TakesLine, StopsInLine}
-use Rattle.tensor_runner.specs.History.{History, OwesNothing}
+use Rattle.tensor_runner.specs.Taking.{HasNoFeed, OwesNothingInLine, Reads, TakesPiece, InLine, TakesLine, StopsInLine}
+use Rattle.tensor_runner.specs.History.{History}
 use Rattle.tensor_runner.specs.declared.kept.KeptText.{KeptText}
-use Rattle.tensor_runner.proofs.Histories.{reading-none, Reads-trans, OwesNothing-in_line}
+use Rattle.tensor_runner.proofs.Histories.{reading-none, Reads-trans}
 use Rattle.tensor_runner.proofs.Streams.{Consumes-none}
 
 -- a byte that is no line feed
@@ -72,10 +72,11 @@ pub InLine-plain : (a b : Option (List ℕ)) (h k : Option History) (old : List 
 InLine-plain a b h k old kept i = subst HasNoFeed (sym (InLine-whole a b h k old kept i)) i.no_feed
 
 -- so that nothing is owed
-pub InLine-owes : (a b : Option (List ℕ)) (h k : Option History) (old : List ℕ) (kept : KeptText)
-    → IfSome h (IsCaughtUp old) → InLine a b h k old [] kept → IfSome k OwesNothing
-InLine-owes a b h k old kept up i =
-    OwesNothing-in_line old i.bytes h k up i.read.noted (InLine-plain a b h k old kept i)
+pub InLine-owes : (a b : Option (List ℕ)) (h k : Option History) (old : List ℕ) (kept : KeptText) (owes : History → Type 0)
+    → IfSome h (OwesNothingInLine owes old) → InLine a b h k old [] kept → IfSome k owes
+InLine-owes a b None k old kept owes nothing i = subst (λ (o : Option History). IfSome o owes) (sym i.read.noted) tt
+InLine-owes a b (Some h) k old kept owes nothing i =
+    subst (λ (o : Option History). IfSome o owes) (sym i.read.noted) (nothing i.bytes (InLine-plain a b (Some h) k old kept i))
 
 -- more was read
 pub InLine-more : (a b c : Option (List ℕ)) (h k m : Option History) (old new : List ℕ) (kept : KeptText)
@@ -111,11 +112,6 @@ InLine-stops a b c h k old kept i same = record {
   consumed = Consumes-keeps a b c i.bytes i.read.consumed same;
   no_feed = InLine-plain a b h k old kept i;
 }
-
--- and so what follows from it
-pub IfSome-follows : {A : Type 0} (P Q : A → Type 0) (o : Option A) → ((x : A) → P x → Q x) → IfSome o P → IfSome o Q
-IfSome-follows P Q None follows holds = tt
-IfSome-follows P Q (Some x) follows holds = follows x holds
 
 pub OnErr-any : {A E : Type 0} (r : Result A E) {X : Type 0} → X → OnErr r X
 OnErr-any (Ok x) holds = tt

@@ -1,7 +1,10 @@
+pub mod Counting
 pub mod Histories
 pub mod InLines
 pub mod Lines
 pub mod Serving
 pub mod Streams
+pub mod Refused
 pub mod Texts
+pub mod Unlimited
 pub mod Parts

@@ -14,11 +14,11 @@ use Rattle.tensor_runner.specs.Line.{IsFaultOf}
 use Rattle.tensor_runner.specs.Run.{most_reads}
 
 -- too long a text, whatever it says
-request_of-long : (text : List ℕ) → most_bytes < length text → request_of text ≡ Err TooLong
+pub request_of-long : (text : List ℕ) → most_bytes < length text → request_of text ≡ Err TooLong
 request_of-long text long = rw (lt-ltb most_bytes (length text) long) refl
 
 -- one byte more than a text may have is as good as the whole
-request_of-take : (n : ℕ) (text : List ℕ) → most_bytes < n → request_of (take n text) ≡ request_of text
+pub request_of-take : (n : ℕ) (text : List ℕ) → most_bytes < n → request_of (take n text) ≡ request_of text
 request_of-take n text more = elim (dec_le n (length text)) [
   | yes long ↦
       request_of-long (take n text) (omega (arith, length-take-le n text long))
@@ -30,7 +30,7 @@ answer_of-take : (n : ℕ) (text : List ℕ) → most_bytes < n → answer_of (t
 answer_of-take n text more = ap answer_from (request_of-take n text more)
 
 -- a text of which a front isn't too long either
-short-take : (n : ℕ) (text : List ℕ) → most_bytes < n → length (take n text) ≤ most_bytes → length text ≤ most_bytes
+pub short-take : (n : ℕ) (text : List ℕ) → most_bytes < n → length (take n text) ≤ most_bytes → length text ≤ most_bytes
 short-take n text more short = omega (arith, short, length-take n text)
 
 pub IsAnswerTo-take : (n : ℕ) (text : List ℕ) (a : Answer) → most_bytes < n → IsAnswerTo (take n text) a → IsAnswerTo text a

@@ -1,15 +1,16 @@
 -- Lines and their line feeds.
 use Rattle.std.proofs.Common.{◌≡◌, ◌==◌, ◌<◌, ◌≤◌, ◌+◌, ◌-◌, ℕ, suc, min, List, [], ◌∷◌, ◌++◌, length, take, drop, get_or}
 use Rattle.std.proofs.Common.{true, false, All, refl, ap, sym, ◌∙◌, subst, append_assoc, arith, inl, inr}
-use Rattle.std.specs.List.{slice_index}
+use Rattle.std.specs.List.{concat, slice_index}
 use Rattle.std.proofs.Math.Seq.{take-append-add, split_at}
 use Rattle.std.proofs.lemmas.List.{append-nil, take_all, take-append-le, drop-take, drop-drop, length-take-le, length-take, get_or-take}
 use Rattle.std.proofs.lemmas.List.Elements.{All-head, All-tail, All-from_get_or}
 use Rattle.std.proofs.lemmas.Bool.{cases_lt, eqb-true, false_from_ne_true}
 use Rattle.memchr.specs.Find.{Passes, is_byte, Nowhere}
-use Rattle.tensor_runner.specs.Answer.{Answer, answer_of, line_of}
+use Rattle.tensor_runner.specs.Limited.{line_within, AreLinesWithin}
 use Rattle.tensor_runner.specs.Taking.{HasNoFeed, with_feeds}
-use Rattle.tensor_runner.specs.Lines.{lines_of, whole_lines, AreAnswersTo, lines_answering}
+use Rattle.tensor_runner.specs.Lines.{lines_of, whole_lines}
+use Rattle.tensor_runner.specs.declared.limits.Limits.{Limits}
 
 -- a byte that is no line feed
 abbrev IsPlain : ℕ → Type 0
@@ -90,24 +91,19 @@ take-behind n line text piece is = elim (cases_lt (length line) n) [
       rw none (append-nil text ∙ is ∙ sym (take-append-le n line piece more))
 ]
 
--- all that a text is answered by
-pub answers_of : (texts : List (List ℕ)) → (answers : List Answer) × AreAnswersTo texts answers
-answers_of [] = ([], tt)
-answers_of (text ∷ texts) = (answer_of text ∷ (answers_of texts).0, (inl refl, (answers_of texts).1))
+-- what texts are answered by under limits
+module _ (limits : Limits) where
+  pub answers_of : (texts : List (List ℕ)) → (answers : List (List ℕ)) × AreLinesWithin limits texts answers
+  answers_of [] = ([], tt)
+  answers_of (text ∷ texts) = (line_within limits text ∷ (answers_of texts).0, (inl refl, (answers_of texts).1))
 
-pub AreAnswersTo-append : (texts more : List (List ℕ)) (answers others : List Answer) → AreAnswersTo texts answers → AreAnswersTo more others
-    → AreAnswersTo (texts ++ more) (answers ++ others)
-AreAnswersTo-append [] more [] others first then = then
-AreAnswersTo-append [] more (a ∷ answers) others first then = absurd first
-AreAnswersTo-append (t ∷ texts) more [] others first then = absurd first
-AreAnswersTo-append (t ∷ texts) more (a ∷ answers) others first then =
-    (first.0, AreAnswersTo-append texts more answers others first.1 then)
-
-pub length-AreAnswersTo : (texts : List (List ℕ)) (answers : List Answer) → AreAnswersTo texts answers → length answers ≡ length texts
-length-AreAnswersTo [] [] are = refl
-length-AreAnswersTo [] (a ∷ answers) are = absurd are
-length-AreAnswersTo (t ∷ texts) [] are = absurd are
-length-AreAnswersTo (t ∷ texts) (a ∷ answers) are = ap suc (length-AreAnswersTo texts answers are.1)
+  pub answered-append : (texts more answers others : List (List ℕ)) → AreLinesWithin limits texts answers → AreLinesWithin limits more others
+      → AreLinesWithin limits (texts ++ more) (answers ++ others)
+  answered-append [] more [] others first then = then
+  answered-append [] more (a ∷ answers) others first then = absurd first
+  answered-append (t ∷ texts) more [] others first then = absurd first
+  answered-append (t ∷ texts) more (a ∷ answers) others first then =
+      (first.0, answered-append texts more answers others first.1 then)
 
 -- no line feed where none was found
 pub HasNoFeed-take : (held : List ℕ) (place : ℕ) → Nowhere (Passes (is_byte 10) held) 0 place → HasNoFeed (take place held)
@@ -143,12 +139,16 @@ parted_at bytes start stop place within feed =
     ∙ ap (λ (b : ℕ). take place held ++ b ∷ drop (suc place) held) (eqb-true (get_or held place 0) 10 feed)
     ∙ ap (λ (l : List ℕ). take place held ++ 10 ∷ l) after
 
--- the line of one answer more
-pub lines_answering-push : (answers : List Answer) (a : Answer) → lines_answering answers ++ line_of a ≡ lines_answering (answers ++ a ∷ [])
-lines_answering-push [] a = sym (append-nil (line_of a))
-lines_answering-push (first ∷ answers) a =
-    append_assoc (line_of first) (lines_answering answers) (line_of a)
-    ∙ ap (λ (t : List ℕ). line_of first ++ t) (lines_answering-push answers a)
+-- one answer more
+pub concat-push : (answers : List (List ℕ)) (a : List ℕ) → concat answers ++ a ≡ concat (answers ++ a ∷ [])
+concat-push [] a = sym (append-nil a)
+concat-push (first ∷ answers) a = append_assoc first (concat answers) a ∙ ap (λ (t : List ℕ). first ++ t) (concat-push answers a)
+
+-- answers behind others
+pub concat-append : (answers others : List (List ℕ)) → concat (answers ++ others) ≡ concat answers ++ concat others
+concat-append [] others = refl
+concat-append (first ∷ answers) others =
+    ap (λ (t : List ℕ). first ++ t) (concat-append answers others) ∙ sym (append_assoc first (concat answers) (concat others))
 
 -- nothing is held from the end on
 pub none_left : (bytes : List ℕ) (stop : ℕ) → take (stop - stop) (drop stop bytes) ≡ []

@@ -7,10 +7,14 @@ pub use Rattle.expr_reader.specs.Value
 pub mod Answer
 pub mod Ending
 pub mod History
+pub mod Limited
+pub mod LimitedEnding
 pub mod Lines
+pub mod Options
 pub mod Run
 pub mod Status
 pub mod Streams
+pub mod Work
 -- for private clauses alone
 pub mod Kept
 pub mod Taking

@@ -1,5 +1,8 @@
--- The numbers of the faults.
-use Rattle.std.specs.Prelude.{ℕ}
+-- The numbers of the faults, and the names of those of limits.
+use Rattle.std.specs.Prelude.{ℕ, List, codes}
+use Rattle.tensor_runner.specs.declared.limits.LimitFault.{LimitFault}
+use Rattle.tensor_runner.specs.declared.limits.LimitFault.TheVariants.{TooManyWorkers}
+use Rattle.tensor_runner.specs.declared.limits.LimitFault.TheVariants.{TooManySteps}
 use Rattle.tensor_runner.specs.declared.status.RunFault.{RunFault}
 use Rattle.tensor_runner.specs.declared.status.RunFault.TheVariants as run
 use Rattle.tensor_runner.specs.declared.status.StreamFault.{StreamFault}
@@ -12,3 +15,12 @@ run_fault_number run.NoMemory = 15
 abbrev pub stream_fault_number : StreamFault → ℕ
 stream_fault_number ReadFault = 16
 stream_fault_number WriteFault = 17
+
+-- behind those of requests and streams; 18 was a fault once, and isn't used again
+abbrev pub limit_number : LimitFault → ℕ
+limit_number TooManyWorkers = 19
+limit_number TooManySteps = 20
+
+abbrev pub limit_name : LimitFault → List ℕ
+limit_name TooManyWorkers = codes "TooManyWorkers"
+limit_name TooManySteps = codes "TooManySteps"

@@ -1,14 +1,14 @@
 -- Bytes on the way from a client to a line, for the private clauses of the server.
 use Rattle.std.specs.Prelude.{◌≡◌, ◌-◌, ◌==◌, ℕ, List, [], ◌∷◌, ◌++◌, take, drop, All}
 use Rattle.std.specs.Prelude.{Bool, false, if◌then◌else◌, Option, option_map}
-use Rattle.std.specs.List.{flat_map}
+use Rattle.std.specs.List.{concat, flat_map}
 use Rattle.std.specs.Io.KnownBytes.{Consumes, IsAtEnd}
-use Rattle.tensor_runner.specs.Answer.{Answer}
 use Rattle.tensor_runner.specs.History.{History, reading}
-use Rattle.tensor_runner.specs.Lines.{AreAnswersTo, lines_answering}
+use Rattle.tensor_runner.specs.Limited.{AreLinesWithin}
 use Rattle.tensor_runner.specs.Kept.{IsKept}
 use Rattle.tensor_runner.specs.declared.buffer.InputBuffer.{InputBuffer}
 use Rattle.tensor_runner.specs.declared.kept.KeptText.{KeptText}
+use Rattle.tensor_runner.specs.declared.limits.Limits.{Limits}
 use Rattle.tensor_runner.specs.declared.buffer.NextLine.{NextLine}
 
 -- what was read and belongs to no line yet
@@ -34,6 +34,11 @@ pub record TakesPiece (old new : List ℕ) (ended : Bool) (before after : KeptTe
   pub parted : old ≡ piece ++ behind ended new
   pub emptied : ended ≡ false → new ≡ []
   pub kept : (line : List ℕ) → IsKept line before → IsKept (line ++ piece) after
+
+-- whatever is read, nothing is owed as long as all that is pending has no line feed
+abbrev pub OwesNothingInLine : (History → Type 0) → List ℕ → History → Type 0
+OwesNothingInLine owes_nothing pending h =
+    (more : List ℕ) → HasNoFeed (pending ++ more) → owes_nothing (reading more h)
 
 -- these bytes were read
 pub record Reads (before after : Option (List ℕ)) (h k : Option History) (bytes : List ℕ)
@@ -70,10 +75,10 @@ pub record StopsInLine (before after : Option (List ℕ)) (old : List ℕ) : Typ
   pub no_feed : HasNoFeed (old ++ bytes)
 
 -- each line before what is pending is answered
-pub record IsCaughtUp (pending : List ℕ) (h : History) : Type 0 where
+pub record IsCaughtUp (limits : Limits) (pending : List ℕ) (h : History) : Type 0 where
   pub done : List (List ℕ)
-  pub answers : List Answer
+  pub answers : List (List ℕ)
   pub no_feeds : All HasNoFeed done
-  pub answered : AreAnswersTo done answers
+  pub answered : AreLinesWithin limits done answers
   pub taken : h.taken ≡ with_feeds done ++ pending
-  pub written : h.written ≡ lines_answering answers
+  pub written : h.written ≡ concat answers

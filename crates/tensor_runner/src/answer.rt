@@ -2,24 +2,32 @@
 
 ghost use Rattle.std.specs.Prelude.{◌≡◌, ◌≢◌, ◌⊎◌, ℕ, List, MatchResult};
 ghost use Rattle.std.specs.Cow.{cow_slice_items};
-ghost use Rattle.tensor_runner.specs.Answer.{fault_line};
+ghost use Rattle.expr_reader.specs.Asked.{asked_under};
+ghost use Rattle.tensor_runner.specs.Answer.{tensor, asked_tensor, fault_line};
 ghost use Rattle.tensor_runner.specs.Kept.{IsKept};
-ghost use Rattle.tensor_runner.specs.Line.{IsLineFor, IsLineOfTensor, IsFaultOf};
+ghost use Rattle.tensor_runner.specs.Limited.{limit_line};
+ghost use Rattle.tensor_runner.specs.Line.{IsLineUnder, IsLineOf, IsFaultOf};
 
 use crate::evaluation::eval;
 use crate::kept::KeptText;
+use crate::limits::{LimitFault, Limits};
 use crate::status::{RunFault, Status};
 use crate::text::push_tensor;
-use expr_reader::{Fault, MAX_TEXT, read_request};
+use crate::work::over_limits;
+use expr_reader::{Fault, MAX_TEXT, Request, read_request};
 use std::alloc::Global;
 use std::borrow::CowSlice;
 use std::sync::Wait;
 use std::thread::Threads;
 
-/// The lines that take no memory: where there is none, and where the text is too long.
+/// The lines that take no memory: where there is none, where the text is too long, and of limits.
 const NO_MEMORY: &[u8] = b"error 15 NoMemory\n";
 
 const TOO_LONG: &[u8] = b"error 1 TooLong\n";
+
+const TOO_MANY_WORKERS: &[u8] = b"error 19 TooManyWorkers\n";
+
+const TOO_MANY_STEPS: &[u8] = b"error 20 TooManySteps\n";
 
 /// A line with its line feed, and what it says.
 #[derive(Drop)]
@@ -28,27 +36,84 @@ pub(crate) struct Line {
     pub(crate) status: Status,
 }
 
-/// The line that answers a text of which this is kept.
-pub(crate) fn answer<RT: Threads + Wait + Sync>(rt: &RT, alloc: Global, kept: KeptText) -> Line
-    ensures { (text : List ℕ) → IsKept text kept → IsLineFor text result }
+/// The line that answers a text of which this is kept, under limits.
+pub(crate) fn answer<RT: Threads + Wait + Sync>(
+    rt: &RT,
+    alloc: Global,
+    limits: Limits,
+    kept: KeptText,
+) -> Line
+    ensures { (text : List ℕ) → IsKept text kept → IsLineUnder limits text result }
 {
     match kept {
-        KeptText::Text(text) => answer_text(rt, alloc, text),
+        KeptText::Text(text) => answer_text(rt, alloc, limits, text),
         KeptText::Counted(count) if count > MAX_TEXT => too_long(),
         KeptText::Counted(_) => no_memory(),
     }
 }
 
-/// The line that answers a text, in the text's own room where it is a tensor's.
-fn answer_text<RT: Threads + Wait + Sync>(rt: &RT, alloc: Global, text: Vec<u8>) -> Line
-    ensures { IsLineFor text.items result }
+/// The line that answers a text under limits, in the text's own room where it is a tensor's.
+fn answer_text<RT: Threads + Wait + Sync>(
+    rt: &RT,
+    alloc: Global,
+    limits: Limits,
+    text: Vec<u8>,
+) -> Line
+    ensures { IsLineUnder limits text.items result }
 {
-    match tensor_of(rt, alloc, text) {
-        Ok(line) => Line {
-            bytes: CowSlice::Owned(line),
-            status: Status::Tensor,
-        },
+    match line_of(rt, alloc, limits, text) {
+        Ok(line) => line,
         Err(fault) => refusal(alloc, fault),
+    }
+}
+
+/// The line of a text's tensor, or of the limit that its request is over, or the fault that there is
+/// of it.
+fn line_of<RT: Threads + Wait + Sync>(
+    rt: &RT,
+    alloc: Global,
+    limits: Limits,
+    text: Vec<u8>,
+) -> Result<Line, Fault>
+    ensures { MatchResult result (IsLineUnder limits text.items) (IsFaultOf text.items) }
+{
+    match read_request(alloc, text.as_slice()) {
+        Ok(request) => match over_limits(limits, &request) {
+            Some(fault) => Ok(limit_line(fault)),
+            None => tensor_line(rt, alloc, &request, text),
+        },
+        Err(fault) => Err(fault),
+    }
+}
+
+/// The line of a limit, which takes no memory.
+fn limit_line(fault: LimitFault) -> Line
+    ensures bytes { cow_slice_items result.bytes ≡ limit_line fault }
+    ensures status { result.status ≡ Status.Fault }
+{
+    match fault {
+        LimitFault::TooManyWorkers => too_many_workers(),
+        LimitFault::TooManySteps => too_many_steps(),
+    }
+}
+
+fn too_many_workers() -> Line
+    ensures bytes { cow_slice_items result.bytes ≡ limit_line LimitFault.TooManyWorkers }
+    ensures status { result.status ≡ Status.Fault }
+{
+    Line {
+        bytes: CowSlice::Borrowed(TOO_MANY_WORKERS),
+        status: Status::Fault,
+    }
+}
+
+fn too_many_steps() -> Line
+    ensures bytes { cow_slice_items result.bytes ≡ limit_line LimitFault.TooManySteps }
+    ensures status { result.status ≡ Status.Fault }
+{
+    Line {
+        bytes: CowSlice::Borrowed(TOO_MANY_STEPS),
+        status: Status::Fault,
     }
 }
 
@@ -74,25 +139,28 @@ fn too_long() -> Line
     }
 }
 
-/// The line of a tensor, or why there is none. The line takes the text's place, which isn't needed
-/// any more once it is read.
-fn tensor_of<RT: Threads + Wait + Sync>(
+/// The line of a request's tensor, or want of memory. It takes the place of the text, which isn't
+/// needed any more once it is read.
+fn tensor_line<RT: Threads + Wait + Sync>(
     rt: &RT,
     alloc: Global,
+    request: &Request<'_>,
     text: Vec<u8>,
-) -> Result<Vec<u8>, Fault>
-    ensures { MatchResult result (λ line. IsLineOfTensor text.items line.items)
-        (IsFaultOf text.items) }
+) -> Result<Line, Fault>
+    ensures { MatchResult result (IsLineOf (tensor (asked_tensor (asked_under request.now))))
+        (λ fault. fault ≡ Fault.NoMemory) }
 {
-    let request = read_request(alloc, text.as_slice())?;
-    let tensor = match eval(rt, alloc, &request) {
+    let tensor = match eval(rt, alloc, request) {
         Ok(tensor) => tensor,
         Err(RunFault::NoMemory) => return Err(Fault::NoMemory),
     };
     let mut line = text;
     line.clear();
     match push_tensor(alloc, &tensor, &mut line) {
-        Ok(()) => Ok(line),
+        Ok(()) => Ok(Line {
+            bytes: CowSlice::Owned(line),
+            status: Status::Tensor,
+        }),
         Err(_) => Err(Fault::NoMemory),
     }
 }

@@ -5,12 +5,15 @@ ghost use Rattle.tensor_runner.specs.Ending.{complaint_in, IsEndingOf, EndsAnswe
 ghost use Rattle.tensor_runner.specs.Ending.{EndsLines, EndsInLine, EndsInAnswer};
 ghost use Rattle.tensor_runner.specs.Ending.{IsQuiet, IsComplaint};
 ghost use Rattle.tensor_runner.specs.History.{IsNew, GoesByLines};
+ghost use Rattle.tensor_runner.specs.Limited.{GoesByLinesWithin};
+ghost use Rattle.tensor_runner.specs.LimitedEnding.{EndsWithin};
 ghost use Rattle.tensor_runner.specs.Run.{most_reads, TakesAtMost};
 ghost use Rattle.tensor_runner.specs.Streams.{HasFailed};
 
 use crate::client::Client;
 use crate::engine::run;
-use crate::server::answer_lines;
+use crate::limits::Limits;
+use crate::server::{answer_lines, answer_lines_within};
 use crate::sink::Sink;
 use crate::source::Source;
 use crate::status::{Status, StreamFault};
@@ -80,6 +83,25 @@ pub fn serve_lines<RT: Threads + Wait + Sync, C: Client>(
         × HasFailed (C.write_failures client.old) (C.write_failures client.new))) }
 {
     ending_of(answer_lines(rt, alloc, client))
+}
+
+/// Answers the lines of a client under limits, as [`answer_lines_within`] does, and says what the
+/// program ends with.
+pub fn serve_lines_within<RT: Threads + Wait + Sync, C: Client>(
+    rt: &RT,
+    alloc: Global,
+    limits: Limits,
+    client: &mut C,
+) -> Ending
+    requires by_lines { GoesByLinesWithin limits C.owes_nothing }
+    requires new { IfSome (C.history client.old) IsNew }
+    // All lines were answered, or a read failed, or a write.
+    ensures ended { EndsWithin limits (C.remaining client.old) (C.remaining client.new)
+        (C.contents client.old) (C.contents client.new)
+        (C.read_failures client.old, C.read_failures client.new)
+        (C.write_failures client.old, C.write_failures client.new) result }
+{
+    ending_of(answer_lines_within(rt, alloc, limits, client))
 }
 
 /// What a program ends with that answered many requests: status 0, or the line of the fault that

@@ -6,6 +6,7 @@ ghost use Rattle.tensor_runner.specs.Run.{most_reads, TakesAtMost, Answers, Cuts
 ghost use Rattle.tensor_runner.specs.Streams.{HasFailed};
 
 use crate::answer::{Line, answer};
+use crate::limits::Limits;
 use crate::reading::read_text;
 use crate::sink::Sink;
 use crate::source::Source;
@@ -72,5 +73,5 @@ fn prepare<RT: Threads + Wait + Sync, R: Source>(
     ensures calls { R.calls reader.new ≤ R.calls reader.old + most_reads }
 {
     let kept = read_text(alloc, reader)?;
-    Ok(answer(rt, alloc, kept))
+    Ok(answer(rt, alloc, Limits::none(), kept))
 }

@@ -4,6 +4,8 @@ ghost use Rattle.std.specs.Prelude.{◌≡◌, ◌<◌, ℕ, List, Some, Err, If
 ghost use Rattle.std.specs.Prelude.{MatchResult, option_map};
 ghost use Rattle.std.specs.Io.KnownBytes.{Appends};
 ghost use Rattle.tensor_runner.specs.History.{IsNew, GoesByLines, writing};
+ghost use Rattle.tensor_runner.specs.Limited.{AnswersLinesWithin, BreaksOffWithin};
+ghost use Rattle.tensor_runner.specs.Limited.{CutsLinesShortWithin, GoesByLinesWithin};
 ghost use Rattle.tensor_runner.specs.Lines.{lines_of, AnswersLines, BreaksOff, CutsLinesShort};
 ghost use Rattle.tensor_runner.specs.Pieces.{AppendsFront};
 ghost use Rattle.tensor_runner.specs.Server.{IsNothing};
@@ -12,6 +14,7 @@ ghost use Rattle.tensor_runner.specs.Streams.{HasFailed};
 use crate::answer::answer;
 use crate::buffer::{InputBuffer, NextLine};
 use crate::client::Client;
+use crate::limits::Limits;
 use crate::status::StreamFault;
 use crate::taking::next_line;
 use std::alloc::Global;
@@ -56,13 +59,52 @@ pub fn answer_lines<RT: Threads + Wait + Sync, C: Client>(
     ensures no_failure { OnOk result ((C.read_failures client.new ≡ C.read_failures client.old)
         × (C.write_failures client.new ≡ C.write_failures client.old)) }
 {
+    answer_lines_within(rt, alloc, Limits::none(), client)
+}
+
+/// Answers each line of the client's as [`answer_lines`] does, but for requests that are over these
+/// limits: each of them is answered by the line of the limit, none of it is worked out, and the next
+/// line is answered.
+///
+/// # Errors
+///
+/// As [`answer_lines`].
+pub fn answer_lines_within<RT: Threads + Wait + Sync, C: Client>(
+    rt: &RT,
+    alloc: Global,
+    limits: Limits,
+    client: &mut C,
+) -> Result<(), StreamFault>
+    requires by_lines { GoesByLinesWithin limits C.owes_nothing }
+    requires new { IfSome (C.history client.old) IsNew }
+
+    ensures answered { (text held : List ℕ) → C.remaining client.old ≡ Some text
+        → C.contents client.old ≡ Some held
+        → OnOk result (AnswersLinesWithin limits (lines_of text) held (C.contents client.new)) }
+    // Nothing of a line is answered in which a read failed.
+    ensures broken_off { (text held : List ℕ) → C.remaining client.old ≡ Some text
+        → C.contents client.old ≡ Some held → result ≡ Err StreamFault.ReadFault
+        → BreaksOffWithin limits text held (C.remaining client.new) (C.contents client.new) }
+    ensures cut_short { (text held : List ℕ) → C.remaining client.old ≡ Some text
+        → C.contents client.old ≡ Some held → result ≡ Err StreamFault.WriteFault
+        → CutsLinesShortWithin limits (lines_of text) held (C.contents client.new) }
+
+    ensures read_fault { result ≡ Err StreamFault.ReadFault
+        → HasFailed (C.read_failures client.old) (C.read_failures client.new)
+        × (C.write_failures client.new ≡ C.write_failures client.old) }
+    ensures write_fault { result ≡ Err StreamFault.WriteFault
+        → (C.read_failures client.new ≡ C.read_failures client.old)
+        × HasFailed (C.write_failures client.old) (C.write_failures client.new) }
+    ensures no_failure { OnOk result ((C.read_failures client.new ≡ C.read_failures client.old)
+        × (C.write_failures client.new ≡ C.write_failures client.old)) }
+{
     let mut buffer = InputBuffer::new();
     for turn in rt.forever() {
         let next = next_line(rt, alloc, client, &mut buffer)?;
         if is_nothing(&next) {
             return Ok(());
         }
-        let line = answer(rt, alloc, next.kept);
+        let line = answer(rt, alloc, limits, next.kept);
         write_answer(client, line.bytes.as_slice())?;
         if !next.ended {
             return Ok(());

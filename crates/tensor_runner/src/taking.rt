@@ -3,9 +3,8 @@
 ghost use Rattle.std.specs.Prelude.{◌≡◌, [], IfOk, IfSome, IfErr, OnOk, OnErr};
 ghost use Rattle.std.specs.Prelude.{MatchResult, false};
 ghost use Rattle.std.specs.Io.KnownBytes.{Keeps, IsAtEnd};
-ghost use Rattle.tensor_runner.specs.Taking.{pending_bytes, HasNoFeed, IsCaughtUp};
+ghost use Rattle.tensor_runner.specs.Taking.{pending_bytes, HasNoFeed, OwesNothingInLine};
 ghost use Rattle.tensor_runner.specs.Taking.{TakesPiece, Reads, TakesLine, StopsInLine};
-ghost use Rattle.tensor_runner.specs.History.{GoesByLines};
 ghost use Rattle.tensor_runner.specs.Streams.{HasFailed};
 
 use crate::buffer::{InputBuffer, NextLine};
@@ -89,8 +88,8 @@ pub(crate) fn next_line<RT: Wait, C: Client>(
     client: &mut C,
     buffer: &mut InputBuffer,
 ) -> Result<NextLine, StreamFault>
-    requires by_lines { GoesByLines C.owes_nothing }
-    requires caught_up { IfSome (C.history client.old) (IsCaughtUp (pending_bytes buffer.old)) }
+    requires { IfSome (C.history client.old)
+        (OwesNothingInLine C.owes_nothing (pending_bytes buffer.old)) }
     ensures line { IfOk result (TakesLine (C.remaining client.old) (C.remaining client.new)
         (C.history client.old) (C.history client.new)
         (pending_bytes buffer.old) (pending_bytes buffer.new)) }

@@ -1,67 +1,17 @@
-use Rattle.std.proofs.Common.{◌∙◌, subst, refl, ℕ, List}
-use Rattle.tensor_runner.specs.Pieces.{AppendsFront}
-use Rattle.frame_server.proofs.Serving.{Serves-start, Serves-owes, Serves-quiet, Serves-stops, Serves-cut, Serves-turn}
-use Rattle.frame_server.proofs.Takings.{at_some}
+use Rattle.frame_server.proofs.Unlimited.{OnOk-none, BreaksOff-none, CutsFramesShort-none, GoesByFrames-none}
 use Rattle.frame_server.proofs.server.answer_frames.Goals as goal
 
-pub loop-turn-init : goal.loop-turn-init
-loop-turn-init g c = (
-  tt,
-  tt,
-  Serves-start _ _ _ _ c.new-buffer.ensures c.requires.new,
-  refl,
-  refl,
-)
+pub answer_frames_within-requires-clause-by_frames : goal.answer_frames_within-requires-clause-by_frames
+answer_frames_within-requires-clause-by_frames g c = λ lifetimes within. GoesByFrames-none c.none.result c.none.ensures g.C.Client.owes_nothing c.requires.by_frames
 
-pub next_frame-requires : goal.next_frame-requires
-next_frame-requires g c = Serves-owes _ _ _ _ _ _ _ c.loop-turn.invariant.2 c.requires.by_frames
+pub returns-clause-answered : goal.returns-clause-answered
+returns-clause-answered g c = λ stream held knows holds.
+    OnOk-none c.none.result c.none.ensures c.answer_frames_within.result stream held _ (c.answer_frames_within.ensures.answered stream held knows holds)
 
-pub returns-in_err-next-clause-broken_off : goal.returns-in_err-next-clause-broken_off
-returns-in_err-next-clause-broken_off g c = λ stream held knows holds failed.
-    let quiet = Serves-quiet _ _ _ _ _ _ _ c.loop-turn.invariant.2 c.next_frame.ensures.contents in
-    Serves-stops _ _ _ _ _ _ _ _ _ stream held quiet c.in_err-next.ensures.stops knows holds
+pub returns-clause-broken_off : goal.returns-clause-broken_off
+returns-clause-broken_off g c = λ stream held knows holds failed.
+    BreaksOff-none c.none.result c.none.ensures stream held _ _ (c.answer_frames_within.ensures.broken_off stream held knows holds failed)
 
-pub returns-in_err-write_frame-clause-cut_short : goal.returns-in_err-write_frame-clause-cut_short
-returns-in_err-write_frame-clause-cut_short g c = λ stream held knows holds failed.
-    let quiet = Serves-quiet _ _ _ _ _ _ _ c.loop-turn.invariant.2 c.next_frame.ensures.contents in
-    let t = at_some _ c.in-Some-2.next _ _ c.in-Some-2.is c.in_ok-next.ensures.frame in
-    let a = c.answer-frame.ensures t.bytes t.whole t.kept in
-    Serves-cut _ _ _ _ _ _ _ _ _ _ t.bytes stream held a.answer quiet t.takes t.whole a.answers
-    (subst (λ (l : List ℕ). AppendsFront (g.C.Client.contents c.next_frame.new.client) (g.C.Client.contents c.write_frame.new.client) l) a.written
-    c.in_err-write_frame.ensures.front) knows holds
-
-pub loop-turn-preserved : goal.loop-turn-preserved
-loop-turn-preserved g c =
-    let t = at_some _ c.in-Some-2.next _ _ c.in-Some-2.is c.in_ok-next.ensures.frame in
-    let w = c.in_ok-write_frame.ensures in (
-      tt,
-      tt,
-      Serves-turn _ _ _ _ _ _ _ _ _ _ _ _ _ c.in-Some-2.next c.answer-frame.result c.loop-turn.invariant.2 t c.next_frame.ensures.contents
-          c.answer-frame.ensures w.ok w.noted c.write_frame.ensures.remaining,
-      c.write_frame.ensures.read_failures ∙ c.in_ok-next.ensures.read_failures ∙ c.loop-turn.invariant.3,
-      w.ok_failures ∙ c.next_frame.ensures.write_failures ∙ c.loop-turn.invariant.4,
-    )
-
-pub loop-turn-preserved-in_ok-write_frame : goal.loop-turn-preserved-in_ok-write_frame
-loop-turn-preserved-in_ok-write_frame g c =
-    let t = at_some _ c.in-Some-2.next _ _ c.in-Some-2.is c.in_ok-next.ensures.frame in
-    let w = c.in_ok-write_frame.ensures in (
-      tt,
-      tt,
-      Serves-turn _ _ _ _ _ _ _ _ _ _ _ _ _ c.in-Some-2.next c.answer-frame.result c.loop-turn.invariant.2 t c.next_frame.ensures.contents
-          c.answer-frame.ensures w.ok w.noted c.write_frame.ensures.remaining,
-      c.write_frame.ensures.read_failures ∙ c.in_ok-next.ensures.read_failures ∙ c.loop-turn.invariant.3,
-      w.ok_failures ∙ c.next_frame.ensures.write_failures ∙ c.loop-turn.invariant.4,
-    )
-
-pub loop-turn-preserved-in_ok-write_frame-2 : goal.loop-turn-preserved-in_ok-write_frame-2
-loop-turn-preserved-in_ok-write_frame-2 g c =
-    let t = at_some _ c.in-Some-2.next _ _ c.in-Some-2.is c.in_ok-next.ensures.frame in
-    let w = c.in_ok-write_frame.ensures in (
-      tt,
-      tt,
-      Serves-turn _ _ _ _ _ _ _ _ _ _ _ _ _ c.in-Some-2.next c.answer-frame.result c.loop-turn.invariant.2 t c.next_frame.ensures.contents
-          c.answer-frame.ensures w.ok w.noted c.write_frame.ensures.remaining,
-      c.write_frame.ensures.read_failures ∙ c.in_ok-next.ensures.read_failures ∙ c.loop-turn.invariant.3,
-      w.ok_failures ∙ c.next_frame.ensures.write_failures ∙ c.loop-turn.invariant.4,
-    )
+pub returns-clause-cut_short : goal.returns-clause-cut_short
+returns-clause-cut_short g c = λ stream held knows holds failed.
+    CutsFramesShort-none c.none.result c.none.ensures stream held _ (c.answer_frames_within.ensures.cut_short stream held knows holds failed)

@@ -1,6 +1,5 @@
 use Rattle.std.proofs.Common.{◌∙◌, refl}
-use Rattle.tensor_runner.proofs.InLines.{InLine-start, TakesLine-ended, InLine-open, InLine-owes, InLine-more, TakesLine-last, InLine-stops, IfSome-follows, OnErr-any}
-use Rattle.tensor_runner.specs.History.{OwesNothing}
+use Rattle.tensor_runner.proofs.InLines.{InLine-start, TakesLine-ended, InLine-open, InLine-owes, InLine-more, TakesLine-last, InLine-stops, OnErr-any}
 use Rattle.tensor_runner.proofs.taking.next_line.Goals as goal
 
 pub returns-then-take_piece-clause-line : goal.returns-then-take_piece-clause-line
@@ -10,7 +9,7 @@ returns-then-take_piece-clause-line g c =
 pub refill-requires-clause-owes : goal.refill-requires-clause-owes
 refill-requires-clause-owes g c =
     let i = InLine-open _ _ _ _ _ _ _ _ _ c.take_piece.result c.loop-turn.invariant.2 c.if-take_piece.false c.take_piece.ensures in
-    IfSome-follows OwesNothing g.C.Client.owes_nothing _ c.requires.by_lines (InLine-owes _ _ _ _ _ _ c.requires.caught_up i)
+    InLine-owes _ _ _ _ _ _ g.C.Client.owes_nothing c.requires i
 
 pub returns-in_err-more-clause-stops : goal.returns-in_err-more-clause-stops
 returns-in_err-more-clause-stops g c =

@@ -1,0 +1,8 @@
+use Rattle.std.proofs.Common.{refl}
+use Rattle.std.specs.Fmt.{digits}
+use Rattle.frame_server.specs.Frame.{number_bytes}
+use Rattle.frame_server.proofs.answer.too_many_steps.Goals as goal
+
+pub returns : goal.returns
+unfolding number_bytes digits
+returns c = refl

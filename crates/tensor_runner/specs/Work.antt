@@ -1,0 +1,62 @@
+-- How many steps a request takes, which its dims tell before any of it is worked out.
+use Rattle.std.specs.Prelude.{ℕ, ◌+◌, ◌*◌, List, Bool, if◌then◌else◌}
+use Rattle.expr_reader.specs.Contents.{Contents}
+use Rattle.expr_reader.specs.Index.{size_of}
+use Rattle.expr_reader.specs.Request.{Asked}
+use Rattle.expr_reader.specs.Result.{shape_of}
+use Rattle.expr_reader.specs.Term.{Term, input, unary, binary, ternary}
+use Rattle.expr_reader.specs.Term.{Unary, each, constant, movement, pad, reduce}
+use Rattle.expr_reader.specs.Term.{Binary, pairwise, concat, contract, convolve}
+use Rattle.tensor_reduce.specs.Contraction.{firsts}
+use Rattle.tensor_reduce.specs.Steps.{combines, combines_two}
+use Rattle.tensor_reduce.specs.Woven.{dims_at}
+
+-- an operation over others at a place; below one that combines values stand none, since its operands
+-- are worked out before, as tensors of their own
+abbrev pub operations_over : Bool → ℕ → ℕ
+operations_over combining below = if combining then 0 else 1 + below
+
+-- how many operations a place takes, down to inputs and to what was worked out before
+abbrev pub operations : Term → ℕ
+operations (input n) = 0
+operations (unary o a) = operations_over (combines o) (operations a)
+operations (binary o a b) = operations_over (combines_two o) (operations a + operations b)
+operations (ternary o a b c) = 1 + (operations a + operations b + operations c)
+
+-- what an operation takes that combines values, of operands of these dims, where each place of an
+-- operand takes so many operations: these at all places, as of a tensor of its own; and a step for
+-- each place of the result, and for each value that is combined
+abbrev pub unary_steps : Unary → ℕ → List ℕ → ℕ → ℕ
+unary_steps (each o) size ds below = 0
+unary_steps (constant v) size ds below = 0
+unary_steps (movement m) size ds below = 0
+unary_steps (pad pairs) size ds below = 0
+unary_steps (reduce r axes) size ds below = size_of ds * below + (size + size_of ds)
+
+-- or for each product
+abbrev pub binary_steps : Binary → ℕ → List ℕ → ℕ → List ℕ → ℕ → ℕ
+binary_steps (pairwise o) size ds below es beside = 0
+binary_steps (concat axis) size ds below es beside = 0
+binary_steps (contract pairs) size ds below es beside =
+    size_of ds * below + size_of es * beside
+    + (size + size * size_of (dims_at (firsts pairs) ds))
+binary_steps (convolve axes) size ds below es beside =
+    size_of ds * below + size_of es * beside + (size + size * size_of es)
+
+module _ (inputs : List Contents) where
+  abbrev pub places : Term → ℕ
+  places t = size_of (shape_of t inputs)
+
+  -- the steps of all that is combined in a term
+  abbrev pub combined : Term → ℕ
+  combined (input n) = 0
+  combined (unary o a) =
+      combined a + unary_steps o (places (unary o a)) (shape_of a inputs) (operations a)
+  combined (binary o a b) =
+      combined a + combined b + binary_steps o (places (binary o a b))
+      (shape_of a inputs) (operations a) (shape_of b inputs) (operations b)
+  combined (ternary o a b c) = combined a + combined b + combined c
+
+-- the steps of a request: those, and its own operations at each of its places
+abbrev pub steps_of : Asked → ℕ
+steps_of a = combined a.inputs a.term + places a.inputs a.term * operations a.term

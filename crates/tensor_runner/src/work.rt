@@ -1,0 +1,253 @@
+//! How many steps a request takes, counted before any of it is worked out.
+
+ghost use Rattle.std.specs.Prelude.{◌≡◌, ◌+◌, ◌*◌, ◌^◌, ◌<◌, ◌≤◌, length, true, IsTrue, IfOk, Ok, Err};
+ghost use Rattle.std.specs.Prelude.{MatchResult};
+ghost use Rattle.expr_reader.specs.Asked.{asked_under};
+ghost use Rattle.expr_reader.specs.Index.{size_of};
+ghost use Rattle.expr_reader.specs.Legal.{highest_rank};
+ghost use Rattle.expr_reader.specs.Result.{dims_of, binary_dims};
+ghost use Rattle.expr_reader.specs.Term.{has_inputs, nodes_of};
+ghost use Rattle.expr_reader.specs.Tree.{term_of, unary_at, binary_at};
+ghost use Rattle.tensor_reduce.specs.Contraction.{firsts};
+ghost use Rattle.tensor_reduce.specs.Reduction.{are_axes};
+ghost use Rattle.tensor_reduce.specs.Steps.{combines, combines_two};
+ghost use Rattle.tensor_reduce.specs.Woven.{dims_at};
+ghost use Rattle.tensor_runner.specs.Limited.{is_over, over_limits};
+ghost use Rattle.tensor_runner.specs.Work.{operations, operations_over, unary_steps, binary_steps};
+ghost use Rattle.tensor_runner.specs.Work.{combined, steps_of};
+
+use crate::limits::{LimitFault, Limits};
+use expr_reader::{Dims, Expr, Inputs, Request};
+use tensor_ops::{Binary, ExprFault, MAX_RANK, Node, Unary};
+use tensor_terms::{dims_at, paired_axes};
+
+/// What is counted of an expression: how many operations each of its places takes, and the steps of
+/// what it combines.
+#[derive(Drop)]
+struct Count {
+    dims: Dims,
+    operations: u64,
+    combined: u128,
+}
+
+/// The limit that a request is over, that of its workers first. The steps are counted in time linear
+/// in its nodes, and no memory is taken.
+pub fn over_limits(limits: Limits, request: &Request<'_>) -> Option<LimitFault>
+    ensures { result ≡ over_limits limits (asked_under request.now) }
+{
+    if is_over(limits.workers, u128::from(request.workers)) {
+        return Some(LimitFault::TooManyWorkers);
+    }
+    if is_over(limits.steps, steps_of(request)) {
+        return Some(LimitFault::TooManySteps);
+    }
+    None
+}
+
+/// Whether a number is over a limit, where there is one.
+fn is_over(most: Option<u64>, number: u128) -> bool
+    ensures { result ≡ is_over most number }
+{
+    match most {
+        None => false,
+        Some(most) => u128::from(most) < number,
+    }
+}
+
+/// How many steps a request takes.
+pub fn steps_of(request: &Request<'_>) -> u128
+    ensures { result ≡ steps_of (asked_under request.now) }
+{
+    // Says that the limit is a rank that dims can have.
+    let _limit = request.inputs.rank_limit();
+    let Ok(found) = counted(&request.inputs, &request.expr) else {
+        unreachable!();
+    };
+    found.combined + worked_out(&found)
+}
+
+/// What is counted of an expression, whose operands' dims are found once. A sum has at most so many
+/// parts as there are nodes, each far below what would wrap.
+fn counted(inputs: &Inputs, expr: &Expr) -> Result<Count, ExprFault>
+    requires inputs { IsTrue (has_inputs (term_of expr.now) (length inputs.now.tensors)) }
+    requires few { nodes_of (term_of expr.now) < 2 ^ 32 }
+    ensures dims { MatchResult result
+        (λ r. dims_of highest_rank (term_of expr.now) inputs.now.tensors ≡ Ok r.dims)
+        (λ fault. dims_of highest_rank (term_of expr.now) inputs.now.tensors ≡ Err fault) }
+    ensures operations { IfOk result (λ r. r.operations ≡ operations (term_of expr.now)) }
+    ensures combined { IfOk result (λ r.
+        r.combined ≡ combined inputs.now.tensors (term_of expr.now)) }
+    ensures few { IfOk result (λ r. r.operations ≤ nodes_of (term_of expr.now)) }
+    ensures small { IfOk result (λ r. r.combined ≤ 2 ^ 54 * nodes_of (term_of expr.now)) }
+{
+    match expr.node() {
+        Node::Input(number) => Ok(Count {
+            dims: inputs.get(number).dims().copied(),
+            operations: 0,
+            combined: 0,
+        }),
+        Node::Unary(operation, a) => {
+            let first = counted(inputs, a)?;
+            let dims = expr.dims_over(MAX_RANK, inputs, &[first.dims.copied()])?;
+            Ok(over_one(operation, dims, &first))
+        }
+        Node::Binary(operation, a, b) => {
+            let first = counted(inputs, a)?;
+            let second = counted(inputs, b)?;
+            let known = [first.dims.copied(), second.dims.copied()];
+            let dims = expr.dims_over(MAX_RANK, inputs, &known)?;
+            Ok(over_two(operation, dims, &first, &second))
+        }
+        Node::Ternary(_, a, b, c) => {
+            let first = counted(inputs, a)?;
+            let second = counted(inputs, b)?;
+            let third = counted(inputs, c)?;
+            let operations = 1 + (first.operations + second.operations + third.operations);
+            let combined = first.combined + second.combined + third.combined;
+            let dims = expr.dims_over(MAX_RANK, inputs, &[first.dims, second.dims, third.dims])?;
+            Ok(Count {
+                dims,
+                operations,
+                combined,
+            })
+        }
+    }
+}
+
+/// What is counted of an operation that has these dims on one operand.
+fn over_one(operation: Unary<'_>, dims: Dims, first: &Count) -> Count
+    requires few { first.now.operations < 2 ^ 32 }
+    requires small { first.now.combined < 2 ^ 100 }
+    ensures dims { result.dims ≡ dims }
+    ensures operations { result.operations
+        ≡ operations_over (combines (unary_at operation.entry)) first.now.operations }
+    ensures combined { result.combined ≡ first.now.combined
+        + unary_steps (unary_at operation.entry) (size_of dims) first.now.dims
+        first.now.operations }
+    ensures few { result.operations ≤ 1 + first.now.operations }
+    ensures small { result.combined ≤ first.now.combined + 2 ^ 54 }
+{
+    let operations = operations_over(combines(operation), first.operations);
+    let own = unary_steps(operation, &dims, first);
+    Count {
+        dims,
+        operations,
+        combined: first.combined + own,
+    }
+}
+
+/// What is counted of an operation that has these dims on two operands.
+fn over_two(operation: Binary<'_>, dims: Dims, first: &Count, second: &Count) -> Count
+    requires few { first.now.operations + second.now.operations < 2 ^ 32 }
+    requires small { first.now.combined + second.now.combined < 2 ^ 100 }
+    requires dims { binary_dims highest_rank (binary_at operation) first.now.dims
+        second.now.dims ≡ Ok dims }
+    ensures dims { result.dims ≡ dims }
+    ensures operations { result.operations
+        ≡ operations_over (combines_two (binary_at operation.entry))
+        (first.now.operations + second.now.operations) }
+    ensures combined { result.combined ≡ first.now.combined + second.now.combined
+        + binary_steps (binary_at operation.entry) (size_of dims) first.now.dims
+        first.now.operations second.now.dims second.now.operations }
+    ensures few { result.operations ≤ 1 + (first.now.operations + second.now.operations) }
+    ensures small { result.combined ≤ first.now.combined + second.now.combined + 2 ^ 54 }
+{
+    let below = first.operations + second.operations;
+    let operations = operations_over(combines_two(operation), below);
+    let own = binary_steps(operation, &dims, first, second);
+    Count {
+        dims,
+        operations,
+        combined: first.combined + second.combined + own,
+    }
+}
+
+/// How many operations a place takes, given how many stand below the last.
+fn operations_over(combining: bool, below: u64) -> u64
+    requires { below < 2 ^ 33 }
+    ensures value { result ≡ operations_over combining below }
+    ensures small { result ≤ 1 + below }
+{
+    if combining { 0 } else { 1 + below }
+}
+
+/// What an operation on one operand takes that combines its values.
+fn unary_steps(operation: Unary<'_>, dims: &Dims, first: &Count) -> u128
+    requires { first.now.operations < 2 ^ 32 }
+    ensures value { result ≡ unary_steps (unary_at operation.entry) (size_of dims.now)
+        first.now.dims first.now.operations }
+    ensures small { result ≤ 2 ^ 53 }
+{
+    match operation {
+        Unary::Each(_) | Unary::Constant(_) | Unary::Move(_) | Unary::Pad(_) => 0,
+        Unary::Reduce(_, _) => { worked_out(first) + u128::from(dims.size() + first.dims.size()) }
+    }
+}
+
+/// What an operation on two operands takes that combines products of them.
+fn binary_steps(operation: Binary<'_>, dims: &Dims, first: &Count, second: &Count) -> u128
+    requires few { first.now.operations + second.now.operations < 2 ^ 32 }
+    requires dims { binary_dims highest_rank (binary_at operation) first.now.dims
+        second.now.dims ≡ Ok dims.now }
+    ensures value { result ≡ binary_steps (binary_at operation.entry) (size_of dims.now)
+        first.now.dims first.now.operations second.now.dims second.now.operations }
+    ensures small { result ≤ 2 ^ 54 }
+{
+    match operation {
+        Binary::Pairwise(_) | Binary::Concat(_) => 0,
+        Binary::Contract(pairs) => {
+            let summed = paired_dims(pairs, &first.dims);
+            worked_out(first) + worked_out(second) + products(dims, &summed)
+        }
+        Binary::Convolve(_) => {
+            worked_out(first) + worked_out(second) + products(dims, &second.dims)
+        }
+    }
+}
+
+/// What an operand takes that is worked out as a tensor of its own, beside what it combines.
+fn worked_out(operand: &Count) -> u128
+    requires { operand.now.operations < 2 ^ 32 }
+    ensures value { result ≡ size_of operand.now.dims * operand.now.operations }
+    ensures small { result ≤ 2 ^ 52 }
+{
+    u128::from(operand.dims.size() * operand.operations)
+}
+
+/// A step for each place, and one for each product, of which each place has as many as there are
+/// index lists of the second dims.
+fn products(dims: &Dims, summed: &Dims) -> u128
+    ensures value { result ≡ size_of dims.now + size_of dims.now * size_of summed.now }
+    ensures small { result ≤ 2 ^ 41 }
+{
+    u128::from(dims.size() + dims.size() * summed.size())
+}
+
+/// The dims of the axes of a first operand that are paired.
+fn paired_dims(pairs: &[(u64, u64)], first: &Dims) -> Dims
+    requires { are_axes (length first.now) (firsts pairs.now) ≡ true }
+    ensures { result ≡ dims_at (firsts pairs.now) first.now }
+{
+    let (firsts, _) = paired_axes(pairs, first).unwrap();
+    dims_at(firsts.as_slice(), first)
+}
+
+/// Whether an operation combines many values of its operand into one.
+fn combines(operation: Unary<'_>) -> bool
+    ensures { result ≡ combines (unary_at operation.entry) }
+{
+    match operation {
+        Unary::Each(_) | Unary::Constant(_) | Unary::Move(_) | Unary::Pad(_) => false,
+        Unary::Reduce(_, _) => true,
+    }
+}
+
+/// The same of two operands.
+fn combines_two(operation: Binary<'_>) -> bool
+    ensures { result ≡ combines_two (binary_at operation.entry) }
+{
+    match operation {
+        Binary::Pairwise(_) | Binary::Concat(_) => false,
+        Binary::Contract(_) | Binary::Convolve(_) => true,
+    }
+}
