@@ -18,21 +18,21 @@ def header(inputs, expr):
 
 
 LINE, SQUARE, ONE = [1_048_576], [1_024, 1_024], [1]
-# Frames of many values whose parts share none: an expression, how many values its answer has, and
-# the dims of `a` and of `b`.
+# Frames of many values whose parts share none: an expression, how many values its answer has, how
+# many of an operand are packed, and the dims of `a` and of `b`.
 LARGE = [
-    ('["add","a","b"]', 1_048_576, LINE, LINE),
-    ('["max",["mul",["add","a","b"],["sub","a","b"]],["neg","a"]]', 1_048_576, LINE, LINE),
-    ('["select",["lt","a","b"],"a","b"]', 1_048_576, LINE, LINE),
-    ('["sum",["mul","a","b"],[0]]', 1, LINE, LINE),
-    ('["sum","a",[0]]', 1_024, SQUARE, ONE),
-    ('["shuffle","a",[2,0,1]]', 1_048_576, [64, 128, 128], ONE),
-    ('["contract","a","b",[[1,0]]]', 1_048_576, SQUARE, SQUARE),
-    ('["convolve","a","b",[0,1]]', 1_009 * 1_009, SQUARE, [16, 16]),
+    ('["add","a","b"]', 1_048_576, 0, LINE, LINE),
+    ('["cwise_max",["mul",["add","a","b"],["sub","a","b"]],["neg","a"]]', 1_048_576, 0, LINE, LINE),
+    ('["select",["lt","a","b"],"a","b"]', 1_048_576, 0, LINE, LINE),
+    ('["sum","a",[0]]', 1, 0, LINE, ONE),
+    ('["sum","a",[0]]', 1_024, 0, SQUARE, ONE),
+    ('["shuffle","a",[2,0,1]]', 1_048_576, 0, [64, 128, 128], ONE),
+    ('["contract","a","b",[[1,0]]]', 262_144, 262_144, [512, 512], [512, 512]),
+    ('["convolve","a","b",[0,1]]', 1_009 * 1_009, 0, SQUARE, [16, 16]),
 ]
 
 
-def large_frame(expr, _, *dims):
+def large_frame(expr, _, __, *dims):
     """The header of one of these, and values for it: some thousand drawn ones, again and again."""
     inputs = ",".join(f'"{name}":{{"dims":{it}}}' for name, it in zip("ab", dims))
     count, source = sum(map(math.prod, dims)), random.Random(expr)
