@@ -29,6 +29,9 @@ SECONDS = 120
 MOST_SECONDS = 1_800
 # How many runs in a row have to meet no refusal: threads make now more requests, now fewer.
 QUIET = 4
+# How many requests for memory a program makes that reads its options, before it reads anything else;
+# where one of these is refused it ends so, and answers nothing.
+FOR_OPTIONS, NO_OPTIONS = 3, ("Error: Kind(OutOfMemory)\n", 1)
 
 NO_MEMORY = "error 15 NoMemory\n"
 
@@ -232,7 +235,10 @@ def each_refused(refusals, ask, wanted, no_memory):
             allowed = got[0] == wanted[0]
             if refusals.refused:
                 allowed = is_right(got[0], wanted[0], no_memory, onward)
-            if not allowed or got[1:] != wanted[1:]:
+            is_well = allowed and got[1:] == wanted[1:]
+            if number <= FOR_OPTIONS:
+                is_well = not got[0] and got[-2:] == NO_OPTIONS
+            if not is_well:
                 failed += 1
                 print(f"{name}: request {number} refused, onward {onward}: {got!r:.300}")
             wanting += no_memory in got[0]
