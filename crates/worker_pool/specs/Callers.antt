@@ -8,14 +8,14 @@ use Rattle.worker_pool.specs.declared.caller.Caller.{Caller}
 use Rattle.worker_pool.specs.Accounts.{Account}
 use Rattle.worker_pool.specs.Seats.{IsOpener}
 use Rattle.worker_pool.specs.Laws.{law_of}
-use Rattle.worker_pool.specs.Stops.{IsStopSeatOf, jobs_of, stored_of, last_word}
+use Rattle.worker_pool.specs.Stops.{IsStopSeatOf, last_word}
 use Rattle.worker_pool.specs.Stops.{cancelled_word, closing_word}
 use Rattle.worker_pool.specs.Told.{IsSilent}
 
 module _ {J A W R L C O N T S K : Type 0} where
   -- the jobs that were scheduled through the caller, in order
   abbrev pub roots_of : Caller J A W R L C O N T S K → List J
-  roots_of caller = jobs_of caller.stop_seat
+  roots_of caller = caller.stop_seat.me.0.jobs
 
   -- how many workers its pool has started
   abbrev pub started_of : Caller J A W R L C O N T S K → ℕ
@@ -27,7 +27,7 @@ module _ {J A W R L C O N T S K : Type 0} where
 
   -- what was last stored in the stop word through the caller
   abbrev pub stop_of : Caller J A W R L C O N T S K → ℕ
-  stop_of caller = stored_of caller.stop_seat
+  stop_of caller = caller.stop_seat.me.0.stored
 
   -- the pool was cancelled through the caller
   abbrev pub IsCancelled : Caller J A W R L C O N T S K → Type 0

@@ -6,7 +6,7 @@ use Rattle.run_queue.specs.declared.rows.Rows as rows
 use Rattle.worker_pool.specs.declared.caller.Caller.{Caller}
 use Rattle.worker_pool.specs.declared.lists.Lists as lists
 use Rattle.worker_pool.specs.Accounts.{Account, counted}
-use Rattle.worker_pool.specs.Callers.{IsCancelled, roots_of, started_of, workers_of, stop_of}
+use Rattle.worker_pool.specs.Callers.{IsCancelled, roots_of, stop_of}
 use Rattle.worker_pool.specs.Laws.{JobLaw}
 use Rattle.worker_pool.specs.Stops.{open_word}
 
@@ -38,8 +38,8 @@ pub record HasClosed {J A W R L C O N T S K : Type 0} (row : rows.Ghosts R J A S
     (before after : Caller J A W R L C O N T S K) (outs : List O) (left : List J) (refused : ℕ)
     : Type 0 where
   pub no_roots : roots_of before ≡ []
-  pub workers : workers_of before ≡ size
-  pub started : started_of before ≤ starts
+  pub workers : before.queue.now.workers ≡ size
+  pub started : before.seats.started ≤ starts
   pub stop : stop_of before ≡ open_word
   pub none_left : ¬ IsCancelled after → left ≡ []
   pub handed_back : IsCancelled after → IsHandedBack row.keeps_accounts law

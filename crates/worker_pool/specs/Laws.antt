@@ -1,7 +1,7 @@
 -- What the law of jobs says of one job.
 use Rattle.worker_pool.specs.declared.job.Job as job
 use Rattle.worker_pool.specs.declared.job.Progress.{Progress}
-use Rattle.worker_pool.specs.Steps.{IsStep}
+use Rattle.worker_pool.specs.Steps.{ForksLighter}
 
 -- Which progress a step of a job may make, and which jobs may find no memory for one or be
 -- abandoned.
@@ -10,10 +10,12 @@ pub record JobLaw (J O : Type 0) : Type 1 where
   pub may_lack_memory : J → Type 0
   pub may_be_abandoned : J → Type 0
 
--- the law of a kind of jobs, in their context: of one that is abandoned something is left
+-- the law of a kind of jobs, in their context: a step leaves lighter jobs, and of one that is
+-- abandoned something is left
 abbrev pub law_of : {J A C O N : Type 0} → job.Ghosts J A C O N → C → JobLaw J O
 law_of {J} {A} {C} {O} {N} law ctx = record {
-  steps = IsStep law.weight_of law.allows ctx;
+  steps = λ job progress. law.allows ctx job progress
+      × ForksLighter law.weight_of (law.weight_of job) progress;
   may_lack_memory = law.may_lack_memory ctx;
   may_be_abandoned = λ it. (left : N) × law.abandons ctx it left;
 }

@@ -36,20 +36,17 @@ module _ {J O : Type 0} where
   -- the out that the job left, if it left one
   abbrev pub outs_of : Node J O → List O
   outs_of (Done job out kids) = out ∷ []
-  outs_of (Refused job kids) = []
-  outs_of (Left job) = []
+  outs_of node = []
 
   -- the job, where it was never run
   abbrev pub left_of : Node J O → List J
-  left_of (Done job out kids) = []
-  left_of (Refused job kids) = []
   left_of (Left job) = job ∷ []
+  left_of node = []
 
   -- 1 where the job was refused
   abbrev pub refusals_of : Node J O → ℕ
-  refusals_of (Done job out kids) = 0
   refusals_of (Refused job kids) = 1
-  refusals_of (Left job) = 0
+  refusals_of node = 0
 
   -- the job's run leads to what the node says
   abbrev pub IsLawful : JobLaw J O → Node J O → Type 0

@@ -7,9 +7,3 @@ use Rattle.worker_pool.specs.declared.job.Progress.TheVariants.{Fork, Done}
 abbrev pub ForksLighter : {J O : Type 0} → (J → ℕ) → ℕ → Progress J O → Type 0
 ForksLighter weight most (Fork kid rest) = (weight kid < most) × (weight rest < most)
 ForksLighter weight most (Done out) = Unit {0}
-
--- a step that the job's law allows, and that leaves lighter jobs
-abbrev pub IsStep : {J C O : Type 0} → (J → ℕ) → (C → J → Progress J O → Type 0) → C
-    → J → Progress J O → Type 0
-IsStep weight allows ctx job progress =
-    allows ctx job progress × ForksLighter weight (weight job) progress
