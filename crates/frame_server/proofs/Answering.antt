@@ -24,8 +24,8 @@ use Rattle.tensor_runner.specs.Answer.{tensor, fault, answer_from, asked_tensor}
 use Rattle.tensor_runner.specs.Limited.{over_limits, refusal}
 use Rattle.tensor_runner.specs.declared.limits.LimitFault.{LimitFault}
 use Rattle.tensor_runner.specs.declared.limits.Limits.{Limits}
-use Rattle.tensor_runner.specs.Pieces.{AppendsFront}
-use Rattle.tensor_runner.proofs.Streams.{Appends-trans}
+use Rattle.message_server.specs.Pieces.{AppendsFront}
+use Rattle.message_server.proofs.Streams.{Appends-trans}
 use Rattle.frame_server.specs.Answer.{answer_of, answer_bytes, IsAnswerTo, IsShort}
 use Rattle.frame_server.specs.Answering.{front_bytes, bytes_in, IsOwnFrame, IsFaultOf}
 use Rattle.frame_server.specs.Frame.{frame_bytes, frame_in, header_len, value_count, number_bytes, value_bytes, IsWhole}

@@ -3,9 +3,8 @@ use Rattle.std.proofs.Common.{◌≡◌, ◌<◌, ◌≤◌, ◌+◌, ◌*◌, �
 use Rattle.std.proofs.Common.{All, refl, ap, sym, ◌∙◌, append_assoc, arith, length-append}
 use Rattle.std.specs.List.{concat}
 use Rattle.std.specs.Simd.{first_chunks}
-use Rattle.std.proofs.lemmas.List.{append-nil, append_cancel_left, take-append-le, drop-append-le, take_at, drop_at, length-drop, drop-drop, map-append, nil_from_length, take_more}
+use Rattle.std.proofs.lemmas.List.{append_cancel_left, take-append-le, drop-append-le, take_at, drop_at, length-drop, drop-drop, map-append, nil_from_length, take_more}
 use Rattle.std.proofs.lemmas.List.Elements.{All-head, All-tail}
-use Rattle.std.proofs.lemmas.List.Folds.{concat-append}
 use Rattle.frame_server.specs.Frame.{number_of, value_of, header_len, value_count, frame_len, frame_in, IsWhole, IsUnfinished}
 use Rattle.frame_server.specs.Taking.{values_of}
 
@@ -107,15 +106,6 @@ parts_in_one_way (f ∷ frames) (g ∷ others) cut other is whole too few few_to
     (sym (append_assoc f (concat frames) cut) ∙ is ∙ append_assoc g (concat others) other) in
     let rest = parts_in_one_way frames others cut other front.1 (All-tail IsWhole f frames whole) (All-tail IsWhole g others too) few few_too in
     (ap (λ (l : List (List ℕ)). f ∷ l) rest.0 ∙ ap (λ (x : List ℕ). x ∷ others) front.0, rest.1)
-
--- one frame more
-pub taken-more : (done : List (List ℕ)) (old read bytes new : List ℕ) → old ++ read ≡ bytes ++ new
-    → (concat done ++ old) ++ read ≡ concat (done ++ bytes ∷ []) ++ new
-taken-more done old read bytes new is =
-    append_assoc (concat done) old read
-    ∙ ap (λ (l : List ℕ). concat done ++ l) is
-    ∙ sym (append_assoc (concat done) bytes new)
-    ∙ ap (λ (l : List ℕ). l ++ new) (ap (λ (l : List ℕ). concat done ++ l) (sym (append-nil bytes)) ∙ sym (concat-append done (bytes ∷ [])))
 
 -- one value more
 pub values-push : (old now : List ℤ) (chunks : List (List ℕ)) (k : ℕ) (x : ℤ) (d : List ℕ) → k < length chunks → x ≡ value_of (get_or chunks k d)

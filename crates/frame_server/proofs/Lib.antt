@@ -2,6 +2,5 @@ pub mod Frames
 pub mod Parts
 pub mod Answering
 pub mod Serving
-pub mod Takings
 pub mod Written
 pub mod Unlimited

@@ -1,33 +1,21 @@
 -- The parts of a frame, one behind the other.
 use Rattle.std.proofs.Common.{◌≡◌, ◌<◌, ◌≤◌, ◌+◌, ◌*◌, ◌-◌, ℕ, List, [], ◌++◌, length, take, drop, Option}
 use Rattle.std.proofs.Common.{ℤ, refl, ap, sym, ◌∙◌, subst, arith, length-append, inl, inr}
-use Rattle.std.proofs.lemmas.List.{append-nil, take_at, drop_at, length-take-le}
+use Rattle.std.proofs.lemmas.List.{take_at, drop_at, length-take-le}
 use Rattle.std.specs.Io.KnownBytes.{IsAtEnd}
-use Rattle.tensor_runner.specs.History.{History}
-use Rattle.tensor_runner.specs.Streams.{HasFailed}
+use Rattle.message_server.specs.History.{History}
+use Rattle.message_server.specs.Streams.{HasFailed}
 use Rattle.frame_server.specs.Frame.{Frame, IsUnfinished, header_len, value_count}
 use Rattle.frame_server.specs.Answer.{IsShort}
-use Rattle.frame_server.specs.Taking.{IsBelow, IsCutOff, IsHeadOf, IsKept, IsKeptRest, IsPassed, values_of}
-use Rattle.frame_server.specs.Taking.{Takes, TakesCount, TakesValues, TakesHead, TakesRest, TakesFrame, FailsIn, StopsInFrame, MovesValues}
+use Rattle.message_server.specs.Pieces.{IsBelow}
+use Rattle.frame_server.specs.Taking.{IsCutOff, IsHeadOf, IsKept, IsKeptRest, IsPassed, values_of}
+use Rattle.message_server.specs.Pieces.{Takes, FailsIn}
+use Rattle.frame_server.specs.Taking.{TakesCount, TakesValues, TakesHead, TakesRest, TakesFrame, StopsInFrame, MovesValues}
 use Rattle.frame_server.specs.declared.frame.Head.{Head}
 use Rattle.frame_server.specs.declared.frame.NextFrame.{NextFrame}
 use Rattle.frame_server.specs.declared.frame.NextFrame.TheVariants.{Whole, Passed}
 use Rattle.frame_server.proofs.Frames.{IsUnfinished-head, IsUnfinished-short, IsWhole-head, frame_in-head, header_len-append, value_count-append, values_of-append, length-values_of}
-use Rattle.frame_server.proofs.Takings.{Takes-none, Takes-then, Takes-front, FailsIn-on}
-
--- more is pending
-pub Takes-wait : (a b c : Option (List ℕ)) (h k m : Option History) (old mid new got : List ℕ)
-    → Takes a b h k old mid got → Takes b c k m mid new [] → Takes a c h m old new got
-Takes-wait a b c h k m old mid new got t w =
-    subst (λ (l : List ℕ). Takes a c h m old new l) (append-nil got) (Takes-then a b c h k m old mid new got [] t w)
-
--- some of it was moved
-pub Takes-move : (a b : Option (List ℕ)) (h k : Option History) (old mid new got now : List ℕ) (count : ℕ)
-    → Takes a b h k old mid got → new ≡ drop count mid → now ≡ got ++ take count mid → Takes a b h k old new now
-Takes-move a b h k old mid new got now count t left is =
-    subst (λ (l : List ℕ). Takes a b h k old new l) (sym is)
-    (subst (λ (l : List ℕ). Takes a b h k old l (got ++ take count mid)) (sym left)
-    (Takes-then a b b h k k old mid (drop count mid) got (take count mid) t (Takes-front b k mid count)))
+use Rattle.message_server.proofs.Takings.{Takes-none, Takes-then, Takes-wait, Takes-move, FailsIn-on}
 
 pub TakesValues-none : (a : Option (List ℕ)) (h : Option History) (old : List ℕ) (values : List ℤ) → values ≡ [] → TakesValues a a h h old old values
 TakesValues-none a h old values none =

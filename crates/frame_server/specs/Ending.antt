@@ -1,24 +1,22 @@
 -- What a program over frames ends with.
-use Rattle.std.specs.Prelude.{◌≡◌, ℕ, List, Option, Some}
-use Rattle.tensor_runner.specs.Ending.{IsQuiet, IsComplaint}
-use Rattle.tensor_runner.specs.declared.ending.Ending.{Ending}
-use Rattle.tensor_runner.specs.declared.status.StreamFault.TheVariants.{ReadFault, WriteFault}
+use Rattle.std.specs.Prelude.{ℕ, List, Option}
+use Rattle.message_server.specs.Ending.{IsQuiet, IsComplaint, EndsWith}
+use Rattle.message_server.specs.declared.ending.Ending.{Ending}
+use Rattle.message_server.specs.declared.fault.StreamFault.TheVariants.{ReadFault, WriteFault}
 use Rattle.frame_server.specs.Stream.{AnswersFrames, BreaksOff, CutsFramesShort}
 
 -- at the end of the frames, with status 0 and all of them answered
-pub record EndsFrames (stream held contents : Option (List ℕ)) (e : Ending) : Type 0 where
-  pub ended : IsQuiet 0 e
-  pub answered : (s h : List ℕ) → stream ≡ Some s → held ≡ Some h → AnswersFrames s h contents
+abbrev pub EndsFrames : Option (List ℕ) → Option (List ℕ) → Option (List ℕ) → Ending → Type 0
+EndsFrames stream held contents e =
+    EndsWith (IsQuiet 0) (λ s h. AnswersFrames s h contents) stream held e
 
 -- with the line of a read fault, and the frames answered that were whole
-pub record EndsInFrame (stream remaining held contents : Option (List ℕ)) (e : Ending)
-    : Type 0 where
-  pub ended : IsComplaint ReadFault e
-  pub broken_off : (s h : List ℕ) → stream ≡ Some s → held ≡ Some h
-      → BreaksOff s h remaining contents
+abbrev pub EndsInFrame : Option (List ℕ) → Option (List ℕ) → Option (List ℕ) → Option (List ℕ)
+    → Ending → Type 0
+EndsInFrame stream remaining held contents e =
+    EndsWith (IsComplaint ReadFault) (λ s h. BreaksOff s h remaining contents) stream held e
 
 -- with the line of a write fault, and a front of the answers written
-pub record EndsInAnswer (stream held contents : Option (List ℕ)) (e : Ending) : Type 0 where
-  pub ended : IsComplaint WriteFault e
-  pub cut_short : (s h : List ℕ) → stream ≡ Some s → held ≡ Some h
-      → CutsFramesShort s h contents
+abbrev pub EndsInAnswer : Option (List ℕ) → Option (List ℕ) → Option (List ℕ) → Ending → Type 0
+EndsInAnswer stream held contents e =
+    EndsWith (IsComplaint WriteFault) (λ s h. CutsFramesShort s h contents) stream held e

@@ -1,20 +1,20 @@
 -- The frames that answer frames under limits.
-use Rattle.std.specs.Prelude.{◌≡◌, ◌⊎◌, ◌<◌, ℕ, decimal, codes, List, [], ◌∷◌, ◌++◌, All, length, take}
+use Rattle.std.specs.Prelude.{◌≡◌, ◌⊎◌, ℕ, decimal, codes, List, [], ◌∷◌, ◌++◌}
 use Rattle.std.specs.Prelude.{Option, Some, None, Result}
-use Rattle.std.specs.List.{AllZip, concat}
 use Rattle.expr_reader.specs.Frame.{request_of_frame}
 use Rattle.expr_reader.specs.Request.{Asked}
 use Rattle.expr_reader.specs.declared.fault.Fault.{Fault}
 use Rattle.expr_reader.specs.declared.fault.Fault.TheVariants.{NoMemory}
 use Rattle.tensor_runner.specs.Answer.{fault}
-use Rattle.tensor_runner.specs.History.{History}
+use Rattle.message_server.specs.History.{History}
+use Rattle.message_server.specs.Serving.{Framing, BreaksOff, GoesBy}
 use Rattle.tensor_runner.specs.Limited.{refusal}
 use Rattle.tensor_runner.specs.Status.{limit_number, limit_name}
 use Rattle.tensor_runner.specs.declared.limits.LimitFault.{LimitFault}
 use Rattle.tensor_runner.specs.declared.limits.Limits.{Limits}
 use Rattle.frame_server.specs.Answer.{answer_of, answer_bytes, IsShort}
-use Rattle.frame_server.specs.Frame.{Frame, frame_bytes, frame_in, header_len, value_count, IsWhole}
-use Rattle.frame_server.specs.Stream.{IsParted}
+use Rattle.frame_server.specs.Frame.{Frame, frame_bytes, frame_in, header_len, value_count}
+use Rattle.frame_server.specs.Stream.{AreWholeFrames, AnswersAll, CutsSome}
 
 -- the frame of a limit, which has no values
 abbrev pub limit_text : LimitFault → List ℕ
@@ -43,58 +43,29 @@ IsFrameWithin limits bytes answer =
     (answer ≡ frame_within limits bytes)
     ⊎ ((answer ≡ answer_bytes (fault NoMemory)) × IsShort (header_len bytes) (value_count bytes))
 
--- such a frame for each, in their order
-abbrev pub AreFramesWithin : Limits → List (List ℕ) → List (List ℕ) → Type 0
-AreFramesWithin limits frames answers = AllZip (IsFrameWithin limits) frames answers
+-- frames as messages, whose answers are such frames
+abbrev pub whole_frames_within : Limits → Framing (List ℕ)
+whole_frames_within limits =
+    record { AreWhole = AreWholeFrames; IsAnswer = IsFrameWithin limits; bytes_of = λ bytes. bytes }
 
 -- what was held, and behind it the answers of all frames of a stream that ends behind one
-pub record AnswersFramesWithin (limits : Limits) (stream held : List ℕ)
-    (contents : Option (List ℕ)) : Type 0 where
-  pub frames : List (List ℕ)
-  pub answers : List (List ℕ)
-  pub parted : IsParted stream frames []
-  pub answered : AreFramesWithin limits frames answers
-  pub written : contents ≡ Some (held ++ concat answers)
+abbrev pub AnswersFramesWithin : Limits → List ℕ → List ℕ → Option (List ℕ) → Type 0
+AnswersFramesWithin limits stream held contents =
+    AnswersAll (whole_frames_within limits) stream held contents
 
 -- the reading stopped: what was held, and behind it the answers of the frames that were whole in
 -- what was read
-pub record BreaksOffWithin (limits : Limits) (stream held : List ℕ)
-    (remaining contents : Option (List ℕ)) : Type 0 where
-  pub taken : List ℕ
-  pub rest : List ℕ
-  pub joined : stream ≡ taken ++ rest
-  pub left : remaining ≡ Some rest
-  pub frames : List (List ℕ)
-  pub cut : List ℕ
-  pub answers : List (List ℕ)
-  pub parted : IsParted taken frames cut
-  pub answered : AreFramesWithin limits frames answers
-  pub written : contents ≡ Some (held ++ concat answers)
+abbrev pub BreaksOffWithin : Limits → List ℕ → List ℕ → Option (List ℕ) → Option (List ℕ)
+    → Type 0
+BreaksOffWithin limits stream held remaining contents =
+    BreaksOff (whole_frames_within limits) stream held remaining contents
 
 -- the writing stopped: what was held, and behind it a front of the answers of some frames that the
 -- stream begins with, but not all of it
-pub record CutsFramesShortWithin (limits : Limits) (stream held : List ℕ)
-    (contents : Option (List ℕ)) : Type 0 where
-  pub frames : List (List ℕ)
-  pub rest : List ℕ
-  pub answers : List (List ℕ)
-  pub joined : stream ≡ concat frames ++ rest
-  pub whole : All IsWhole frames
-  pub answered : AreFramesWithin limits frames answers
-  pub front : ℕ
-  pub short : front < length (concat answers)
-  pub written : contents ≡ Some (held ++ take front (concat answers))
-
--- each whole frame that was read is answered, and no more than that is written
-pub record OwesNothingWithin (limits : Limits) (h : History) : Type 0 where
-  pub frames : List (List ℕ)
-  pub cut : List ℕ
-  pub answers : List (List ℕ)
-  pub parted : IsParted h.taken frames cut
-  pub answered : AreFramesWithin limits frames answers
-  pub written : h.written ≡ concat answers
+abbrev pub CutsFramesShortWithin : Limits → List ℕ → List ℕ → Option (List ℕ) → Type 0
+CutsFramesShortWithin limits stream held contents =
+    CutsSome (whole_frames_within limits) stream held contents
 
 -- where each whole frame is answered, and no more is written, nothing is owed
 abbrev pub GoesByFramesWithin : Limits → (History → Type 0) → Type 0
-GoesByFramesWithin limits owes_nothing =
-    (h : History) → OwesNothingWithin limits h → owes_nothing h
+GoesByFramesWithin limits owes_nothing = GoesBy (whole_frames_within limits) owes_nothing

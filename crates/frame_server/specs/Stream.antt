@@ -1,12 +1,14 @@
 -- The frames of a stream, and what answers them.
-use Rattle.std.specs.Prelude.{◌≡◌, ◌⊎◌, ◌^◌, ◌<◌, ℕ, List, [], ◌++◌, All, length, take}
+use Rattle.std.specs.Prelude.{◌≡◌, ◌⊎◌, ◌^◌, ◌<◌, ℕ, List, [], ◌++◌, All, length}
 use Rattle.std.specs.Prelude.{Option, Some, IfSome}
 use Rattle.std.specs.Int.{w64}
 use Rattle.std.specs.Prelude.{FitsSigned}
-use Rattle.std.specs.List.{AllZip, concat, flat_map}
+use Rattle.std.specs.List.{concat}
+use Rattle.message_server.specs.Serving.{Framing}
+use Rattle.message_server.specs.Serving as messages
 use Rattle.tensor_runner.specs.Answer.{Answer}
-use Rattle.tensor_runner.specs.History.{History}
-use Rattle.tensor_runner.specs.Streams.{HasFailed}
+use Rattle.message_server.specs.History.{History}
+use Rattle.message_server.specs.Streams.{HasFailed}
 use Rattle.frame_server.specs.Answer.{IsAnswerTo, answer_bytes}
 use Rattle.frame_server.specs.Frame.{Frame, frame_bytes, frame_in, IsWhole, IsUnfinished}
 
@@ -34,61 +36,51 @@ abbrev pub ReadsAsWritten : Type 0
 ReadsAsWritten =
     (f : Frame) → Fits f → IsWhole (frame_bytes f) × (frame_in (frame_bytes f) ≡ f)
 
--- an answer to each frame, in their order
-abbrev pub AreAnswersTo : List (List ℕ) → List Answer → Type 0
-AreAnswersTo frames answers = AllZip IsAnswerTo frames answers
+-- these frames are whole in the bytes, and no other
+abbrev pub AreWholeFrames : List ℕ → List (List ℕ) → Type 0
+AreWholeFrames bytes frames = (cut : List ℕ) × IsParted bytes frames cut
 
--- the frames that answer, one behind the other
-abbrev pub frames_answering : List Answer → List ℕ
-frames_answering answers = flat_map answer_bytes answers
+-- frames as messages, whose answers are frames
+abbrev pub whole_frames : Framing Answer
+whole_frames =
+    record { AreWhole = AreWholeFrames; IsAnswer = IsAnswerTo; bytes_of = answer_bytes }
 
 -- each whole frame that was read is answered, and no more than that is written
-pub record OwesNothing (h : History) : Type 0 where
-  pub frames : List (List ℕ)
-  pub cut : List ℕ
-  pub answers : List Answer
-  pub parted : IsParted h.taken frames cut
-  pub answered : AreAnswersTo frames answers
-  pub written : h.written ≡ frames_answering answers
+abbrev pub OwesNothing : History → Type 0
+OwesNothing h = messages.OwesNothing whole_frames h
 
 -- where each whole frame is answered, and no more is written, nothing is owed
 abbrev pub GoesByFrames : (History → Type 0) → Type 0
-GoesByFrames owes_nothing = (h : History) → OwesNothing h → owes_nothing h
+GoesByFrames owes_nothing = messages.GoesBy whole_frames owes_nothing
 
 -- what was held, and behind it the answers of all frames of a stream that ends behind one
-pub record AnswersFrames (stream held : List ℕ) (contents : Option (List ℕ)) : Type 0 where
+pub record AnswersAll {A : Type 0} (f : Framing A) (stream held : List ℕ)
+    (contents : Option (List ℕ)) : Type 0 where
   pub frames : List (List ℕ)
-  pub answers : List Answer
   pub parted : IsParted stream frames []
-  pub answered : AreAnswersTo frames answers
-  pub written : contents ≡ Some (held ++ frames_answering answers)
-
--- the reading stopped: what was held, and behind it the answers of the frames that were whole in
--- what was read
-pub record BreaksOff (stream held : List ℕ) (remaining contents : Option (List ℕ)) : Type 0 where
-  pub taken : List ℕ
-  pub rest : List ℕ
-  pub joined : stream ≡ taken ++ rest
-  pub left : remaining ≡ Some rest
-  pub frames : List (List ℕ)
-  pub cut : List ℕ
-  pub answers : List Answer
-  pub parted : IsParted taken frames cut
-  pub answered : AreAnswersTo frames answers
-  pub written : contents ≡ Some (held ++ frames_answering answers)
+  pub answered : messages.Answers f frames held contents
 
 -- the writing stopped: what was held, and behind it a front of the answers of some frames that the
 -- stream begins with, but not all of it
-pub record CutsFramesShort (stream held : List ℕ) (contents : Option (List ℕ)) : Type 0 where
+pub record CutsSome {A : Type 0} (f : Framing A) (stream held : List ℕ)
+    (contents : Option (List ℕ)) : Type 0 where
   pub frames : List (List ℕ)
   pub rest : List ℕ
-  pub answers : List Answer
   pub joined : stream ≡ concat frames ++ rest
   pub whole : All IsWhole frames
-  pub answered : AreAnswersTo frames answers
-  pub front : ℕ
-  pub short : front < length (frames_answering answers)
-  pub written : contents ≡ Some (held ++ take front (frames_answering answers))
+  pub short : messages.CutsShort f frames held contents
+
+abbrev pub AnswersFrames : List ℕ → List ℕ → Option (List ℕ) → Type 0
+AnswersFrames stream held contents = AnswersAll whole_frames stream held contents
+
+-- the reading stopped: what was held, and behind it the answers of the frames that were whole in
+-- what was read
+abbrev pub BreaksOff : List ℕ → List ℕ → Option (List ℕ) → Option (List ℕ) → Type 0
+BreaksOff stream held remaining contents =
+    messages.BreaksOff whole_frames stream held remaining contents
+
+abbrev pub CutsFramesShort : List ℕ → List ℕ → Option (List ℕ) → Type 0
+CutsFramesShort stream held contents = CutsSome whole_frames stream held contents
 
 -- a stream that ends in a frame, of which nothing is left
 pub record EndsInside (remaining : Option (List ℕ)) (stream : List ℕ) : Type 0 where

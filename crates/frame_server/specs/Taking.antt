@@ -1,5 +1,5 @@
 -- Bytes on the way from a client to a frame, for the private clauses of the server.
-use Rattle.std.specs.Prelude.{◌≡◌, ◌⊎◌, ◌<◌, ◌≤◌, ◌-◌, ◌+◌, ◌*◌, ℕ, ℤ, List, [], ◌++◌, length}
+use Rattle.std.specs.Prelude.{◌≡◌, ◌⊎◌, ◌<◌, ◌≤◌, ◌+◌, ◌*◌, ℕ, ℤ, List, [], ◌++◌, length}
 use Rattle.std.specs.Prelude.{take, drop, map}
 use Rattle.std.specs.Prelude.{Option, vec_capacity}
 use Rattle.std.specs.Io.KnownBytes.{Consumes, IsAtEnd}
@@ -7,38 +7,16 @@ use Rattle.std.specs.Simd.{first_chunks}
 use Rattle.expr_reader.specs.Limits.{most_bytes, most_values}
 use Rattle.expr_reader.specs.declared.fault.Fault.{Fault}
 use Rattle.expr_reader.specs.declared.fault.Fault.TheVariants.{TooLong, NoMemory}
-use Rattle.tensor_runner.specs.History.{History, reading}
-use Rattle.tensor_runner.specs.Streams.{HasFailed}
-use Rattle.tensor_runner.specs.Taking.{Reads}
+use Rattle.message_server.specs.History.{History}
+use Rattle.message_server.specs.Pieces.{Takes}
+use Rattle.message_server.specs.Streams.{HasFailed}
 use Rattle.frame_server.specs.Answer.{IsShort}
 use Rattle.frame_server.specs.Frame.{Frame, IsWhole, IsUnfinished, frame_in, value_of}
 use Rattle.frame_server.specs.Frame.{header_len, value_count}
-use Rattle.frame_server.specs.declared.buffer.InputBuffer.{InputBuffer}
 use Rattle.frame_server.specs.declared.frame.Head.{Head}
 use Rattle.frame_server.specs.declared.frame.WholeFrame.{WholeFrame}
 use Rattle.frame_server.specs.declared.frame.NextFrame.{NextFrame}
 use Rattle.frame_server.specs.declared.frame.NextFrame.TheVariants.{Whole, Passed}
-
--- what was read and belongs to no frame yet
-abbrev pub pending_bytes : InputBuffer → List ℕ
-pending_bytes b = take (b.end - b.start) (drop b.start b.bytes)
-
--- so many bytes are more
-abbrev pub IsBelow : ℕ → List ℕ → Type 0
-IsBelow count bytes = length bytes < count
-
--- whatever is read, nothing is owed as long as all that is pending is of this kind
-abbrev pub OwesNothingWhile : (List ℕ → Type 0) → (History → Type 0) → List ℕ → History
-    → Type 0
-OwesNothingWhile Kind owes_nothing pending h =
-    (more : List ℕ) → Kind (pending ++ more) → owes_nothing (reading more h)
-
--- these bytes were taken of what was pending and what was read
-pub record Takes (before after : Option (List ℕ)) (h k : Option History) (old new : List ℕ)
-    (bytes : List ℕ) : Type 0 where
-  pub read : List ℕ
-  pub reads : Reads before after h k read
-  pub parted : old ++ read ≡ bytes ++ new
 
 -- so many bytes were taken
 pub record TakesCount (count : ℕ) (before after : Option (List ℕ)) (h k : Option History)
@@ -58,13 +36,6 @@ pub record TakesValues (before after : Option (List ℕ)) (h k : Option History)
   pub takes : Takes before after h k old new bytes
   pub counted : length bytes ≡ 8 * length values
   pub read : values ≡ values_of (length values) bytes
-
--- what was pending and what was read is of this kind
-pub record FailsIn (Kind : List ℕ → Type 0) (before after : Option (List ℕ)) (old : List ℕ)
-    : Type 0 where
-  pub read : List ℕ
-  pub consumed : Consumes before after read
-  pub kind : Kind (old ++ read)
 
 -- a read failed, by the numbers of failures before and after, or the client's bytes are at an end
 abbrev pub IsCutOff : ℕ → ℕ → Option (List ℕ) → Type 0

@@ -5,14 +5,15 @@ ghost use Rattle.frame_server.specs.Ending.{EndsFrames, EndsInFrame, EndsInAnswe
 ghost use Rattle.frame_server.specs.Limited.{GoesByFramesWithin};
 ghost use Rattle.frame_server.specs.LimitedEnding.{EndsWithin};
 ghost use Rattle.frame_server.specs.Stream.{GoesByFrames, StopsReading};
-ghost use Rattle.tensor_runner.specs.History.{IsNew};
-ghost use Rattle.tensor_runner.specs.Streams.{HasFailed};
+ghost use Rattle.message_server.specs.History.{IsNew};
+ghost use Rattle.message_server.specs.Streams.{HasFailed};
 
 use crate::server::{answer_frames, answer_frames_within};
+use message_server::{Client, Ending, ending_of};
 use std::alloc::Global;
 use std::sync::Wait;
 use std::thread::Threads;
-use tensor_runner::{Client, Ending, Limits, ending_of};
+use tensor_runner::Limits;
 
 /// Answers the frames of a client, as [`answer_frames`] does, and says what the program ends with.
 pub fn serve_frames<RT: Threads + Wait + Sync, C: Client>(

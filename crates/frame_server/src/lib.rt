@@ -3,7 +3,6 @@
 #![tactic(auto)]
 
 mod answer;
-mod buffer;
 mod ending;
 mod frame;
 mod laws;

@@ -5,17 +5,17 @@ ghost use Rattle.frame_server.specs.Limited.{GoesByFramesWithin, AnswersFramesWi
 ghost use Rattle.frame_server.specs.Limited.{BreaksOffWithin, CutsFramesShortWithin};
 ghost use Rattle.frame_server.specs.Stream.{GoesByFrames, AnswersFrames, BreaksOff};
 ghost use Rattle.frame_server.specs.Stream.{CutsFramesShort, StopsReading};
-ghost use Rattle.tensor_runner.specs.History.{IsNew};
-ghost use Rattle.tensor_runner.specs.Streams.{HasFailed};
+ghost use Rattle.message_server.specs.History.{IsNew};
+ghost use Rattle.message_server.specs.Streams.{HasFailed};
 
 use crate::answer::answer;
-use crate::buffer::InputBuffer;
 use crate::taking::next_frame;
 use crate::writing::{OutputBuffer, write_frame};
+use message_server::{Client, InputBuffer, StreamFault};
 use std::alloc::Global;
 use std::sync::Wait;
 use std::thread::Threads;
-use tensor_runner::{Client, Limits, StreamFault};
+use tensor_runner::Limits;
 
 /// Answers each frame of the client's, in order, by the frame of the tensor that its request's
 /// workers work out, or of its first fault, until the client's bytes end. Each answer is written

@@ -3,15 +3,16 @@
 ghost use Rattle.std.specs.Prelude.{◌≡◌, ◌+◌, ◌*◌, ◌≤◌, [], length, IfOk, IfSome, IfErr, OnOk, OnErr};
 ghost use Rattle.std.specs.Prelude.{MatchOption, MatchResult, vec_capacity};
 ghost use Rattle.frame_server.specs.Frame.{IsUnfinished};
-ghost use Rattle.frame_server.specs.Taking.{pending_bytes, IsBelow, OwesNothingWhile, FailsIn};
-ghost use Rattle.frame_server.specs.Taking.{IsCutOff, StopsInFrame, Takes, TakesCount, TakesHead};
+ghost use Rattle.message_server.specs.Pieces.{pending_bytes, IsBelow, OwesNothingWhile, FailsIn};
+ghost use Rattle.message_server.specs.Pieces.{Takes};
+ghost use Rattle.frame_server.specs.Taking.{IsCutOff, StopsInFrame, TakesCount, TakesHead};
 ghost use Rattle.frame_server.specs.Taking.{TakesValues, TakesRest, TakesFrame, Ends, HasRoom, IsPassed};
 
-use crate::buffer::{HEAD, InputBuffer, VALUE};
 use crate::frame::{Head, NextFrame, WholeFrame};
+use crate::reading::{HEAD, VALUE, head_of, move_bytes, move_values};
 use expr_reader::{Fault, MAX_TEXT, MAX_VALUES};
+use message_server::{Client, InputBuffer, StreamFault};
 use std::alloc::Global;
-use tensor_runner::{Client, StreamFault};
 
 /// Takes the next frame, or tells that there is none where the client's bytes end. One that is too
 /// long, or that there is no memory for, is passed over.
@@ -65,7 +66,7 @@ fn take_head<C: Client>(
     ensures write_failures { C.write_failures client.new ≡ C.write_failures client.old }
 {
     if buffer.wait_for(client, HEAD)? {
-        return Ok(Some(buffer.take_head()));
+        return Ok(Some(head_of(buffer)));
     }
     if buffer.pending().is_empty() {
         return Ok(None);
@@ -182,7 +183,7 @@ fn take_header<C: Client>(
             return Err(StreamFault::ReadFault);
         }
         let most = count - header.len();
-        buffer.move_bytes(header, most);
+        move_bytes(buffer, header, most);
     }
     Ok(())
 }
@@ -216,7 +217,7 @@ fn take_values<C: Client>(
             return Err(StreamFault::ReadFault);
         }
         let most = count - values.len();
-        buffer.move_values(values, most);
+        move_values(buffer, values, most);
     }
     Ok(())
 }

@@ -5,13 +5,13 @@ ghost use Rattle.std.specs.List.{flat_map};
 ghost use Rattle.std.specs.Io.KnownBytes.{Appends};
 ghost use Rattle.frame_server.specs.Answering.{bytes_in};
 ghost use Rattle.frame_server.specs.Frame.{value_bytes};
-ghost use Rattle.tensor_runner.specs.History.{writing};
-ghost use Rattle.tensor_runner.specs.Pieces.{AppendsFront};
-ghost use Rattle.tensor_runner.specs.Streams.{HasFailed};
+ghost use Rattle.message_server.specs.History.{writing};
+ghost use Rattle.message_server.specs.Pieces.{AppendsFront};
+ghost use Rattle.message_server.specs.Streams.{HasFailed};
 
 use crate::frame::AnswerFrame;
+use message_server::{Client, StreamFault, write_answer};
 use std::alloc::{AllocError, Global};
-use tensor_runner::{Client, StreamFault, write_answer};
 
 /// How many values are written at a time.
 const VALUES_AT_ONCE: usize = 8_192;

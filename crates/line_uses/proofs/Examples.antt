@@ -1,5 +1,5 @@
 -- The lines of small texts, what answers an empty one, and a history that owes an answer.
-use Rattle.std.proofs.Common.{◌≡◌, ℕ, List, [], ◌∷◌, ◌++◌, refl, codes}
+use Rattle.std.proofs.Common.{◌≡◌, ℕ, List, [], ◌∷◌, ◌++◌, refl, subst, codes}
 use Rattle.std.specs.Str.{is_utf8, chars}
 use Rattle.json.specs.Json.{value}
 use Rattle.json.specs.Lex.{punctuate, lex}
@@ -42,4 +42,5 @@ owes_answer (a ∷ answers) are is = line_of-some a (lines_answering answers) is
 
 pub owes : ¬ OwesNothing owing
 unfolding owing
-owes nothing = owes_answer nothing.answers nothing.answered nothing.written
+owes nothing =
+    owes_answer nothing.answers (subst (λ (l : List (List ℕ)). AreAnswersTo l nothing.answers) nothing.whole nothing.answered) nothing.written

@@ -1,5 +1,4 @@
 pub mod Counting
-pub mod Histories
 pub mod InLines
 pub mod Lines
 pub mod Serving

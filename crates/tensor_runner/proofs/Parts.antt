@@ -1,13 +1,14 @@
 -- Lines and their line feeds.
 use Rattle.std.proofs.Common.{◌≡◌, ◌==◌, ◌<◌, ◌≤◌, ◌+◌, ◌-◌, ℕ, suc, min, List, [], ◌∷◌, ◌++◌, length, take, drop, get_or}
 use Rattle.std.proofs.Common.{true, false, All, refl, ap, sym, ◌∙◌, subst, append_assoc, arith, inl, inr}
-use Rattle.std.specs.List.{concat, slice_index}
+use Rattle.std.specs.List.{slice_index}
 use Rattle.std.proofs.Math.Seq.{take-append-add, split_at}
-use Rattle.std.proofs.lemmas.List.{append-nil, take_all, take-append-le, drop-take, drop-drop, length-take-le, length-take, get_or-take}
+use Rattle.std.proofs.lemmas.List.{append-nil, take_all, take-append-le, length-take-le, length-take, get_or-take}
 use Rattle.std.proofs.lemmas.List.Elements.{All-head, All-tail, All-from_get_or}
 use Rattle.std.proofs.lemmas.Bool.{cases_lt, eqb-true, false_from_ne_true}
 use Rattle.memchr.specs.Find.{Passes, is_byte, Nowhere}
-use Rattle.tensor_runner.specs.Limited.{line_within, AreLinesWithin}
+use Rattle.message_server.specs.Serving.{AreAnswers}
+use Rattle.tensor_runner.specs.Limited.{line_within, lines_within}
 use Rattle.tensor_runner.specs.Taking.{HasNoFeed, with_feeds}
 use Rattle.tensor_runner.specs.Lines.{lines_of, whole_lines}
 use Rattle.tensor_runner.specs.declared.limits.Limits.{Limits}
@@ -92,18 +93,9 @@ take-behind n line text piece is = elim (cases_lt (length line) n) [
 ]
 
 -- what texts are answered by under limits
-module _ (limits : Limits) where
-  pub answers_of : (texts : List (List ℕ)) → (answers : List (List ℕ)) × AreLinesWithin limits texts answers
-  answers_of [] = ([], tt)
-  answers_of (text ∷ texts) = (line_within limits text ∷ (answers_of texts).0, (inl refl, (answers_of texts).1))
-
-  pub answered-append : (texts more answers others : List (List ℕ)) → AreLinesWithin limits texts answers → AreLinesWithin limits more others
-      → AreLinesWithin limits (texts ++ more) (answers ++ others)
-  answered-append [] more [] others first then = then
-  answered-append [] more (a ∷ answers) others first then = absurd first
-  answered-append (t ∷ texts) more [] others first then = absurd first
-  answered-append (t ∷ texts) more (a ∷ answers) others first then =
-      (first.0, answered-append texts more answers others first.1 then)
+pub answers_of : (limits : Limits) (texts : List (List ℕ)) → (answers : List (List ℕ)) × AreAnswers (lines_within limits) texts answers
+answers_of limits [] = ([], tt)
+answers_of limits (text ∷ texts) = (line_within limits text ∷ (answers_of limits texts).0, (inl refl, (answers_of limits texts).1))
 
 -- no line feed where none was found
 pub HasNoFeed-take : (held : List ℕ) (place : ℕ) → Nowhere (Passes (is_byte 10) held) 0 place → HasNoFeed (take place held)
@@ -119,42 +111,10 @@ HasNoFeed-all held nowhere =
     subst HasNoFeed (take_all (length held) held (omega arith)) (HasNoFeed-take held (length held) nowhere)
 
 -- what is held, parted at a line feed
-pub parted_at : (bytes : List ℕ) (start stop place : ℕ)
-    → place < length (take (stop - start) (drop start bytes))
-    → (slice_index (take (stop - start) (drop start bytes)) place == 10) ≡ true
-    → take (stop - start) (drop start bytes)
-    ≡ take place (take (stop - start) (drop start bytes)) ++ 10 ∷ take (stop - (start + (place + 1))) (drop (start + (place + 1)) bytes)
-parted_at bytes start stop place within feed =
-    let held : List ℕ = take (stop - start) (drop start bytes) in
-    let room : place + 1 ≤ stop - start = omega (arith, within, length-take (stop - start) (drop start bytes)) in
-    let sum : (place + 1) + (stop - (start + (place + 1))) ≡ stop - start = omega arith in
-    let rest : drop (place + 1) held ≡ take (stop - (start + (place + 1))) (drop (start + (place + 1)) bytes) =
-    ap (λ (n : ℕ). drop (place + 1) (take n (drop start bytes))) (sym sum)
-    ∙ drop-take (place + 1) (stop - (start + (place + 1))) (drop start bytes)
-    ∙ ap (λ (l : List ℕ). take (stop - (start + (place + 1))) l) (drop-drop (place + 1) start bytes) in
+pub parted_at : (held : List ℕ) (place : ℕ) → place < length held → (slice_index held place == 10) ≡ true
+    → held ≡ take place held ++ 10 ∷ drop (place + 1) held
+parted_at held place within feed =
     let next : suc place ≡ place + 1 = omega arith in
-    let after : drop (suc place) held ≡ take (stop - (start + (place + 1))) (drop (start + (place + 1)) bytes) =
-    ap (λ (n : ℕ). drop n held) next ∙ rest in
     split_at held place 0 within
     ∙ ap (λ (b : ℕ). take place held ++ b ∷ drop (suc place) held) (eqb-true (get_or held place 0) 10 feed)
-    ∙ ap (λ (l : List ℕ). take place held ++ 10 ∷ l) after
-
--- one answer more
-pub concat-push : (answers : List (List ℕ)) (a : List ℕ) → concat answers ++ a ≡ concat (answers ++ a ∷ [])
-concat-push [] a = sym (append-nil a)
-concat-push (first ∷ answers) a = append_assoc first (concat answers) a ∙ ap (λ (t : List ℕ). first ++ t) (concat-push answers a)
-
--- answers behind others
-pub concat-append : (answers others : List (List ℕ)) → concat (answers ++ others) ≡ concat answers ++ concat others
-concat-append [] others = refl
-concat-append (first ∷ answers) others =
-    ap (λ (t : List ℕ). first ++ t) (concat-append answers others) ∙ sym (append_assoc first (concat answers) (concat others))
-
--- nothing is held from the end on
-pub none_left : (bytes : List ℕ) (stop : ℕ) → take (stop - stop) (drop stop bytes) ≡ []
-none_left bytes stop =
-    let nothing : stop - stop ≡ 0 = omega arith in
-    rw nothing refl
-
-pub none_behind : (bytes : List ℕ) (stop : ℕ) (held : List ℕ) → held ≡ held ++ take (stop - stop) (drop stop bytes)
-none_behind bytes stop held = sym (ap (λ (l : List ℕ). held ++ l) (none_left bytes stop) ∙ append-nil held)
+    ∙ ap (λ (n : ℕ). take place held ++ 10 ∷ drop n held) next

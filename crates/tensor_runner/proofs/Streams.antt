@@ -1,35 +1,16 @@
 -- Bytes that are taken and given piece by piece.
-use Rattle.std.proofs.Common.{◌≡◌, ℕ, zero, suc, ◌<◌, ◌≤◌, Result, Ok, List, [], ◌+◌, ◌-◌, ◌++◌, length}
-use Rattle.std.proofs.Common.{take, drop, min, Option, Some, None, refl, ap, sym, ◌∙◌, subst, append_assoc}
+use Rattle.std.proofs.Common.{◌≡◌, ℕ, ◌≤◌, List, [], ◌+◌, ◌-◌, ◌++◌, length}
+use Rattle.std.proofs.Common.{take, drop, min, Option, Some, None, ap, sym, ◌∙◌, subst}
 use Rattle.std.proofs.Common.{arith}
 use Rattle.std.specs.Prelude.{IfSome}
-use Rattle.tensor_runner.specs.Streams.{took_some, failures_after}
+use Rattle.message_server.proofs.Streams.{Consumes-trans, Consumes-none}
 use Rattle.tensor_runner.specs.Kept.{IsKept, kept_len}
 use Rattle.tensor_runner.specs.Pieces.{IsFrontOf, Takes, HasTaken}
 use Rattle.tensor_runner.specs.Run.{most_reads, TakesAtMost}
-use Rattle.std.specs.Io.KnownBytes.{Appends, Consumes, Keeps, IsAtEnd}
+use Rattle.std.specs.Io.KnownBytes.{Consumes, IsAtEnd}
 use Rattle.tensor_runner.specs.declared.kept.KeptText.{KeptText}
 use Rattle.tensor_runner.specs.declared.kept.KeptText.TheVariants.{Text, Counted}
-use Rattle.std.proofs.lemmas.List.{append-nil, take_all, take_at, drop_all, drop_at, length-take, length-drop, length-append}
-use Rattle.std.proofs.Math.Seq.{take-add}
-
--- what is consumed and then more
-pub Consumes-trans : (a b c : Option (List ℕ)) (xs ys : List ℕ) → Consumes a b xs → Consumes b c ys → Consumes a c (xs ++ ys)
-Consumes-trans None b c xs ys h k = tt
-Consumes-trans (Some all) None c xs ys h k = absurd h
-Consumes-trans (Some all) (Some bs) None xs ys h k = absurd k
-Consumes-trans (Some all) (Some bs) (Some cs) xs ys h k = h ∙ ap (λ t. xs ++ t) k ∙ simp append_assoc
-
--- nothing is consumed where known bytes stay
-pub Consumes-keeps_none : (a b : Option (List ℕ)) → Keeps a b → Consumes a b []
-Consumes-keeps_none None b same = tt
-Consumes-keeps_none (Some all) None same = absurd same
-Consumes-keeps_none (Some all) (Some bs) same = sym same
-
--- nothing yet
-pub Consumes-none : (a : Option (List ℕ)) → Consumes a a []
-Consumes-none None = tt
-Consumes-none (Some all) = refl
+use Rattle.std.proofs.lemmas.List.{append-nil, take_all, take_at, drop_all, drop_at, length-take, length-append}
 
 -- at most so many bytes behind those that were taken
 pub TakesAtMost-more : (a b c : Option (List ℕ)) (xs : List ℕ) (n : ℕ) → Consumes a b xs → TakesAtMost (n - length xs) b c → length xs ≤ n
@@ -122,28 +103,3 @@ pub HasTaken-at_most : (a b c : Option (List ℕ)) (old : KeptText) → HasTaken
 HasTaken-at_most a b c old t more =
     TakesAtMost-more a b c t.bytes most_reads t.consumed
     (subst (λ (n : ℕ). TakesAtMost (most_reads - n) b c) (HasTaken-len a b old t) more) t.room
-
--- what is appended and then more
-pub Appends-trans : (a b c : Option (List ℕ)) (xs ys : List ℕ) → Appends a b xs → Appends b c ys → Appends a c (xs ++ ys)
-Appends-trans None b c xs ys h k = tt
-Appends-trans (Some all) None c xs ys h k = absurd h
-Appends-trans (Some all) (Some bs) None xs ys h k = absurd k
-Appends-trans (Some all) (Some bs) (Some cs) xs ys h k = k ∙ ap (λ t. t ++ ys) h ∙ simp append_assoc
-
--- a front and the front of the rest are a longer front
-pub take-front : (line : List ℕ) (written count : ℕ)
-    → take written line ++ take count (take (length line - written) (drop written line)) ≡ take (written + count) line
-take-front line written count =
-    let rest : take (length line - written) (drop written line) ≡ drop written line =
-    take_all (length line - written) (drop written line) (omega (arith, length-drop written line)) in
-    rw (rest, take-add written count line) refl
-
--- what stands behind what was held
-pub Appends-Some : (held : List ℕ) (after : Option (List ℕ)) (xs : List ℕ) → Appends (Some held) after xs → after ≡ Some (held ++ xs)
-Appends-Some held None xs h = absurd h
-Appends-Some held (Some all) xs h = ap Some h
-
--- a write that took bytes is no failure
-pub failures_after-took_some : {E : Type 0} (r : Result ℕ E) (count n : ℕ) → r ≡ Ok count → 0 < count → failures_after (took_some r) n ≡ n
-failures_after-took_some r zero n is some = absurd (omega arith)
-failures_after-took_some r (suc count) n is some = ap (λ x. failures_after (took_some x) n) is

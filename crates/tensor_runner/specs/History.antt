@@ -1,38 +1,13 @@
--- What was read of a client and written to it so far.
-use Rattle.std.specs.Prelude.{◌≡◌, ℕ, List, [], ◌++◌, take, Option, Result, Ok, Err, option_map}
-use Rattle.tensor_runner.specs.Answer.{Answer}
-use Rattle.tensor_runner.specs.Lines.{AreAnswersTo, whole_lines, lines_answering}
-
-pub record History : Type 0 where
-  pub taken : List ℕ
-  pub written : List ℕ
-
--- nothing yet
-abbrev pub IsNew : History → Type 0
-IsNew h = (h.taken ≡ []) × (h.written ≡ [])
+-- What a history of lines owes.
+pub use Rattle.message_server.specs.History.{History, IsNew, reading, writing, after_read, after_write}
+use Rattle.message_server.specs.Serving.{GoesBy}
+use Rattle.message_server.specs.Serving as messages
+use Rattle.tensor_runner.specs.Lines.{lines}
 
 -- each whole line that was read is answered, and no more than that is written
-pub record OwesNothing (h : History) : Type 0 where
-  pub answers : List Answer
-  pub answered : AreAnswersTo (whole_lines h.taken) answers
-  pub written : h.written ≡ lines_answering answers
+abbrev pub OwesNothing : History → Type 0
+OwesNothing h = messages.OwesNothing lines h
 
 -- where each whole line is answered, and no more is written, nothing is owed
 abbrev pub GoesByLines : (History → Type 0) → Type 0
-GoesByLines owes_nothing = (h : History) → OwesNothing h → owes_nothing h
-
-abbrev pub reading : List ℕ → History → History
-reading bytes h = record { taken = h.taken ++ bytes; written = h.written }
-
-abbrev pub writing : List ℕ → History → History
-writing bytes h = record { taken = h.taken; written = h.written ++ bytes }
-
--- the history after a read to the front of a buffer
-abbrev pub after_read : {E : Type 0} → Result ℕ E → List ℕ → Option History → Option History
-after_read (Ok count) buffer h = option_map (reading (take count buffer)) h
-after_read (Err e) buffer h = h
-
--- the history after a write of the front of some bytes
-abbrev pub after_write : {E : Type 0} → Result ℕ E → List ℕ → Option History → Option History
-after_write (Ok count) bytes h = option_map (writing (take count bytes)) h
-after_write (Err e) bytes h = h
+GoesByLines owes_nothing = GoesBy lines owes_nothing

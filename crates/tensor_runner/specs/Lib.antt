@@ -4,6 +4,7 @@ pub use Rattle.expr_reader.specs.Faults
 pub use Rattle.expr_reader.specs.Limits
 pub use Rattle.expr_reader.specs.Request
 pub use Rattle.expr_reader.specs.Value
+pub use Rattle.message_server.specs.Streams
 pub mod Answer
 pub mod Ending
 pub mod History
@@ -13,7 +14,6 @@ pub mod Lines
 pub mod Options
 pub mod Run
 pub mod Status
-pub mod Streams
 pub mod Work
 -- for private clauses alone
 pub mod Kept

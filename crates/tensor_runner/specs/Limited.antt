@@ -1,14 +1,14 @@
 -- Limits of a server, and the lines that answer texts under them.
-use Rattle.std.specs.Prelude.{◌≡◌, ◌⊎◌, ◌≤◌, ◌<◌, ℕ, nat_lt, Bool, false, if◌then◌else◌, decimal, codes}
-use Rattle.std.specs.Prelude.{List, [], ◌∷◌, ◌++◌, length, take, Option, Some, None, Result, Ok, Err}
-use Rattle.std.specs.List.{AllZip, concat}
+use Rattle.std.specs.Prelude.{◌≡◌, ◌⊎◌, ◌≤◌, ℕ, nat_lt, Bool, false, if◌then◌else◌, decimal, codes}
+use Rattle.std.specs.Prelude.{List, [], ◌∷◌, ◌++◌, length, Option, Some, None, Result, Ok, Err}
 use Rattle.expr_reader.specs.Limits.{most_bytes}
 use Rattle.expr_reader.specs.Request.{Asked, request_of}
 use Rattle.expr_reader.specs.declared.fault.Fault.{Fault}
 use Rattle.expr_reader.specs.declared.fault.Fault.TheVariants.{NoMemory}
 use Rattle.tensor_runner.specs.Answer.{answer_of, line_of, fault_line}
-use Rattle.tensor_runner.specs.History.{History}
-use Rattle.tensor_runner.specs.Lines.{whole_lines}
+use Rattle.message_server.specs.History.{History}
+use Rattle.message_server.specs.Serving.{Framing, Answers, BreaksOff, CutsShort, GoesBy}
+use Rattle.tensor_runner.specs.Lines.{AreWholeLines}
 use Rattle.tensor_runner.specs.Status.{limit_number, limit_name}
 use Rattle.tensor_runner.specs.Work.{steps_of}
 use Rattle.tensor_runner.specs.declared.limits.LimitFault.{LimitFault}
@@ -52,44 +52,27 @@ abbrev pub IsLineWithin : Limits → List ℕ → List ℕ → Type 0
 IsLineWithin limits text line =
     (line ≡ line_within limits text) ⊎ ((line ≡ fault_line NoMemory) × (length text ≤ most_bytes))
 
--- such a line for each text, in their order
-abbrev pub AreLinesWithin : Limits → List (List ℕ) → List (List ℕ) → Type 0
-AreLinesWithin limits texts answers = AllZip (IsLineWithin limits) texts answers
+-- lines as messages, whose answers are such lines
+abbrev pub lines_within : Limits → Framing (List ℕ)
+lines_within limits =
+    record { AreWhole = AreWholeLines; IsAnswer = IsLineWithin limits; bytes_of = λ line. line }
 
 -- what was held, and behind it the answers of all these lines
-pub record AnswersLinesWithin (limits : Limits) (lines : List (List ℕ)) (held : List ℕ)
-    (contents : Option (List ℕ)) : Type 0 where
-  pub answers : List (List ℕ)
-  pub answered : AreLinesWithin limits lines answers
-  pub written : contents ≡ Some (held ++ concat answers)
+abbrev pub AnswersLinesWithin : Limits → List (List ℕ) → List ℕ → Option (List ℕ) → Type 0
+AnswersLinesWithin limits lines held contents = Answers (lines_within limits) lines held contents
 
 -- the reading stopped in a line: what was held, and behind it the answers of the lines that were
 -- whole in what was read
-pub record BreaksOffWithin (limits : Limits) (text held : List ℕ)
-    (remaining contents : Option (List ℕ)) : Type 0 where
-  pub taken : List ℕ
-  pub rest : List ℕ
-  pub parted : text ≡ taken ++ rest
-  pub left : remaining ≡ Some rest
-  pub whole : AnswersLinesWithin limits (whole_lines taken) held contents
+abbrev pub BreaksOffWithin : Limits → List ℕ → List ℕ → Option (List ℕ) → Option (List ℕ)
+    → Type 0
+BreaksOffWithin limits text held remaining contents =
+    BreaksOff (lines_within limits) text held remaining contents
 
 -- the writing stopped: what was held, and behind it a front of the answers of all these lines, but
 -- not all of it
-pub record CutsLinesShortWithin (limits : Limits) (lines : List (List ℕ)) (held : List ℕ)
-    (contents : Option (List ℕ)) : Type 0 where
-  pub answers : List (List ℕ)
-  pub answered : AreLinesWithin limits lines answers
-  pub front : ℕ
-  pub short : front < length (concat answers)
-  pub written : contents ≡ Some (held ++ take front (concat answers))
-
--- each whole line that was read is answered, and no more than that is written
-pub record OwesNothingWithin (limits : Limits) (h : History) : Type 0 where
-  pub answers : List (List ℕ)
-  pub answered : AreLinesWithin limits (whole_lines h.taken) answers
-  pub written : h.written ≡ concat answers
+abbrev pub CutsLinesShortWithin : Limits → List (List ℕ) → List ℕ → Option (List ℕ) → Type 0
+CutsLinesShortWithin limits lines held contents = CutsShort (lines_within limits) lines held contents
 
 -- where each whole line is answered, and no more is written, nothing is owed
 abbrev pub GoesByLinesWithin : Limits → (History → Type 0) → Type 0
-GoesByLinesWithin limits owes_nothing =
-    (h : History) → OwesNothingWithin limits h → owes_nothing h
+GoesByLinesWithin limits owes_nothing = GoesBy (lines_within limits) owes_nothing

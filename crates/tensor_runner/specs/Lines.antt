@@ -1,7 +1,8 @@
 -- The lines of a text, and what answers them.
-use Rattle.std.specs.Prelude.{◌≡◌, ◌==◌, ◌<◌, ℕ, List, [], ◌∷◌, ◌++◌, length, take}
-use Rattle.std.specs.Prelude.{if◌then◌else◌, Option, Some}
-use Rattle.std.specs.List.{AllZip, flat_map, onto_first}
+use Rattle.std.specs.Prelude.{◌≡◌, ◌==◌, ℕ, List, [], ◌∷◌, if◌then◌else◌, Option}
+use Rattle.std.specs.List.{onto_first}
+use Rattle.message_server.specs.Serving.{Framing, AreAnswers, bytes_answering}
+use Rattle.message_server.specs.Serving as messages
 use Rattle.tensor_runner.specs.Answer.{Answer, IsAnswerTo, line_of}
 
 -- the lines of a text, without their line feeds; what stands behind the last line feed is a line
@@ -20,36 +21,31 @@ abbrev pub whole_lines : List ℕ → List (List ℕ)
 whole_lines [] = []
 whole_lines (b ∷ bs) = if b == 10 then [] ∷ whole_lines bs else onto_whole b (whole_lines bs)
 
+abbrev pub AreWholeLines : List ℕ → List (List ℕ) → Type 0
+AreWholeLines bytes lines = lines ≡ whole_lines bytes
+
+-- lines as messages, whose answers are lines
+abbrev pub lines : Framing Answer
+lines = record { AreWhole = AreWholeLines; IsAnswer = IsAnswerTo; bytes_of = line_of }
+
 -- an answer to each text, in their order
 abbrev pub AreAnswersTo : List (List ℕ) → List Answer → Type 0
-AreAnswersTo texts answers = AllZip IsAnswerTo texts answers
+AreAnswersTo texts answers = AreAnswers lines texts answers
 
 -- the lines that answer, one behind the other
 abbrev pub lines_answering : List Answer → List ℕ
-lines_answering answers = flat_map line_of answers
+lines_answering answers = bytes_answering lines answers
 
 -- what was held, and behind it the answers of all these lines
-pub record AnswersLines (lines : List (List ℕ)) (held : List ℕ) (contents : Option (List ℕ))
-    : Type 0 where
-  pub answers : List Answer
-  pub answered : AreAnswersTo lines answers
-  pub written : contents ≡ Some (held ++ lines_answering answers)
+abbrev pub AnswersLines : List (List ℕ) → List ℕ → Option (List ℕ) → Type 0
+AnswersLines texts held contents = messages.Answers lines texts held contents
 
 -- the reading stopped in a line: what was held, and behind it the answers of the lines that were
 -- whole in what was read
-pub record BreaksOff (text held : List ℕ) (remaining contents : Option (List ℕ)) : Type 0 where
-  pub taken : List ℕ
-  pub rest : List ℕ
-  pub parted : text ≡ taken ++ rest
-  pub left : remaining ≡ Some rest
-  pub whole : AnswersLines (whole_lines taken) held contents
+abbrev pub BreaksOff : List ℕ → List ℕ → Option (List ℕ) → Option (List ℕ) → Type 0
+BreaksOff text held remaining contents = messages.BreaksOff lines text held remaining contents
 
 -- the writing stopped: what was held, and behind it a front of the answers of all these lines, but
 -- not all of it
-pub record CutsLinesShort (lines : List (List ℕ)) (held : List ℕ) (contents : Option (List ℕ))
-    : Type 0 where
-  pub answers : List Answer
-  pub answered : AreAnswersTo lines answers
-  pub front : ℕ
-  pub short : front < length (lines_answering answers)
-  pub written : contents ≡ Some (held ++ take front (lines_answering answers))
+abbrev pub CutsLinesShort : List (List ℕ) → List ℕ → Option (List ℕ) → Type 0
+CutsLinesShort texts held contents = messages.CutsShort lines texts held contents

@@ -1,14 +1,9 @@
 -- Pieces that are read and written, for the private clauses of the engine.
-use Rattle.std.specs.Prelude.{◌≡◌, ◌<◌, ◌≤◌, ◌+◌, ℕ, List, ◌++◌, length, take, Option}
-use Rattle.std.specs.Io.KnownBytes.{Appends, Consumes, IsAtEnd}
+use Rattle.std.specs.Prelude.{◌≡◌, ◌≤◌, ◌+◌, ℕ, List, ◌++◌, length, Option}
+use Rattle.std.specs.Io.KnownBytes.{Consumes, IsAtEnd}
 use Rattle.tensor_runner.specs.Kept.{IsKept, kept_len}
 use Rattle.tensor_runner.specs.Run.{most_reads, IsLeft}
 use Rattle.tensor_runner.specs.declared.kept.KeptText.{KeptText}
-
--- a front of the bytes was appended, but not all of them
-abbrev pub AppendsFront : Option (List ℕ) → Option (List ℕ) → List ℕ → Type 0
-AppendsFront old new bytes =
-    (taken : ℕ) × (taken < length bytes) × Appends old new (take taken bytes)
 
 -- as much is kept of all as is read of a text, and this is left of all
 pub record IsFrontOf (all : List ℕ) (kept : KeptText) (remaining : Option (List ℕ)) : Type 0 where

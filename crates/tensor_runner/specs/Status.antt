@@ -1,20 +1,15 @@
 -- The numbers of the faults, and the names of those of limits.
+pub use Rattle.message_server.specs.Ending.{stream_fault_number}
 use Rattle.std.specs.Prelude.{ℕ, List, codes}
 use Rattle.tensor_runner.specs.declared.limits.LimitFault.{LimitFault}
 use Rattle.tensor_runner.specs.declared.limits.LimitFault.TheVariants.{TooManyWorkers}
 use Rattle.tensor_runner.specs.declared.limits.LimitFault.TheVariants.{TooManySteps}
 use Rattle.tensor_runner.specs.declared.status.RunFault.{RunFault}
 use Rattle.tensor_runner.specs.declared.status.RunFault.TheVariants as run
-use Rattle.tensor_runner.specs.declared.status.StreamFault.{StreamFault}
-use Rattle.tensor_runner.specs.declared.status.StreamFault.TheVariants.{ReadFault, WriteFault}
 
 -- want of memory has the number that it has as a text's fault
 abbrev pub run_fault_number : RunFault → ℕ
 run_fault_number run.NoMemory = 15
-
-abbrev pub stream_fault_number : StreamFault → ℕ
-stream_fault_number ReadFault = 16
-stream_fault_number WriteFault = 17
 
 -- behind those of requests and streams; 18 was a fault once, and isn't used again
 abbrev pub limit_number : LimitFault → ℕ

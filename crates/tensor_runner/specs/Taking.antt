@@ -1,19 +1,13 @@
 -- Bytes on the way from a client to a line, for the private clauses of the server.
-use Rattle.std.specs.Prelude.{◌≡◌, ◌-◌, ◌==◌, ℕ, List, [], ◌∷◌, ◌++◌, take, drop, All}
-use Rattle.std.specs.Prelude.{Bool, false, if◌then◌else◌, Option, option_map}
-use Rattle.std.specs.List.{concat, flat_map}
-use Rattle.std.specs.Io.KnownBytes.{Consumes, IsAtEnd}
-use Rattle.tensor_runner.specs.History.{History, reading}
-use Rattle.tensor_runner.specs.Limited.{AreLinesWithin}
+use Rattle.std.specs.Prelude.{◌≡◌, ◌==◌, ℕ, List, [], ◌∷◌, ◌++◌, All}
+use Rattle.std.specs.Prelude.{Bool, false, if◌then◌else◌, Option}
+use Rattle.std.specs.List.{flat_map}
+use Rattle.std.specs.Io.KnownBytes.{IsAtEnd}
+use Rattle.message_server.specs.History.{History}
+use Rattle.message_server.specs.Pieces.{Takes}
 use Rattle.tensor_runner.specs.Kept.{IsKept}
-use Rattle.tensor_runner.specs.declared.buffer.InputBuffer.{InputBuffer}
 use Rattle.tensor_runner.specs.declared.kept.KeptText.{KeptText}
-use Rattle.tensor_runner.specs.declared.limits.Limits.{Limits}
-use Rattle.tensor_runner.specs.declared.buffer.NextLine.{NextLine}
-
--- what was read and belongs to no line yet
-abbrev pub pending_bytes : InputBuffer → List ℕ
-pending_bytes h = take (h.end - h.start) (drop h.start h.bytes)
+use Rattle.tensor_runner.specs.declared.kept.NextLine.{NextLine}
 
 -- no byte is a line feed
 abbrev pub HasNoFeed : List ℕ → Type 0
@@ -35,50 +29,20 @@ pub record TakesPiece (old new : List ℕ) (ended : Bool) (before after : KeptTe
   pub emptied : ended ≡ false → new ≡ []
   pub kept : (line : List ℕ) → IsKept line before → IsKept (line ++ piece) after
 
--- whatever is read, nothing is owed as long as all that is pending has no line feed
-abbrev pub OwesNothingInLine : (History → Type 0) → List ℕ → History → Type 0
-OwesNothingInLine owes_nothing pending h =
-    (more : List ℕ) → HasNoFeed (pending ++ more) → owes_nothing (reading more h)
-
--- these bytes were read
-pub record Reads (before after : Option (List ℕ)) (h k : Option History) (bytes : List ℕ)
-    : Type 0 where
-  pub consumed : Consumes before after bytes
-  pub noted : k ≡ option_map (reading bytes) h
-
--- a line of which these bytes were taken, with no line feed yet
+-- a line was taken so far, with no line feed yet
 pub record InLine (before after : Option (List ℕ)) (h k : Option History) (old now : List ℕ)
     (kept : KeptText) : Type 0 where
   pub line : List ℕ
-  pub bytes : List ℕ
-  pub read : Reads before after h k bytes
+  pub takes : Takes before after h k old now line
   pub no_feed : HasNoFeed line
   pub kept_of : IsKept line kept
-  pub parted : old ++ bytes ≡ line ++ now
 
 -- a line was taken of what was pending and what was read, with its line feed, or to the end
 pub record TakesLine (before after : Option (List ℕ)) (h k : Option History) (old new : List ℕ)
     (next : NextLine) : Type 0 where
   pub line : List ℕ
-  pub bytes : List ℕ
-  pub read : Reads before after h k bytes
+  pub takes : Takes before after h k old (behind next.ended new) line
   pub no_feed : HasNoFeed line
   pub kept : IsKept line next.kept
-  pub parted : old ++ bytes ≡ line ++ behind next.ended new
   pub emptied : next.ended ≡ false → new ≡ []
   pub at_end : next.ended ≡ false → IsAtEnd after
-
--- what was pending and what was read has no line feed
-pub record StopsInLine (before after : Option (List ℕ)) (old : List ℕ) : Type 0 where
-  pub bytes : List ℕ
-  pub consumed : Consumes before after bytes
-  pub no_feed : HasNoFeed (old ++ bytes)
-
--- each line before what is pending is answered
-pub record IsCaughtUp (limits : Limits) (pending : List ℕ) (h : History) : Type 0 where
-  pub done : List (List ℕ)
-  pub answers : List (List ℕ)
-  pub no_feeds : All HasNoFeed done
-  pub answered : AreLinesWithin limits done answers
-  pub taken : h.taken ≡ with_feeds done ++ pending
-  pub written : h.written ≡ concat answers

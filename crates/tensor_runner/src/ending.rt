@@ -1,34 +1,22 @@
-//! Says what a program ends with: its status, and what it complains of.
+//! Answers a text, or lines, and says what a program ends with.
 
-ghost use Rattle.std.specs.Prelude.{◌≡◌, ◌⊎◌, ◌+◌, ◌≤◌, Err, None, Some, IfSome, MatchResult};
-ghost use Rattle.tensor_runner.specs.Ending.{complaint_in, IsEndingOf, EndsAnswered, EndsCutShort};
+ghost use Rattle.std.specs.Prelude.{◌≡◌, ◌⊎◌, ◌+◌, ◌≤◌, Err, IfSome};
+ghost use Rattle.tensor_runner.specs.Ending.{IsEndingOf, EndsAnswered, EndsCutShort};
 ghost use Rattle.tensor_runner.specs.Ending.{EndsLines, EndsInLine, EndsInAnswer};
-ghost use Rattle.tensor_runner.specs.Ending.{IsQuiet, IsComplaint};
 ghost use Rattle.tensor_runner.specs.History.{IsNew, GoesByLines};
 ghost use Rattle.tensor_runner.specs.Limited.{GoesByLinesWithin};
 ghost use Rattle.tensor_runner.specs.LimitedEnding.{EndsWithin};
 ghost use Rattle.tensor_runner.specs.Run.{most_reads, TakesAtMost};
-ghost use Rattle.tensor_runner.specs.Streams.{HasFailed};
+ghost use Rattle.message_server.specs.Streams.{HasFailed};
 
-use crate::client::Client;
 use crate::engine::run;
 use crate::limits::Limits;
 use crate::server::{answer_lines, answer_lines_within};
-use crate::sink::Sink;
-use crate::source::Source;
-use crate::status::{Status, StreamFault};
+use crate::status::Status;
+use message_server::{Client, Ending, Sink, Source, StreamFault, ending_of};
 use std::alloc::Global;
 use std::sync::Wait;
 use std::thread::Threads;
-
-/// The exit status, and what stands on standard error.
-#[derive(Clone, Copy, Debug, Drop, Eq, PartialEq)]
-pub struct Ending {
-    /// 0 for a tensor's line, 1 for a fault's; of many lines 0; 1 where a stream failed.
-    pub status: u8,
-    /// The line of a stream fault, with its line feed.
-    pub complaint: Option<&'static str>,
-}
 
 /// Answers the text of one stream on another, as [`run`] does, and says what the program ends with.
 pub fn serve<RT: Threads + Wait + Sync, R: Source, W: Sink>(
@@ -53,10 +41,9 @@ pub fn serve<RT: Threads + Wait + Sync, R: Source, W: Sink>(
     ensures reads { R.calls reader.new ≤ R.calls reader.old + most_reads }
 {
     match run(rt, alloc, reader, writer) {
-        Ok(Status::Tensor) => quiet(0),
-        Ok(Status::Fault) => quiet(1),
-        Err(StreamFault::ReadFault) => complaining("error 16 ReadFault\n"),
-        Err(StreamFault::WriteFault) => complaining("error 17 WriteFault\n"),
+        Ok(Status::Tensor) => Ending::quiet(0),
+        Ok(Status::Fault) => Ending::quiet(1),
+        Err(fault) => Ending::complaining(fault),
     }
 }
 
@@ -102,37 +89,4 @@ pub fn serve_lines_within<RT: Threads + Wait + Sync, C: Client>(
         (C.write_failures client.old, C.write_failures client.new) result }
 {
     ending_of(answer_lines_within(rt, alloc, limits, client))
-}
-
-/// What a program ends with that answered many requests: status 0, or the line of the fault that
-/// stopped it.
-pub fn ending_of(served: Result<(), StreamFault>) -> Ending
-    ensures { MatchResult served (λ _. IsQuiet 0 result) (λ fault. IsComplaint fault result) }
-{
-    match served {
-        Ok(()) => quiet(0),
-        Err(StreamFault::ReadFault) => complaining("error 16 ReadFault\n"),
-        Err(StreamFault::WriteFault) => complaining("error 17 WriteFault\n"),
-    }
-}
-
-/// This status, and nothing on standard error.
-fn quiet(status: u8) -> Ending
-    ensures { result ≡ record { status = status; complaint = None } }
-{
-    Ending {
-        status,
-        complaint: None,
-    }
-}
-
-/// This line on standard error, and status 1.
-fn complaining(line: &'static str) -> Ending
-    ensures status { result.status ≡ 1 }
-    ensures line { complaint_in result ≡ Some line.now }
-{
-    Ending {
-        status: 1,
-        complaint: Some(line),
-    }
 }

@@ -3,15 +3,14 @@
 ghost use Rattle.std.specs.Prelude.{◌≡◌, ◌+◌, ◌≤◌, List, ℕ, Some, Err, OnOk, IfOk, IfErr};
 ghost use Rattle.tensor_runner.specs.Line.{IsLineOfRead};
 ghost use Rattle.tensor_runner.specs.Run.{most_reads, TakesAtMost, Answers, CutsShort};
-ghost use Rattle.tensor_runner.specs.Streams.{HasFailed};
+ghost use Rattle.message_server.specs.Streams.{HasFailed};
 
 use crate::answer::{Line, answer};
 use crate::limits::Limits;
 use crate::reading::read_text;
-use crate::sink::Sink;
-use crate::source::Source;
-use crate::status::{Status, StreamFault};
+use crate::status::Status;
 use crate::writing::write_line;
+use message_server::{Sink, Source, StreamFault};
 use std::alloc::Global;
 use std::sync::Wait;
 use std::thread::Threads;

@@ -3,8 +3,6 @@
 #![tactic(auto)]
 
 mod answer;
-mod buffer;
-mod client;
 mod ending;
 mod engine;
 mod evaluation;
@@ -13,28 +11,25 @@ mod limits;
 mod options;
 mod reading;
 mod server;
-mod sink;
-mod source;
 mod stack;
 mod status;
 mod taking;
 mod text;
-mod uninterrupted;
 mod work;
 mod writing;
 
-pub use client::{Client, Connection};
-pub use ending::{Ending, ending_of, serve, serve_lines, serve_lines_within};
+pub use ending::{serve, serve_lines, serve_lines_within};
 pub use engine::{MOST_READ, run};
 pub use evaluation::eval;
 pub use expr_reader::{Request, Tensor};
 pub use limits::{LimitFault, Limits};
+pub use message_server::{
+    Client, Connection, CountedReader, CountedWriter, Ending, Sink, Source, StreamFault,
+    Uninterrupted, ending_of, write_answer,
+};
 pub use options::{Command, VERSION, command_of};
-pub use server::{answer_lines, answer_lines_within, write_answer};
-pub use sink::{CountedWriter, Sink};
-pub use source::{CountedReader, Source};
+pub use server::{answer_lines, answer_lines_within};
 pub use stack::grow_stack;
-pub use status::{RunFault, Status, StreamFault};
+pub use status::{RunFault, Status};
 pub use text::unsigned_text;
-pub use uninterrupted::Uninterrupted;
 pub use work::{over_limits, steps_of};

@@ -4,16 +4,15 @@ ghost use Rattle.std.specs.Prelude.{◌≡◌, ◌+◌, ◌-◌, ◌≤◌, ◌<
 ghost use Rattle.tensor_runner.specs.Kept.{kept_len};
 ghost use Rattle.tensor_runner.specs.Pieces.{IsFrontOf, Takes};
 ghost use Rattle.tensor_runner.specs.Run.{most_reads, TakesAtMost};
-ghost use Rattle.tensor_runner.specs.Streams.{HasFailed};
+ghost use Rattle.message_server.specs.Streams.{HasFailed};
 
 use crate::engine::MOST_READ;
 use crate::kept::KeptText;
-use crate::source::Source;
-use crate::status::StreamFault;
+use message_server::{Source, StreamFault};
 use std::alloc::Global;
 
 /// How many bytes a read asks for.
-pub(crate) const CHUNK: usize = 65_536;
+const CHUNK: usize = 65_536;
 
 /// What is kept of a stream's bytes, read to their end or to the first [`MOST_READ`]. Where a
 /// growth of memory is refused the rest is read all the same: it tells whether the text is too

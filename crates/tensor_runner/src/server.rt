@@ -1,22 +1,18 @@
 //! Answers many requests, a line each.
 
-ghost use Rattle.std.specs.Prelude.{◌≡◌, ◌<◌, ℕ, List, Some, Err, IfOk, IfSome, IfErr, OnOk};
-ghost use Rattle.std.specs.Prelude.{MatchResult, option_map};
-ghost use Rattle.std.specs.Io.KnownBytes.{Appends};
-ghost use Rattle.tensor_runner.specs.History.{IsNew, GoesByLines, writing};
+ghost use Rattle.std.specs.Prelude.{◌≡◌, ℕ, List, Some, Err, IfSome, OnOk};
+ghost use Rattle.tensor_runner.specs.History.{IsNew, GoesByLines};
 ghost use Rattle.tensor_runner.specs.Limited.{AnswersLinesWithin, BreaksOffWithin};
 ghost use Rattle.tensor_runner.specs.Limited.{CutsLinesShortWithin, GoesByLinesWithin};
 ghost use Rattle.tensor_runner.specs.Lines.{lines_of, AnswersLines, BreaksOff, CutsLinesShort};
-ghost use Rattle.tensor_runner.specs.Pieces.{AppendsFront};
 ghost use Rattle.tensor_runner.specs.Server.{IsNothing};
-ghost use Rattle.tensor_runner.specs.Streams.{HasFailed};
+ghost use Rattle.message_server.specs.Streams.{HasFailed};
 
 use crate::answer::answer;
-use crate::buffer::{InputBuffer, NextLine};
-use crate::client::Client;
+use crate::kept::NextLine;
 use crate::limits::Limits;
-use crate::status::StreamFault;
 use crate::taking::next_line;
+use message_server::{Client, InputBuffer, StreamFault, write_answer};
 use std::alloc::Global;
 use std::sync::Wait;
 use std::thread::Threads;
@@ -118,32 +114,4 @@ fn is_nothing(next: &NextLine) -> bool
     ensures { IsNothing next.now result }
 {
     !next.ended && next.kept.len() == 0
-}
-
-/// Writes all these bytes of an answer, by as many writes as it takes. Stops at the first that fails
-/// or takes nothing.
-///
-/// # Errors
-///
-/// [`StreamFault::WriteFault`]. A front of the bytes was written then.
-pub fn write_answer<C: Client>(client: &mut C, line: &[u8]) -> Result<(), StreamFault>
-    ensures ok { OnOk result (Appends (C.contents client.old) (C.contents client.new) line.now) }
-    ensures noted { OnOk result (C.history client.new
-        ≡ option_map (writing line.now) (C.history client.old)) }
-    ensures ok_failures { OnOk result (C.write_failures client.new
-        ≡ C.write_failures client.old) }
-    ensures err { IfErr result (λ fault. (fault ≡ StreamFault.WriteFault)
-        × AppendsFront (C.contents client.old) (C.contents client.new) line.now
-        × HasFailed (C.write_failures client.old) (C.write_failures client.new)) }
-    ensures remaining { C.remaining client.new ≡ C.remaining client.old }
-    ensures read_failures { C.read_failures client.new ≡ C.read_failures client.old }
-{
-    let mut written = 0;
-    while written < line.len() {
-        match client.write(&line[written..]) {
-            Ok(count) if count > 0 => written += count,
-            _ => return Err(StreamFault::WriteFault),
-        }
-    }
-    Ok(())
 }

@@ -2,11 +2,10 @@
 
 ghost use Rattle.std.specs.Prelude.{◌≡◌, ◌<◌, ℕ, List, length, take, OnOk, IfErr};
 ghost use Rattle.std.specs.Io.KnownBytes.{Appends};
-ghost use Rattle.tensor_runner.specs.Pieces.{AppendsFront};
-ghost use Rattle.tensor_runner.specs.Streams.{HasFailed};
+ghost use Rattle.message_server.specs.Pieces.{AppendsFront};
+ghost use Rattle.message_server.specs.Streams.{HasFailed};
 
-use crate::sink::Sink;
-use crate::status::StreamFault;
+use message_server::{Sink, StreamFault};
 
 /// Writes the whole line, by as many writes as it takes. Stops at the first that fails or takes
 /// nothing.

@@ -1,9 +1,9 @@
 use Rattle.std.proofs.Common.{◌+◌, ◌*◌}
-use Rattle.tensor_runner.proofs.InLines.{OnErr-any}
+use Rattle.message_server.proofs.Streams.{OnErr-any}
 use Rattle.frame_server.specs.Frame.{IsUnfinished}
-use Rattle.frame_server.specs.Taking.{IsBelow}
+use Rattle.message_server.specs.Pieces.{IsBelow}
 use Rattle.frame_server.proofs.Parts.{TakesFrame-of, StopsInFrame-behind, unfinished_behind}
-use Rattle.frame_server.proofs.Takings.{owes-on, at_some}
+use Rattle.message_server.proofs.Takings.{owes-on, at_some}
 use Rattle.frame_server.proofs.taking.next_frame.Goals as goal
 
 pub take_rest-requires : goal.take_rest-requires

@@ -1,7 +1,7 @@
 use Rattle.std.proofs.Common.{◌∙◌, ap, take, length, arith, length-append}
 use Rattle.std.proofs.lemmas.List.{length-take-le}
-use Rattle.frame_server.specs.Taking.{pending_bytes}
-use Rattle.frame_server.proofs.Parts.{Takes-wait, Takes-move}
+use Rattle.message_server.specs.Pieces.{pending_bytes}
+use Rattle.message_server.proofs.Takings.{Takes-wait, Takes-move}
 use Rattle.frame_server.proofs.taking.take_header.Goals as goal
 
 pub loop-buffer-preserved : goal.loop-buffer-preserved

@@ -1,6 +1,6 @@
 -- The first bytes of the header were taken, and there is room for all.
 use Rattle.std.proofs.Common.{◌≡◌, ◌≤◌, ◌-◌, length, vec_capacity}
-use Rattle.frame_server.specs.Taking.{pending_bytes, Takes}
+use Rattle.message_server.specs.Pieces.{pending_bytes, Takes}
 use Rattle.frame_server.proofs.taking.take_header.Given as goal
 
 abbrev pub invariant-loop-buffer : goal.invariant-loop-buffer

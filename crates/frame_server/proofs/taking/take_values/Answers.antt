@@ -1,9 +1,10 @@
 use Rattle.std.proofs.Common.{◌*◌, ◌∙◌, ap, refl, take, length, arith, length-append}
-use Rattle.tensor_runner.proofs.InLines.{OnErr-any}
-use Rattle.frame_server.specs.Taking.{pending_bytes, IsBelow, values_of}
+use Rattle.message_server.proofs.Streams.{OnErr-any}
+use Rattle.message_server.specs.Pieces.{pending_bytes, IsBelow}
+use Rattle.frame_server.specs.Taking.{values_of}
 use Rattle.frame_server.proofs.Frames.{length-values_of}
 use Rattle.frame_server.proofs.Parts.{TakesValues-none, TakesValues-wait, TakesValues-move}
-use Rattle.frame_server.proofs.Takings.{FailsIn-on, FailsIn-ends}
+use Rattle.message_server.proofs.Takings.{FailsIn-on, FailsIn-ends}
 use Rattle.frame_server.proofs.taking.take_values.Goals as goal
 
 pub loop-buffer-init : goal.loop-buffer-init

@@ -1,6 +1,7 @@
 -- The first values were taken, and there is room for all.
 use Rattle.std.proofs.Common.{◌≡◌, ◌≤◌, ◌-◌, length, vec_capacity}
-use Rattle.frame_server.specs.Taking.{pending_bytes, TakesValues}
+use Rattle.message_server.specs.Pieces.{pending_bytes}
+use Rattle.frame_server.specs.Taking.{TakesValues}
 use Rattle.frame_server.proofs.taking.take_values.Given as goal
 
 abbrev pub invariant-loop-buffer : goal.invariant-loop-buffer

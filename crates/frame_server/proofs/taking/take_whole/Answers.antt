@@ -1,8 +1,8 @@
 use Rattle.std.proofs.Common.{◌+◌, ◌*◌, [], arith, length-append}
-use Rattle.tensor_runner.proofs.InLines.{OnErr-any}
-use Rattle.frame_server.specs.Taking.{IsBelow, pending_bytes}
+use Rattle.message_server.proofs.Streams.{OnErr-any}
+use Rattle.message_server.specs.Pieces.{IsBelow, pending_bytes}
 use Rattle.frame_server.proofs.Parts.{TakesRest-whole}
-use Rattle.frame_server.proofs.Takings.{Takes-none, owes-on, FailsIn-on}
+use Rattle.message_server.proofs.Takings.{Takes-none, owes-on, FailsIn-on}
 use Rattle.frame_server.proofs.taking.take_whole.Goals as goal
 
 pub take_header-requires-clause-owes : goal.take_header-requires-clause-owes

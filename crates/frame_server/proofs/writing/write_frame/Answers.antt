@@ -2,8 +2,8 @@ use Rattle.std.proofs.Common.{◌≡◌, ◌∙◌, ap, sym, subst, ℕ, List, [
 use Rattle.std.proofs.lemmas.List.{append-nil}
 use Rattle.std.specs.List.{flat_map}
 use Rattle.expr_reader.specs.Contents.{Contents}
-use Rattle.tensor_runner.specs.Pieces.{AppendsFront}
-use Rattle.tensor_runner.proofs.InLines.{OnErr-any}
+use Rattle.message_server.specs.Pieces.{AppendsFront}
+use Rattle.message_server.proofs.Streams.{OnErr-any}
 use Rattle.frame_server.specs.Answering.{bytes_in, values_in}
 use Rattle.frame_server.specs.Frame.{value_bytes}
 use Rattle.frame_server.proofs.Answering.{AppendsFront-more, AppendsFront-behind, OnErr-follows}

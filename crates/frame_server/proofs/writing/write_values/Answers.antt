@@ -1,9 +1,9 @@
 use Rattle.std.proofs.Common.{◌≡◌, ◌+◌, ◌-◌, ◌∙◌, ap, sym, subst, ℕ, List, ◌++◌, take, drop, arith}
 use Rattle.std.specs.List.{flat_map}
 use Rattle.std.specs.Io.KnownBytes.{Appends}
-use Rattle.tensor_runner.proofs.Histories.{writing-more}
-use Rattle.tensor_runner.proofs.InLines.{OnErr-any}
-use Rattle.tensor_runner.proofs.Streams.{Appends-trans}
+use Rattle.message_server.proofs.Histories.{writing-more}
+use Rattle.message_server.proofs.Streams.{OnErr-any}
+use Rattle.message_server.proofs.Streams.{Appends-trans}
 use Rattle.frame_server.specs.Frame.{value_bytes}
 use Rattle.frame_server.proofs.Answering.{AppendsFront-behind, values-parted, values-more}
 use Rattle.frame_server.proofs.writing.write_values.Goals as goal

@@ -2,7 +2,7 @@
 use Rattle.std.proofs.Common.{◌≡◌, ◌≤◌, ◌-◌, length, take, option_map}
 use Rattle.std.specs.List.{flat_map}
 use Rattle.std.specs.Io.KnownBytes.{Appends}
-use Rattle.tensor_runner.specs.History.{writing}
+use Rattle.message_server.specs.History.{writing}
 use Rattle.frame_server.specs.Frame.{value_bytes}
 use Rattle.frame_server.proofs.writing.write_values.Given as goal
 

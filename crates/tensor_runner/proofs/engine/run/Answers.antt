@@ -1,8 +1,8 @@
 use Rattle.std.proofs.Common.{◌≡◌, ℕ, ◌<◌, Some, length, take, ◌∙◌, subst}
 use Rattle.std.specs.Io.KnownBytes.{Appends}
 use Rattle.tensor_runner.specs.Answer.{line_of}
-use Rattle.tensor_runner.specs.Pieces.{AppendsFront}
-use Rattle.tensor_runner.proofs.Streams.{Appends-Some}
+use Rattle.message_server.specs.Pieces.{AppendsFront}
+use Rattle.message_server.proofs.Streams.{Appends-Some}
 use Rattle.tensor_runner.proofs.engine.run.Goals as goal
 
 pub returns-in_err-write_line-clause-cut_short : goal.returns-in_err-write_line-clause-cut_short

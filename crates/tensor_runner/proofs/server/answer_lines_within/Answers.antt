@@ -1,28 +1,28 @@
-use Rattle.std.proofs.Common.{refl, sym, subst, ◌∙◌, Bool, List, ℕ, IfSome}
-use Rattle.tensor_runner.specs.Server.{IsNothing, HasNothing}
-use Rattle.tensor_runner.specs.Taking.{IsCaughtUp}
-use Rattle.tensor_runner.proofs.Histories.{IsCaughtUp-new, owes-in_line}
-use Rattle.tensor_runner.proofs.Serving.{Serves-start, Serves-stops, Serves-quiet, Turn-of, Turn-end, Turn-cut, Turn-last, Turn-more, Turn-caught_up}
+use Rattle.std.proofs.Common.{refl, subst, ◌∙◌, Bool}
+use Rattle.message_server.proofs.Serving.{Serves-start, Serves-owes, Serves-stops}
+use Rattle.tensor_runner.specs.Limited.{lines_within}
+use Rattle.tensor_runner.specs.Server.{IsNothing, HasNothing, by_feeds}
+use Rattle.tensor_runner.proofs.Serving.{laws, Turn-of, Turn-end, Turn-cut, Turn-last, Turn-more}
 use Rattle.tensor_runner.proofs.server.answer_lines_within.Goals as goal
 
 pub loop-turn-init : goal.loop-turn-init
 loop-turn-init g c = (
   tt,
   tt,
-  Serves-start c.args.limits _ _ _ c.new-buffer.ensures,
-  subst (λ (l : List ℕ). IfSome (g.C.Client.history c.args.client.now) (IsCaughtUp c.args.limits l)) (sym c.new-buffer.ensures)
-      (IsCaughtUp-new c.args.limits (g.C.Client.history c.args.client.now) c.requires.new),
+  Serves-start (lines_within c.args.limits) by_feeds (laws c.args.limits) _ _ _ _ c.new-buffer.ensures c.requires.new,
   refl,
   refl,
 )
 
 pub next_line-requires : goal.next_line-requires
-next_line-requires g c = owes-in_line c.args.limits _ _ g.C.Client.owes_nothing c.loop-turn.invariant.3 c.requires.by_lines
+next_line-requires g c =
+    Serves-owes (lines_within c.args.limits) by_feeds (laws c.args.limits) _ _ _ _ _ _ g.C.Client.owes_nothing c.loop-turn.invariant.2 c.requires.by_lines
 
 pub returns-in_err-next-clause-broken_off : goal.returns-in_err-next-clause-broken_off
 returns-in_err-next-clause-broken_off g c = λ text held knows holds failed.
-    let quiet = Serves-quiet c.args.limits _ _ _ _ _ _ c.loop-turn.invariant.2 c.next_line.ensures.contents in
-    Serves-stops c.args.limits _ _ _ _ _ _ text held quiet c.in_err-next.ensures.stops knows holds
+    let stops = c.in_err-next.ensures.stops in
+    Serves-stops (lines_within c.args.limits) by_feeds (laws c.args.limits) _ _ _ _ _ _ _ _ stops.read text held c.loop-turn.invariant.2 stops.consumed stops.kind
+    c.next_line.ensures.contents knows holds
 
 pub returns-then-is_nothing-clause-answered : goal.returns-then-is_nothing-clause-answered
 returns-then-is_nothing-clause-answered g c = λ text held knows holds.
@@ -47,11 +47,10 @@ loop-turn-preserved-else-not-next g c =
     c.as_slice.ensures.value c.is_nothing.ensures c.if-is_nothing.false in (
       tt,
       tt,
-      Turn-more c.args.limits _ _ _ _ _ _ _ _ _ _ _ _ _ _ c.loop-turn.invariant.2 turn c.in_ok-write_answer.ensures.ok c.if-not-next.false
-          c.write_answer.ensures.remaining,
-      Turn-caught_up c.args.limits _ _ _ _ _ _ _ _ _ _ _ c.loop-turn.invariant.3 turn c.in_ok-write_answer.ensures.noted c.if-not-next.false,
-      c.write_answer.ensures.read_failures ∙ c.in_ok-next.ensures.read_failures ∙ c.loop-turn.invariant.4,
-      c.in_ok-write_answer.ensures.ok_failures ∙ c.next_line.ensures.write_failures ∙ c.loop-turn.invariant.5,
+      Turn-more c.args.limits _ _ _ _ _ _ _ _ _ _ _ _ _ _ _ c.loop-turn.invariant.2 turn c.in_ok-write_answer.ensures.ok c.in_ok-write_answer.ensures.noted
+          c.if-not-next.false c.write_answer.ensures.remaining,
+      c.write_answer.ensures.read_failures ∙ c.in_ok-next.ensures.read_failures ∙ c.loop-turn.invariant.3,
+      c.in_ok-write_answer.ensures.ok_failures ∙ c.next_line.ensures.write_failures ∙ c.loop-turn.invariant.4,
     )
 
 pub loop-turn-preserved : goal.loop-turn-preserved
@@ -60,9 +59,8 @@ loop-turn-preserved g c =
     c.as_slice.ensures.value c.is_nothing.ensures c.if-is_nothing.false in (
       tt,
       tt,
-      Turn-more c.args.limits _ _ _ _ _ _ _ _ _ _ _ _ _ _ c.loop-turn.invariant.2 turn c.in_ok-write_answer.ensures.ok c.if-not-next.false
-          c.write_answer.ensures.remaining,
-      Turn-caught_up c.args.limits _ _ _ _ _ _ _ _ _ _ _ c.loop-turn.invariant.3 turn c.in_ok-write_answer.ensures.noted c.if-not-next.false,
-      c.write_answer.ensures.read_failures ∙ c.in_ok-next.ensures.read_failures ∙ c.loop-turn.invariant.4,
-      c.in_ok-write_answer.ensures.ok_failures ∙ c.next_line.ensures.write_failures ∙ c.loop-turn.invariant.5,
+      Turn-more c.args.limits _ _ _ _ _ _ _ _ _ _ _ _ _ _ _ c.loop-turn.invariant.2 turn c.in_ok-write_answer.ensures.ok c.in_ok-write_answer.ensures.noted
+          c.if-not-next.false c.write_answer.ensures.remaining,
+      c.write_answer.ensures.read_failures ∙ c.in_ok-next.ensures.read_failures ∙ c.loop-turn.invariant.3,
+      c.in_ok-write_answer.ensures.ok_failures ∙ c.next_line.ensures.write_failures ∙ c.loop-turn.invariant.4,
     )

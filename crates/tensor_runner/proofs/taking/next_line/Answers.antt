@@ -1,38 +1,39 @@
 use Rattle.std.proofs.Common.{◌∙◌, refl}
-use Rattle.tensor_runner.proofs.InLines.{InLine-start, TakesLine-ended, InLine-open, InLine-owes, InLine-more, TakesLine-last, InLine-stops, OnErr-any}
+use Rattle.message_server.proofs.Streams.{OnErr-any}
+use Rattle.tensor_runner.proofs.InLines.{InLine-start, TakesLine-ended, InLine-open, InLine-owes, InLine-more, TakesLine-last, InLine-stops}
 use Rattle.tensor_runner.proofs.taking.next_line.Goals as goal
 
 pub returns-then-take_piece-clause-line : goal.returns-then-take_piece-clause-line
 returns-then-take_piece-clause-line g c =
     TakesLine-ended _ _ _ _ _ _ _ _ _ c.take_piece.result c.loop-turn.invariant.2 c.if-take_piece.true c.take_piece.ensures
 
-pub refill-requires-clause-owes : goal.refill-requires-clause-owes
-refill-requires-clause-owes g c =
+pub wait_for-requires-clause-owes : goal.wait_for-requires-clause-owes
+wait_for-requires-clause-owes g c =
     let i = InLine-open _ _ _ _ _ _ _ _ _ c.take_piece.result c.loop-turn.invariant.2 c.if-take_piece.false c.take_piece.ensures in
-    InLine-owes _ _ _ _ _ _ g.C.Client.owes_nothing c.requires i
+    InLine-owes _ _ _ _ _ _ _ g.C.Client.owes_nothing c.requires i
 
 pub returns-in_err-more-clause-stops : goal.returns-in_err-more-clause-stops
 returns-in_err-more-clause-stops g c =
     let i = InLine-open _ _ _ _ _ _ _ _ _ c.take_piece.result c.loop-turn.invariant.2 c.if-take_piece.false c.take_piece.ensures in
-    OnErr-any c.from_residual.result (InLine-stops _ _ _ _ _ _ _ i c.in_err-more.ensures.err.1)
+    OnErr-any c.from_residual.result (InLine-stops _ _ _ _ _ _ _ _ i c.in_err-more.ensures.err.1)
 
 pub returns-then-not-more-clause-line : goal.returns-then-not-more-clause-line
 returns-then-not-more-clause-line g c =
     let i = InLine-open _ _ _ _ _ _ _ _ _ c.take_piece.result c.loop-turn.invariant.2 c.if-take_piece.false c.take_piece.ensures in
-    let more = InLine-more _ _ _ _ _ _ _ _ _ i c.in_ok-more.ensures.read in
-    let end = c.in_ok-more.ensures.at_end c.if-not-more.true in
+    let more = InLine-more _ _ _ _ _ _ _ _ _ _ i c.in_ok-more.ensures.read in
+    let end = rw c.if-not-more.true at c.in_ok-more.ensures.enough in
     TakesLine-last _ _ _ _ _ _ _ more end.0 end.1
 
 pub loop-turn-preserved : goal.loop-turn-preserved
 loop-turn-preserved g c =
     let i = InLine-open _ _ _ _ _ _ _ _ _ c.take_piece.result c.loop-turn.invariant.2 c.if-take_piece.false c.take_piece.ensures in
-    let more = InLine-more _ _ _ _ _ _ _ _ _ i c.in_ok-more.ensures.read in (
+    let more = InLine-more _ _ _ _ _ _ _ _ _ _ i c.in_ok-more.ensures.read in (
       tt,
       tt,
       more,
-      c.refill.ensures.contents ∙ c.loop-turn.invariant.3,
+      c.wait_for.ensures.contents ∙ c.loop-turn.invariant.3,
       c.in_ok-more.ensures.read_failures ∙ c.loop-turn.invariant.4,
-      c.refill.ensures.write_failures ∙ c.loop-turn.invariant.5,
+      c.wait_for.ensures.write_failures ∙ c.loop-turn.invariant.5,
     )
 
 pub loop-turn-init : goal.loop-turn-init

@@ -1,6 +1,6 @@
 use Rattle.std.proofs.Common.{◌-◌, length, take, drop, ◌∙◌, arith}
 use Rattle.std.proofs.lemmas.List.{length-take, length-drop}
-use Rattle.tensor_runner.proofs.Streams.{Appends-trans, take-front, failures_after-took_some}
+use Rattle.message_server.proofs.Streams.{Appends-trans, take-front, failures_after-took_some}
 use Rattle.tensor_runner.proofs.writing.write_line.Goals as goal
 
 pub loop-written-preserved : goal.loop-written-preserved

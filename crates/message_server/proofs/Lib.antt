@@ -1,0 +1,5 @@
+pub mod Streams
+pub mod Histories
+pub mod Takings
+pub mod Serving
+pub mod Following

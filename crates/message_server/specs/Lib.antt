@@ -1,0 +1,7 @@
+pub mod Ending
+pub mod History
+pub mod Serving
+pub mod Streams
+-- for private clauses of the crates above
+pub mod Pieces
+pub mod Server

@@ -1,0 +1,38 @@
+//! Writes an answer to a client.
+
+ghost use Rattle.std.specs.Prelude.{◌≡◌, ◌<◌, length, take, IfErr, OnOk, option_map};
+ghost use Rattle.std.specs.Io.KnownBytes.{Appends};
+ghost use Rattle.message_server.specs.History.{writing};
+ghost use Rattle.message_server.specs.Pieces.{AppendsFront};
+ghost use Rattle.message_server.specs.Streams.{HasFailed};
+
+use crate::client::Client;
+use crate::fault::StreamFault;
+
+/// Writes all these bytes of an answer, by as many writes as it takes. Stops at the first that fails
+/// or takes nothing.
+///
+/// # Errors
+///
+/// [`StreamFault::WriteFault`]. A front of the bytes was written then.
+pub fn write_answer<C: Client>(client: &mut C, bytes: &[u8]) -> Result<(), StreamFault>
+    ensures ok { OnOk result (Appends (C.contents client.old) (C.contents client.new) bytes.now) }
+    ensures noted { OnOk result (C.history client.new
+        ≡ option_map (writing bytes.now) (C.history client.old)) }
+    ensures ok_failures { OnOk result (C.write_failures client.new
+        ≡ C.write_failures client.old) }
+    ensures err { IfErr result (λ fault. (fault ≡ StreamFault.WriteFault)
+        × AppendsFront (C.contents client.old) (C.contents client.new) bytes.now
+        × HasFailed (C.write_failures client.old) (C.write_failures client.new)) }
+    ensures remaining { C.remaining client.new ≡ C.remaining client.old }
+    ensures read_failures { C.read_failures client.new ≡ C.read_failures client.old }
+{
+    let mut written = 0;
+    while written < bytes.len() {
+        match client.write(&bytes[written..]) {
+            Ok(count) if count > 0 => written += count,
+            _ => return Err(StreamFault::WriteFault),
+        }
+    }
+    Ok(())
+}
