@@ -1,7 +1,8 @@
 -- Frames of answers, and how they are written.
-use Rattle.std.proofs.Common.{◌≡◌, ◌≢◌, ◌⊎◌, ◌<◌, ◌+◌, ◌-◌, ℕ, ℤ, Bool, true, false, List, [], ◌∷◌, ◌++◌, length, map, take, drop, get_or, set, Option, None, Result, Ok, Err, OnErr}
+use Rattle.std.proofs.Common.{◌≡◌, ◌≢◌, ◌⊎◌, ◌<◌, ◌+◌, ◌-◌, ℕ, ℤ, Bool, true, false, ◌*◌, List, [], ◌∷◌, ◌++◌, length, map, take, drop, get_or, set, Option, Some, None, Result, Ok, Err, OnErr}
 use Rattle.std.proofs.Common.{refl, ap, sym, ◌∙◌, subst, append_assoc, arith, length-append, inl, inr}
-use Rattle.std.specs.Prelude.{nat_lt, MatchResult, if◌then◌else◌}
+use Rattle.std.specs.Prelude.{nat_lt, if◌then◌else◌}
+use Rattle.std.specs.Cow.{cow_slice_items}
 use Rattle.std.specs.List.{flat_map}
 use Rattle.std.proofs.Math.Seq.{take-add, take-append-add}
 use Rattle.std.proofs.Math.Decide.{dec_le}
@@ -21,19 +22,24 @@ use Rattle.expr_reader.specs.Limits.{most_bytes, most_values}
 use Rattle.expr_reader.specs.declared.fault.Fault.{Fault}
 use Rattle.expr_reader.specs.declared.fault.Fault.TheVariants.{TooLong, NoMemory}
 use Rattle.tensor_runner.specs.Answer.{tensor, fault, answer_from, asked_tensor}
+use Rattle.tensor_runner.specs.Journal.{steps_in, HasSteps}
 use Rattle.tensor_runner.specs.Limited.{over_limits, refusal}
+use Rattle.tensor_runner.specs.Work.{steps_of}
+use Rattle.tensor_runner.specs.declared.journal.AnyFault.{AnyFault}
+use Rattle.tensor_runner.specs.declared.journal.AnyFault.TheVariants as any
 use Rattle.tensor_runner.specs.declared.limits.LimitFault.{LimitFault}
 use Rattle.tensor_runner.specs.declared.limits.Limits.{Limits}
 use Rattle.message_server.specs.Pieces.{AppendsFront}
 use Rattle.message_server.proofs.Streams.{Appends-trans}
 use Rattle.frame_server.specs.Answer.{answer_of, answer_bytes, IsAnswerTo, IsShort}
-use Rattle.frame_server.specs.Answering.{front_bytes, bytes_in, IsOwnFrame, IsFaultOf}
-use Rattle.frame_server.specs.Frame.{frame_bytes, frame_in, header_len, value_count, number_bytes, value_bytes, IsWhole}
-use Rattle.frame_server.specs.Limited.{frame_unless, request_in, IsFrameWithin}
+use Rattle.frame_server.specs.Answering.{front_bytes, bytes_in, values_in, Says, IsFrameUnder, IsFaultOf, IsFaultFrame, IsTensorFrame, IsOwnFrame}
+use Rattle.frame_server.specs.Frame.{Frame, frame_bytes, frame_in, header_len, value_count, number_bytes, value_bytes, IsWhole}
+use Rattle.frame_server.specs.Limited.{frame_unless, limit_frame, request_in, IsFrameWithin}
 use Rattle.frame_server.specs.Taking.{IsTooLong, IsPassed, frame_under}
 use Rattle.frame_server.specs.declared.frame.AnswerFrame.{AnswerFrame}
 use Rattle.frame_server.specs.declared.frame.WholeFrame.{WholeFrame}
 use Rattle.frame_server.proofs.Frames.{length-values_of}
+use Rattle.frame_server.proofs.Written.{length-values}
 
 -- the values behind the sizes and the header
 pub front-behind : (header : List ℕ) (values : List ℤ)
@@ -107,7 +113,7 @@ request-long header values (inl long) = by_count (nat_lt most_values (length val
     by_count true = refl
     by_count false = rw (lt-ltb most_bytes (length header) long) refl
 
-length-header : (bytes : List ℕ) → IsWhole bytes → length (take (header_len bytes) (drop 16 bytes)) ≡ header_len bytes
+pub length-header : (bytes : List ℕ) → IsWhole bytes → length (take (header_len bytes) (drop 16 bytes)) ≡ header_len bytes
 length-header bytes whole = length-take-le (header_len bytes) (drop 16 bytes) (omega (arith, whole, length-drop 16 bytes))
 
 too_long : (bytes : List ℕ) → IsWhole bytes → IsTooLong (header_len bytes) (value_count bytes) → answer_of (frame_in bytes) ≡ fault TooLong
@@ -121,23 +127,64 @@ pub IsAnswerTo-passed : (bytes : List ℕ) (f : Fault) → IsWhole bytes → IsP
 IsAnswerTo-passed bytes f whole (inl memory) = inr (ap fault memory.0, memory.1)
 IsAnswerTo-passed bytes f whole (inr long) = inl (ap fault long.0 ∙ sym (too_long bytes whole long.1))
 
--- the frame of the tensor that a frame's request asks for, or of the limit that it is over, or want of memory
-pub IsOwnFrame-asked : (limits : Limits) (bytes : List ℕ) (frame : WholeFrame) (request : Request) (r : Result AnswerFrame Fault)
-    → frame_under frame ≡ frame_in bytes
-    → request_of_frame frame.header.items frame.values.items ≡ Ok (asked_under request)
-    → MatchResult r (λ a. bytes_in a
-    ≡ frame_unless (over_limits limits (asked_under request)) (answer_bytes (tensor (asked_tensor (asked_under request))))) (λ f. f ≡ NoMemory)
-    → IsShort (header_len bytes) (value_count bytes) → MatchResult r (IsOwnFrame limits bytes) (IsFaultOf bytes)
-IsOwnFrame-asked limits bytes frame request (Ok a) same asks written short =
-    let asked : request_in (frame_in bytes) ≡ Ok (asked_under request) = ap request_in (sym same) ∙ asks in
-    written ∙ sym (ap (λ (o : Result Asked Fault). frame_unless (refusal limits o) (answer_bytes (answer_from o))) asked)
-IsOwnFrame-asked limits bytes frame request (Err f) same asks memory short = inr (ap fault memory, short)
+-- how many bytes the frame of an answer has
+pub length-bytes_in : (frame : AnswerFrame) → length (bytes_in frame) ≡ length (cow_slice_items frame.front) + 8 * length (values_in frame.tensor)
+length-bytes_in frame =
+    omega (arith, length-append (cow_slice_items frame.front) (flat_map value_bytes (values_in frame.tensor)), length-values (values_in frame.tensor))
 
--- where a request is over no limit
-pub unlimited : (r : Result AnswerFrame Fault) (o : Option LimitFault) (own : List ℕ) → o ≡ None
-    → MatchResult r (λ a. bytes_in a ≡ own) (λ f. f ≡ NoMemory) → MatchResult r (λ a. bytes_in a ≡ frame_unless o own) (λ f. f ≡ NoMemory)
-unlimited (Ok a) o own none written = written ∙ sym (ap (λ (p : Option LimitFault). frame_unless p own) none)
-unlimited (Err f) o own none memory = memory
+-- how many bytes a frame has that was kept
+pub length-kept : (bytes : List ℕ) (frame : WholeFrame) → IsWhole bytes → frame_under frame ≡ frame_in bytes
+    → 16 + length frame.header.items + 8 * length frame.values.items ≡ length bytes
+length-kept bytes frame whole same =
+    let header : length frame.header.items ≡ header_len bytes = ap (λ (f : Frame). length f.header) same ∙ length-header bytes whole in
+    let values : length frame.values.items ≡ value_count bytes =
+    ap (λ (f : Frame). length f.values) same ∙ length-values_of (value_count bytes) (drop (16 + header_len bytes) bytes) in
+    omega (arith, header, values, whole)
+
+-- what an answer's frame says
+Says-of : (o p : Option AnyFault) (bytes : List ℕ) → o ≡ p → Says bytes p → Says bytes o
+Says-of o p bytes is says = subst (λ (q : Option AnyFault). Says bytes q) (sym is) says
+
+-- the frame that answers a request, given the limit that it is over
+IsFrameUnder-asked : (limits : Limits) (bytes : List ℕ) (a : Asked) (over : Option LimitFault) (frame : AnswerFrame)
+    → request_in (frame_in bytes) ≡ Ok a → over ≡ over_limits limits a → IsOwnFrame over a frame → frame.steps ≡ Some (steps_of a)
+    → IsShort (header_len bytes) (value_count bytes) → IsFrameUnder limits bytes frame
+IsFrameUnder-asked limits bytes a (Some f) frame asks found own steps short =
+    let refused : refusal limits (request_in (frame_in bytes)) ≡ Some f = ap (refusal limits) asks ∙ sym found in
+    record {
+      within = inl (own.0 ∙ sym (ap (λ (o : Option LimitFault). frame_unless o (answer_bytes (answer_of (frame_in bytes)))) refused));
+      says = Says-of frame.fault (Some (any.Limit f)) (bytes_in frame) own.1 own.0;
+      has = inl (steps ∙ sym (ap steps_in asks));
+    }
+IsFrameUnder-asked limits bytes a None frame asks found (inl own) steps short =
+    let refused : refusal limits (request_in (frame_in bytes)) ≡ None = ap (refusal limits) asks ∙ sym found in
+    record {
+      within = inl (own.0 ∙ sym (ap (λ (o : Result Asked Fault). answer_bytes (answer_from o)) asks)
+          ∙ sym (ap (λ (o : Option LimitFault). frame_unless o (answer_bytes (answer_of (frame_in bytes)))) refused));
+      says = Says-of frame.fault None (bytes_in frame) own.1 (asked_tensor a, own.0);
+      has = inl (steps ∙ sym (ap steps_in asks));
+    }
+IsFrameUnder-asked limits bytes a None frame asks found (inr memory) steps short = record {
+  within = inr (memory.bytes, short);
+  says = Says-of frame.fault (Some (any.Request NoMemory)) (bytes_in frame) memory.fault memory.bytes;
+  has = inl (steps ∙ sym (ap steps_in asks));
+}
+
+pub IsFrameUnder-own : (limits : Limits) (bytes : List ℕ) (kept : WholeFrame) (request : Request) (frame : AnswerFrame)
+    → frame_under kept ≡ frame_in bytes
+    → request_of_frame kept.header.items kept.values.items ≡ Ok (asked_under request)
+    → IsOwnFrame (over_limits limits (asked_under request)) (asked_under request) frame → frame.steps ≡ Some (steps_of (asked_under request))
+    → IsShort (header_len bytes) (value_count bytes) → IsFrameUnder limits bytes frame
+IsFrameUnder-own limits bytes kept request frame same asks own steps short =
+    IsFrameUnder-asked limits bytes (asked_under request) (over_limits limits (asked_under request)) frame (ap request_in (sym same) ∙ asks) refl own steps short
+
+-- the frame of a limit, or of what is asked for where there is none
+pub IsOwnFrame-limit : (over : Option LimitFault) (f : LimitFault) (a : Asked) (frame : AnswerFrame) → over ≡ Some f → bytes_in frame ≡ limit_frame f
+    → frame.fault ≡ Some (any.Limit f) → IsOwnFrame over a frame
+IsOwnFrame-limit over f a frame is bytes says = subst (λ (o : Option LimitFault). IsOwnFrame o a frame) (sym is) (bytes, says)
+
+pub IsOwnFrame-tensor : (over : Option LimitFault) (a : Asked) (frame : AnswerFrame) → over ≡ None → IsTensorFrame (asked_tensor a) frame → IsOwnFrame over a frame
+IsOwnFrame-tensor over a frame is own = subst (λ (o : Option LimitFault). IsOwnFrame o a frame) (sym is) own
 
 -- the frame of a fault
 fault_is_no_tensor : (f : Fault) (t : Contents) → fault f ≡ tensor t → ⊥
@@ -148,10 +195,31 @@ fault-frame : (limits : Limits) (r : Result Asked Fault) (f : Fault) → fault f
 fault-frame limits (Ok a) f is = absurd (fault_is_no_tensor f (asked_tensor a) is)
 fault-frame limits (Err g) f is = ap answer_bytes is
 
-pub IsFrameWithin-fault : (limits : Limits) (bytes : List ℕ) (f : Fault) (answer : List ℕ) → IsFaultOf bytes f → answer ≡ answer_bytes (fault f)
+IsFrameWithin-fault : (limits : Limits) (bytes : List ℕ) (f : Fault) (answer : List ℕ) → IsFaultOf bytes f → answer ≡ answer_bytes (fault f)
     → IsFrameWithin limits bytes answer
 IsFrameWithin-fault limits bytes f answer (inl own) is = inl (is ∙ fault-frame limits (request_in (frame_in bytes)) f own)
 IsFrameWithin-fault limits bytes f answer (inr memory) is = inr (is ∙ ap answer_bytes memory.0, memory.1)
+
+-- what is no request has no steps
+steps-fault : (r : Result Asked Fault) (f : Fault) → fault f ≡ answer_from r → steps_in r ≡ None
+steps-fault (Ok a) f is = absurd (fault_is_no_tensor f (asked_tensor a) is)
+steps-fault (Err g) f is = refl
+
+memory_of : (f : Fault) → fault f ≡ fault NoMemory → f ≡ NoMemory
+memory_of f is = cc
+
+HasSteps-none : (bytes : List ℕ) (f : Fault) (o : Option AnyFault) (steps : Option ℕ) → IsFaultOf bytes f → o ≡ Some (any.Request f) → steps ≡ None
+    → HasSteps (request_in (frame_in bytes)) o steps
+HasSteps-none bytes f o steps (inl own) is none = inl (none ∙ sym (steps-fault (request_in (frame_in bytes)) f own))
+HasSteps-none bytes f o steps (inr memory) is none = inr (is ∙ ap (λ (g : Fault). Some (any.Request g)) (memory_of f memory.0), none)
+
+pub IsFrameUnder-fault : (limits : Limits) (bytes : List ℕ) (f : Fault) (frame : AnswerFrame) → IsFaultOf bytes f → IsFaultFrame f frame → frame.steps ≡ None
+    → IsFrameUnder limits bytes frame
+IsFrameUnder-fault limits bytes f frame of is none = record {
+  within = IsFrameWithin-fault limits bytes f (bytes_in frame) of is.bytes;
+  says = Says-of frame.fault (Some (any.Request f)) (bytes_in frame) is.fault is.bytes;
+  has = HasSteps-none bytes f frame.fault frame.steps of is.fault none;
+}
 
 -- the first fault of a frame, or want of memory
 pub IsFaultOf-asked : (bytes : List ℕ) (frame : WholeFrame) (f : Fault) → frame_under frame ≡ frame_in bytes

@@ -119,8 +119,8 @@ IsKept-head front bytes head (Whole frame) sixteen told kept = (
       ∙ sym (frame_in-head front bytes sixteen),
   on_frame IsShort front bytes head sixteen told kept.1,
 )
-IsKept-head front bytes head (Passed fault) sixteen told passed =
-    on_frame (λ h v. IsPassed h v fault) front bytes head sixteen told passed
+IsKept-head front bytes head (Passed fault len) sixteen told passed =
+    on_frame (λ h v. IsPassed h v fault × (len ≡ 16 + h + 8 * v)) front bytes head sixteen told (passed.0, omega (arith, passed.1))
 
 -- a frame
 pub TakesFrame-of : (a b c : Option (List ℕ)) (h k m : Option History) (old mid new : List ℕ) (head : Head) (next : NextFrame)

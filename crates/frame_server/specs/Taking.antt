@@ -11,7 +11,7 @@ use Rattle.message_server.specs.History.{History}
 use Rattle.message_server.specs.Pieces.{Takes}
 use Rattle.message_server.specs.Streams.{HasFailed}
 use Rattle.frame_server.specs.Answer.{IsShort}
-use Rattle.frame_server.specs.Frame.{Frame, IsWhole, IsUnfinished, frame_in, value_of}
+use Rattle.frame_server.specs.Frame.{Frame, IsWhole, IsUnfinished, frame_in, value_of, frame_len}
 use Rattle.frame_server.specs.Frame.{header_len, value_count}
 use Rattle.frame_server.specs.declared.frame.Head.{Head}
 use Rattle.frame_server.specs.declared.frame.WholeFrame.{WholeFrame}
@@ -77,14 +77,17 @@ IsPassed header_len value_count fault =
     ((fault ≡ NoMemory) × IsShort header_len value_count)
     ⊎ ((fault ≡ TooLong) × IsTooLong header_len value_count)
 
--- what is kept of a frame's bytes, given what stands behind its head: all, or why nothing is
+-- what is kept of a frame's bytes, given what stands behind its head: all, or why nothing is and how
+-- many bytes the frame has
 abbrev pub IsKeptRest : Head → List ℕ → NextFrame → Type 0
 IsKeptRest head bytes (Whole frame) =
     (frame_under frame ≡ record {
       header = take head.header_len bytes;
       values = values_of head.value_count (drop head.header_len bytes);
     }) × IsShort head.header_len head.value_count
-IsKeptRest head bytes (Passed fault) = IsPassed head.header_len head.value_count fault
+IsKeptRest head bytes (Passed fault len) =
+    IsPassed head.header_len head.value_count fault
+    × (len ≡ 16 + (head.header_len + 8 * head.value_count))
 
 -- what stands behind a frame's head was taken
 pub record TakesRest (before after : Option (List ℕ)) (h k : Option History)
@@ -94,11 +97,12 @@ pub record TakesRest (before after : Option (List ℕ)) (h k : Option History)
   pub counted : length bytes ≡ head.header_len + 8 * head.value_count
   pub kept : IsKeptRest head bytes next
 
--- what is kept of a frame: all, or why nothing is
+-- what is kept of a frame: all, or why nothing is and how many bytes it has
 abbrev pub IsKept : List ℕ → NextFrame → Type 0
 IsKept bytes (Whole frame) =
     (frame_under frame ≡ frame_in bytes) × IsShort (header_len bytes) (value_count bytes)
-IsKept bytes (Passed fault) = IsPassed (header_len bytes) (value_count bytes) fault
+IsKept bytes (Passed fault len) =
+    IsPassed (header_len bytes) (value_count bytes) fault × (len ≡ frame_len bytes)
 
 -- a whole frame was taken
 pub record TakesFrame (before after : Option (List ℕ)) (h k : Option History)

@@ -1,16 +1,18 @@
 //! The frame that answers a frame, whole in memory before it is written.
 
-ghost use Rattle.std.specs.Prelude.{◌≡◌, ◌⊎◌, ℕ, List, Ok, Err, length, IfOk, MatchResult};
+ghost use Rattle.std.specs.Prelude.{◌≡◌, ◌⊎◌, ℕ, List, Ok, Err, Some, None, length, IfOk};
+ghost use Rattle.std.specs.Prelude.{MatchResult};
 ghost use Rattle.expr_reader.specs.Asked.{asked_under};
 ghost use Rattle.expr_reader.specs.Frame.{request_of_frame};
 ghost use Rattle.frame_server.specs.Answer.{answer_bytes, dims_text, fault_text, IsShort};
-ghost use Rattle.frame_server.specs.Answering.{IsOwnFrame, IsFaultOf};
-ghost use Rattle.frame_server.specs.Answering.{front_bytes, bytes_in, IsRefusal};
+ghost use Rattle.frame_server.specs.Answering.{front_bytes, bytes_in, entry_of, IsOwnFrame, IsFaultOf};
+ghost use Rattle.frame_server.specs.Answering.{IsFrameUnder, IsTensorFrame, IsRefusal};
 ghost use Rattle.frame_server.specs.Frame.{IsWhole, frame_in, header_len, value_count};
-ghost use Rattle.frame_server.specs.Limited.{IsFrameWithin, frame_unless, limit_frame};
+ghost use Rattle.frame_server.specs.Limited.{limit_frame};
 ghost use Rattle.frame_server.specs.Taking.{IsKept, frame_under};
 ghost use Rattle.tensor_runner.specs.Limited.{over_limits};
-ghost use Rattle.tensor_runner.specs.Answer.{tensor, fault, asked_tensor};
+ghost use Rattle.tensor_runner.specs.Answer.{fault, asked_tensor};
+ghost use Rattle.tensor_runner.specs.Work.{steps_of};
 
 use crate::frame::{AnswerFrame, NextFrame, WholeFrame};
 use expr_reader::{Fault, Request, Tensor, read_frame};
@@ -18,7 +20,9 @@ use std::alloc::{AllocError, Global};
 use std::borrow::CowSlice;
 use std::sync::Wait;
 use std::thread::Threads;
-use tensor_runner::{LimitFault, Limits, RunFault, eval, over_limits, unsigned_text};
+use tensor_runner::{
+    AnyFault, Entry, LimitFault, Limits, RunFault, eval, over_limits, steps_of, unsigned_text,
+};
 
 /// What stands before the values where there is no memory, which takes none: no values, and a
 /// header of 17 bytes.
@@ -32,6 +36,18 @@ const TOO_MANY_WORKERS: &[u8] = b"\x17\0\0\0\0\0\0\0\0\0\0\0\0\0\0\0error 19 Too
 
 const TOO_MANY_STEPS: &[u8] = b"\x15\0\0\0\0\0\0\0\0\0\0\0\0\0\0\0error 20 TooManySteps";
 
+/// What is noted of a frame of so many bytes and of the frame that answers it.
+pub(crate) fn entry_of(bytes: u128, frame: &AnswerFrame) -> Entry
+    ensures { result ≡ entry_of bytes frame.now }
+{
+    Entry {
+        bytes,
+        answered: frame.len(),
+        fault: frame.fault,
+        steps: frame.steps,
+    }
+}
+
 /// The frame that answers one, under limits.
 pub(crate) fn answer<RT: Threads + Wait + Sync>(
     rt: &RT,
@@ -40,7 +56,7 @@ pub(crate) fn answer<RT: Threads + Wait + Sync>(
     next: NextFrame,
 ) -> AnswerFrame
     ensures { (bytes : List ℕ) → IsWhole bytes → IsKept bytes next
-        → IsFrameWithin limits bytes (bytes_in result) }
+        → IsFrameUnder limits bytes result }
 {
     match answered(rt, alloc, limits, next) {
         Ok(frame) => frame,
@@ -56,11 +72,11 @@ fn answered<RT: Threads + Wait + Sync>(
     next: NextFrame,
 ) -> Result<AnswerFrame, Fault>
     ensures { (bytes : List ℕ) → IsWhole bytes → IsKept bytes next
-        → MatchResult result (IsOwnFrame limits bytes) (IsFaultOf bytes) }
+        → MatchResult result (IsFrameUnder limits bytes) (IsFaultOf bytes) }
 {
     match next {
         NextFrame::Whole(frame) => answered_whole(rt, alloc, limits, frame),
-        NextFrame::Passed(fault) => Err(fault),
+        NextFrame::Passed(fault, _) => Err(fault),
     }
 }
 
@@ -73,81 +89,93 @@ fn answered_whole<RT: Threads + Wait + Sync>(
 ) -> Result<AnswerFrame, Fault>
     ensures { (bytes : List ℕ) → frame_under frame ≡ frame_in bytes
         → IsShort (header_len bytes) (value_count bytes)
-        → MatchResult result (IsOwnFrame limits bytes) (IsFaultOf bytes) }
+        → MatchResult result (IsFrameUnder limits bytes) (IsFaultOf bytes) }
 {
     match requested(alloc, &frame) {
-        Ok(request) => own_frame(rt, alloc, limits, &request),
+        Ok(request) => Ok(own_frame(rt, alloc, limits, &request)),
         Err(fault) => Err(fault),
     }
 }
 
-/// The frame of the tensor that a request asks for, or of the limit that it is over, or want of
+/// The frame of the tensor that a request asks for, or of the limit that it is over, or of want of
 /// memory.
 fn own_frame<RT: Threads + Wait + Sync>(
     rt: &RT,
     alloc: Global,
     limits: Limits,
     request: &Request<'_>,
-) -> Result<AnswerFrame, Fault>
-    ensures { MatchResult result (λ frame. bytes_in frame
-        ≡ frame_unless (over_limits limits (asked_under request.now))
-        (answer_bytes (tensor (asked_tensor (asked_under request.now)))))
-        (λ fault. fault ≡ Fault.NoMemory) }
+) -> AnswerFrame
+    ensures frame { IsOwnFrame (over_limits limits (asked_under request.now))
+        (asked_under request.now) result }
+    ensures steps { result.steps ≡ Some (steps_of (asked_under request.now)) }
 {
-    match over_limits(limits, request) {
-        Some(fault) => Ok(limit_frame(fault)),
-        None => tensor_frame(rt, alloc, request),
+    let steps = steps_of(request);
+    match over_limits(limits, request, steps) {
+        Some(fault) => limit_frame(fault, steps),
+        None => tensor_frame(rt, alloc, request, steps),
     }
 }
 
-/// The frame of a limit, which takes no memory.
-fn limit_frame(fault: LimitFault) -> AnswerFrame
-    ensures { bytes_in result ≡ limit_frame fault }
+/// The frame of a limit that a request of so many steps is over, which takes no memory.
+fn limit_frame(fault: LimitFault, steps: u128) -> AnswerFrame
+    ensures bytes { bytes_in result ≡ limit_frame fault }
+    ensures fault { result.fault ≡ Some (AnyFault.Limit fault) }
+    ensures steps { result.steps ≡ Some steps }
 {
     match fault {
-        LimitFault::TooManyWorkers => too_many_workers(),
-        LimitFault::TooManySteps => too_many_steps(),
+        LimitFault::TooManyWorkers => too_many_workers(steps),
+        LimitFault::TooManySteps => too_many_steps(steps),
     }
 }
 
-fn too_many_workers() -> AnswerFrame
-    ensures { bytes_in result ≡ limit_frame LimitFault.TooManyWorkers }
+fn too_many_workers(steps: u128) -> AnswerFrame
+    ensures bytes { bytes_in result ≡ limit_frame LimitFault.TooManyWorkers }
+    ensures fault { result.fault ≡ Some (AnyFault.Limit LimitFault.TooManyWorkers) }
+    ensures steps { result.steps ≡ Some steps }
 {
     AnswerFrame {
         front: CowSlice::Borrowed(TOO_MANY_WORKERS),
         tensor: None,
+        fault: Some(AnyFault::Limit(LimitFault::TooManyWorkers)),
+        steps: Some(steps),
     }
 }
 
-fn too_many_steps() -> AnswerFrame
-    ensures { bytes_in result ≡ limit_frame LimitFault.TooManySteps }
+fn too_many_steps(steps: u128) -> AnswerFrame
+    ensures bytes { bytes_in result ≡ limit_frame LimitFault.TooManySteps }
+    ensures fault { result.fault ≡ Some (AnyFault.Limit LimitFault.TooManySteps) }
+    ensures steps { result.steps ≡ Some steps }
 {
     AnswerFrame {
         front: CowSlice::Borrowed(TOO_MANY_STEPS),
         tensor: None,
+        fault: Some(AnyFault::Limit(LimitFault::TooManySteps)),
+        steps: Some(steps),
     }
 }
 
-/// The frame of the tensor that a request asks for, or want of memory.
+/// The frame of the tensor that a request of so many steps asks for, or of want of memory.
 fn tensor_frame<RT: Threads + Wait + Sync>(
     rt: &RT,
     alloc: Global,
     request: &Request,
-) -> Result<AnswerFrame, Fault>
-    ensures { MatchResult result (λ frame. bytes_in frame
-        ≡ answer_bytes (tensor (asked_tensor (asked_under request.now))))
-        (λ fault. fault ≡ Fault.NoMemory) }
+    steps: u128,
+) -> AnswerFrame
+    ensures frame { IsTensorFrame (asked_tensor (asked_under request.now)) result }
+    ensures steps { result.steps ≡ Some steps }
 {
     let tensor = match eval(rt, alloc, request) {
         Ok(tensor) => tensor,
-        Err(RunFault::NoMemory) => return Err(Fault::NoMemory),
+        Err(RunFault::NoMemory) => return no_memory(Some(steps)),
     };
     match front_of(alloc, &tensor) {
-        Ok(front) => Ok(AnswerFrame {
+        Ok(front) => AnswerFrame {
             front: CowSlice::Owned(front),
             tensor: Some(tensor),
-        }),
-        Err(_) => Err(Fault::NoMemory),
+            fault: None,
+            steps: Some(steps),
+        },
+        Err(_) => no_memory(Some(steps)),
     }
 }
 
@@ -184,7 +212,8 @@ fn front_with(alloc: Global, header: &[u8], value_count: usize) -> Result<Vec<u8
 
 /// The frame of a fault, or of want of memory. That of a frame that is too long wants none.
 fn refusal(alloc: Global, fault: Fault) -> AnswerFrame
-    ensures { IsRefusal fault result }
+    ensures fault { IsRefusal fault result }
+    ensures steps { result.steps ≡ None }
 {
     if fault == Fault::TooLong {
         return too_long();
@@ -193,28 +222,38 @@ fn refusal(alloc: Global, fault: Fault) -> AnswerFrame
         Ok(front) => AnswerFrame {
             front: CowSlice::Owned(front),
             tensor: None,
+            fault: Some(AnyFault::Request(fault)),
+            steps: None,
         },
-        Err(_) => no_memory(),
+        Err(_) => no_memory(None),
     }
 }
 
-/// The frame of want of memory, which takes none.
-fn no_memory() -> AnswerFrame
-    ensures { bytes_in result ≡ answer_bytes (fault Fault.NoMemory) }
+/// The frame of want of memory, which takes none, for a request of so many steps, if they are known.
+fn no_memory(steps: Option<u128>) -> AnswerFrame
+    ensures bytes { bytes_in result ≡ answer_bytes (fault Fault.NoMemory) }
+    ensures fault { result.fault ≡ Some (AnyFault.Request Fault.NoMemory) }
+    ensures steps { result.steps ≡ steps }
 {
     AnswerFrame {
         front: CowSlice::Borrowed(NO_MEMORY),
         tensor: None,
+        fault: Some(AnyFault::Request(Fault::NoMemory)),
+        steps,
     }
 }
 
 /// The frame of one that is too long, which takes no memory.
 fn too_long() -> AnswerFrame
-    ensures { bytes_in result ≡ answer_bytes (fault Fault.TooLong) }
+    ensures bytes { bytes_in result ≡ answer_bytes (fault Fault.TooLong) }
+    ensures fault { result.fault ≡ Some (AnyFault.Request Fault.TooLong) }
+    ensures steps { result.steps ≡ None }
 {
     AnswerFrame {
         front: CowSlice::Borrowed(TOO_LONG),
         tensor: None,
+        fault: Some(AnyFault::Request(Fault::TooLong)),
+        steps: None,
     }
 }
 

@@ -11,6 +11,6 @@ mod server;
 mod taking;
 mod writing;
 
-pub use ending::{serve_frames, serve_frames_within};
+pub use ending::{serve_frames, serve_frames_logged, serve_frames_within};
 pub use laws::{bytes_part_in_one_way, frames_are_read_as_written};
-pub use server::{answer_frames, answer_frames_within};
+pub use server::{answer_frames, answer_frames_logged, answer_frames_within};

@@ -8,14 +8,14 @@ ghost use Rattle.frame_server.specs.Stream.{CutsFramesShort, StopsReading};
 ghost use Rattle.message_server.specs.History.{IsNew};
 ghost use Rattle.message_server.specs.Streams.{HasFailed};
 
-use crate::answer::answer;
+use crate::answer::{answer, entry_of};
 use crate::taking::next_frame;
 use crate::writing::{OutputBuffer, write_frame};
 use message_server::{Client, InputBuffer, StreamFault};
 use std::alloc::Global;
 use std::sync::Wait;
 use std::thread::Threads;
-use tensor_runner::Limits;
+use tensor_runner::{Journal, Limits, Service, Silent};
 
 /// Answers each frame of the client's, in order, by the frame of the tensor that its request's
 /// workers work out, or of its first fault, until the client's bytes end. Each answer is written
@@ -96,14 +96,65 @@ pub fn answer_frames_within<RT: Threads + Wait + Sync, C: Client>(
     ensures no_failure { OnOk result ((C.read_failures client.new ≡ C.read_failures client.old)
         × (C.write_failures client.new ≡ C.write_failures client.old)) }
 {
+    let service = Service {
+        limits,
+        journal: Silent,
+    };
+    answer_frames_logged(rt, alloc, service, client)
+}
+
+/// Answers each frame of the client's as [`answer_frames_within`] does, and notes each of them in the
+/// service's journal, in order: when it is read, and what it was answered once that is written.
+///
+/// # Errors
+///
+/// As [`answer_frames`].
+pub fn answer_frames_logged<RT: Threads + Wait + Sync, C: Client, J: Journal + Drop>(
+    rt: &RT,
+    alloc: Global,
+    service: Service<J>,
+    client: &mut C,
+) -> Result<(), StreamFault>
+    requires by_frames { GoesByFramesWithin service.limits C.owes_nothing }
+    requires new { IfSome (C.history client.old) IsNew }
+
+    ensures answered { (stream held : List ℕ) → C.remaining client.old ≡ Some stream
+        → C.contents client.old ≡ Some held
+        → OnOk result (AnswersFramesWithin service.limits stream held (C.contents client.new)) }
+    // Nothing of a frame is answered that isn't whole.
+    ensures broken_off { (stream held : List ℕ) → C.remaining client.old ≡ Some stream
+        → C.contents client.old ≡ Some held → result ≡ Err StreamFault.ReadFault
+        → BreaksOffWithin service.limits stream held (C.remaining client.new)
+        (C.contents client.new) }
+    ensures cut_short { (stream held : List ℕ) → C.remaining client.old ≡ Some stream
+        → C.contents client.old ≡ Some held → result ≡ Err StreamFault.WriteFault
+        → CutsFramesShortWithin service.limits stream held (C.contents client.new) }
+
+    ensures read_fault { result ≡ Err StreamFault.ReadFault
+        → StopsReading (C.read_failures client.old) (C.read_failures client.new)
+        (C.remaining client.old) (C.remaining client.new)
+        × (C.write_failures client.new ≡ C.write_failures client.old) }
+    ensures write_fault { result ≡ Err StreamFault.WriteFault
+        → (C.read_failures client.new ≡ C.read_failures client.old)
+        × HasFailed (C.write_failures client.old) (C.write_failures client.new) }
+    ensures no_failure { OnOk result ((C.read_failures client.new ≡ C.read_failures client.old)
+        × (C.write_failures client.new ≡ C.write_failures client.old)) }
+{
+    let Service {
+        limits,
+        mut journal,
+    } = service;
     let mut buffer = InputBuffer::new();
     let mut room = OutputBuffer::new();
     for turn in rt.forever() {
         let Some(next) = next_frame(alloc, client, &mut buffer)? else {
             return Ok(());
         };
+        journal.begin();
+        let length = next.len();
         let frame = answer(rt, alloc, limits, next);
         write_frame(alloc, client, &mut room, &frame)?;
+        journal.end(&entry_of(length, &frame));
     }
     unreachable!()
 }

@@ -101,7 +101,7 @@ fn take_rest<C: Client>(
         Err(fault) => {
             let count = u128::from(head.header_len) + 8 * u128::from(head.value_count);
             pass_over(client, buffer, count)?;
-            Ok(NextFrame::Passed(fault))
+            Ok(NextFrame::Passed(fault, 16 + count))
         }
     }
 }

@@ -1,25 +1,23 @@
 //! Answers the requests of standard input, a frame each, on standard output, a frame each, until the
-//! input ends, as `frame_server` says. Its options are limits.
+//! input ends, as `frame_server` says. Its options are limits, and whether each
+//! request is noted on standard error.
 #![tactic(auto)]
 
-use frame_server::serve_frames_within;
+use frame_server::{serve_frames_logged, serve_frames_within};
+use std::io::BufWriter;
 use std::process::ExitCode;
+use std::rt::Env;
 use std::{env, io};
 use tensor_runner::{
-    Command, Connection, CountedReader, CountedWriter, Uninterrupted, VERSION, command_of,
-    grow_stack,
+    Command, Connection, CountedReader, CountedWriter, LineJournal, Service, Uninterrupted,
+    VERSION, command_of, grow_stack,
 };
 
-const USAGE: &str = "usage: tensor_frames [--most-workers N] [--most-steps N] < FRAMES\n";
+const USAGE: &str = "usage: tensor_frames [--most-workers N] [--most-steps N] [--log] < FRAMES\n";
 
 fn main(rt: HostRuntime) -> io::Result<ExitCode> {
-    let given: Vec<String> = env::args(&rt)?.skip(1).collect(rt.alloc())?;
-    let mut words = Vec::new(rt.alloc());
-    for word in &given {
-        words.push(word.as_str())?;
-    }
-    let limits = match command_of(&words) {
-        Some(Command::Serve(limits)) => limits,
+    let options = match asked(&rt)? {
+        Some(Command::Serve(options)) => options,
         Some(Command::Help) => {
             print!(rt; "{USAGE}")?;
             return Ok(ExitCode::from(0));
@@ -40,9 +38,26 @@ fn main(rt: HostRuntime) -> io::Result<ExitCode> {
         }),
     };
     grow_stack(&rt, &mut client.source.reader);
-    let ending = serve_frames_within(&rt, rt.alloc(), limits, &mut client);
+    let limits = options.limits;
+    let ending = if options.log {
+        let writer = BufWriter::new(rt.alloc(), rt.stderr())?;
+        let journal = LineJournal::new(writer, rt.clone()?);
+        serve_frames_logged(&rt, rt.alloc(), Service { limits, journal }, &mut client)
+    } else {
+        serve_frames_within(&rt, rt.alloc(), limits, &mut client)
+    };
     if let Some(complaint) = ending.complaint {
         eprint!(rt; "{complaint}")?;
     }
     Ok(ExitCode::from(ending.status))
+}
+
+/// What the words behind the program's name ask for.
+fn asked<R: Env + AllocGlobal>(rt: &R) -> io::Result<Option<Command>> {
+    let given: Vec<String> = env::args(rt)?.skip(1).collect(rt.alloc())?;
+    let mut words = Vec::new(rt.alloc());
+    for word in &given {
+        words.push(word.as_str())?;
+    }
+    Ok(command_of(&words))
 }

@@ -1,24 +1,22 @@
 //! Answers the requests of standard input, a line each, on standard output, a line each, until the
-//! input ends, as `tensor_runner` says. Its options are limits.
+//! input ends, as `tensor_runner` says. Its options are limits, and whether each
+//! request is noted on standard error.
 #![tactic(auto)]
 
+use std::io::BufWriter;
 use std::process::ExitCode;
+use std::rt::Env;
 use std::{env, io};
 use tensor_runner::{
-    Command, Connection, CountedReader, CountedWriter, Uninterrupted, VERSION, command_of,
-    grow_stack, serve_lines_within,
+    Command, Connection, CountedReader, CountedWriter, LineJournal, Service, Uninterrupted,
+    VERSION, command_of, grow_stack, serve_lines_logged, serve_lines_within,
 };
 
-const USAGE: &str = "usage: tensor_lines [--most-workers N] [--most-steps N] < LINES\n";
+const USAGE: &str = "usage: tensor_lines [--most-workers N] [--most-steps N] [--log] < LINES\n";
 
 fn main(rt: HostRuntime) -> io::Result<ExitCode> {
-    let given: Vec<String> = env::args(&rt)?.skip(1).collect(rt.alloc())?;
-    let mut words = Vec::new(rt.alloc());
-    for word in &given {
-        words.push(word.as_str())?;
-    }
-    let limits = match command_of(&words) {
-        Some(Command::Serve(limits)) => limits,
+    let options = match asked(&rt)? {
+        Some(Command::Serve(options)) => options,
         Some(Command::Help) => {
             print!(rt; "{USAGE}")?;
             return Ok(ExitCode::from(0));
@@ -39,9 +37,26 @@ fn main(rt: HostRuntime) -> io::Result<ExitCode> {
         }),
     };
     grow_stack(&rt, &mut client.source.reader);
-    let ending = serve_lines_within(&rt, rt.alloc(), limits, &mut client);
+    let limits = options.limits;
+    let ending = if options.log {
+        let writer = BufWriter::new(rt.alloc(), rt.stderr())?;
+        let journal = LineJournal::new(writer, rt.clone()?);
+        serve_lines_logged(&rt, rt.alloc(), Service { limits, journal }, &mut client)
+    } else {
+        serve_lines_within(&rt, rt.alloc(), limits, &mut client)
+    };
     if let Some(complaint) = ending.complaint {
         eprint!(rt; "{complaint}")?;
     }
     Ok(ExitCode::from(ending.status))
+}
+
+/// What the words behind the program's name ask for.
+fn asked<R: Env + AllocGlobal>(rt: &R) -> io::Result<Option<Command>> {
+    let given: Vec<String> = env::args(rt)?.skip(1).collect(rt.alloc())?;
+    let mut words = Vec::new(rt.alloc());
+    for word in &given {
+        words.push(word.as_str())?;
+    }
+    Ok(command_of(&words))
 }

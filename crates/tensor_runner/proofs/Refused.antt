@@ -4,17 +4,20 @@ use Rattle.std.proofs.Common.{refl, ap, sym, subst, ◌∙◌, inl, inr}
 use Rattle.std.proofs.Math.Decide.{dec_le}
 use Rattle.std.proofs.Math.Nat.{lt_of_not-le}
 use Rattle.std.specs.Cow.{cow_slice_items}
-use Rattle.std.specs.Prelude.{MatchResult}
 use Rattle.expr_reader.specs.Contents.{Contents}
 use Rattle.expr_reader.specs.Limits.{most_bytes}
 use Rattle.expr_reader.specs.Request.{Asked, request_of}
 use Rattle.expr_reader.specs.declared.fault.Fault.{Fault}
 use Rattle.expr_reader.specs.declared.request.Request.{Request}
 use Rattle.expr_reader.specs.declared.fault.Fault.TheVariants.{TooLong, NoMemory}
-use Rattle.tensor_runner.specs.Answer.{tensor, fault, answer_of, answer_from, asked_tensor, line_of, fault_line}
+use Rattle.tensor_runner.specs.Answer.{tensor, fault, answer_of, answer_from, asked_tensor, line_of, tensor_line, fault_line}
+use Rattle.tensor_runner.specs.Journal.{any_line, Says, steps_in, HasSteps}
 use Rattle.tensor_runner.specs.Limited.{over_limits, refusal, line_unless, limit_line, IsLineWithin}
-use Rattle.tensor_runner.specs.Line.{IsFaultOf, IsLineOf, IsLineUnder}
+use Rattle.tensor_runner.specs.Line.{IsFaultOf, IsFaultLine, IsLineUnder}
+use Rattle.tensor_runner.specs.Work.{steps_of}
 use Rattle.tensor_runner.specs.declared.answer.Line.{Line}
+use Rattle.tensor_runner.specs.declared.journal.AnyFault.{AnyFault}
+use Rattle.tensor_runner.specs.declared.journal.AnyFault.TheVariants as any
 use Rattle.tensor_runner.specs.declared.limits.LimitFault.{LimitFault}
 use Rattle.tensor_runner.specs.declared.limits.Limits.{Limits}
 use Rattle.tensor_runner.specs.declared.status.Status.TheVariants as status
@@ -37,6 +40,8 @@ IsLineUnder-take limits n text line more is = record {
         written = own.written;
         status = own.status;
       };
+  says = is.says;
+  has = subst (λ (r : Result Asked Fault). HasSteps r line.fault line.steps) (request_of-take n text more) is.has;
 }
 
 -- the line of a fault
@@ -51,35 +56,67 @@ within-fault : (limits : Limits) (text : List ℕ) (f : Fault) (line : List ℕ)
 within-fault limits text f line (inl own) is = inl (is ∙ fault-line limits (request_of text) f own)
 within-fault limits text f line (inr memory) is = inr (is ∙ ap line_of memory.0, memory.1)
 
-pub IsLineUnder-fault : (limits : Limits) (text : List ℕ) (f : Fault) (line : Line) → IsFaultOf text f → cow_slice_items line.bytes ≡ fault_line f
-    → line.status ≡ status.Fault → IsLineUnder limits text line
-IsLineUnder-fault limits text f line of bytes told = record {
-  within = within-fault limits text f (cow_slice_items line.bytes) of bytes;
-  own = λ none. record { answer = fault f; answers = of; written = bytes; status = told };
+Says-fault : (f : AnyFault) (o : Option AnyFault) (bytes : List ℕ) → o ≡ Some f → bytes ≡ any_line f → Says bytes o
+Says-fault f o bytes is written = subst (λ (p : Option AnyFault). Says bytes p) (sym is) written
+
+IsLineUnder-told : (limits : Limits) (text : List ℕ) (f : Fault) (line : Line) → IsFaultOf text f → IsFaultLine f line
+    → line.status ≡ status.Fault → HasSteps (request_of text) line.fault line.steps → IsLineUnder limits text line
+IsLineUnder-told limits text f line of is status has = record {
+  within = within-fault limits text f (cow_slice_items line.bytes) of is.bytes;
+  own = λ none. record { answer = fault f; answers = of; written = is.bytes; status = status };
+  says = Says-fault (any.Request f) line.fault (cow_slice_items line.bytes) is.fault is.bytes;
+  has = has;
 }
+
+-- what is no request has no steps
+steps-fault : (r : Result Asked Fault) (f : Fault) → fault f ≡ answer_from r → steps_in r ≡ None
+steps-fault (Ok a) f is = absurd (fault_is_no_tensor f (asked_tensor a) is)
+steps-fault (Err g) f is = refl
+
+fault_of : (f : Fault) → fault f ≡ fault NoMemory → f ≡ NoMemory
+fault_of f is = cc
+
+HasSteps-none : (text : List ℕ) (f : Fault) (o : Option AnyFault) (steps : Option ℕ) → IsFaultOf text f → o ≡ Some (any.Request f) → steps ≡ None
+    → HasSteps (request_of text) o steps
+HasSteps-none text f o steps (inl own) is none = inl (none ∙ sym (steps-fault (request_of text) f own))
+HasSteps-none text f o steps (inr memory) is none = inr (is ∙ ap (λ (g : Fault). Some (any.Request g)) (fault_of f memory.0), none)
+
+pub IsLineUnder-fault : (limits : Limits) (text : List ℕ) (f : Fault) (line : Line) → IsFaultOf text f → IsFaultLine f line
+    → line.status ≡ status.Fault → line.steps ≡ None → IsLineUnder limits text line
+IsLineUnder-fault limits text f line of is status none =
+    IsLineUnder-told limits text f line of is status (HasSteps-none text f line.fault line.steps of is.fault none)
 
 -- the line of a limit
 some_is_no_none : (f : LimitFault) → Some f ≡ None → ⊥
 some_is_no_none f is = cc
 
 pub IsLineUnder-limit : (limits : Limits) (text : List ℕ) (a : Asked) (over : Option LimitFault) (f : LimitFault) (line : Line)
-    → request_of text ≡ Ok a → over ≡ over_limits limits a → over ≡ Some f → cow_slice_items line.bytes ≡ limit_line f → IsLineUnder limits text line
-IsLineUnder-limit limits text a over f line asks found some bytes =
+    → request_of text ≡ Ok a → over ≡ over_limits limits a → over ≡ Some f → cow_slice_items line.bytes ≡ limit_line f
+    → line.fault ≡ Some (any.Limit f) → line.steps ≡ Some (steps_of a) → IsLineUnder limits text line
+IsLineUnder-limit limits text a over f line asks found some bytes says steps =
     let is : refusal limits (request_of text) ≡ Some f = ap (refusal limits) asks ∙ sym found ∙ some in
     record {
       within = inl (bytes ∙ sym (ap (λ (o : Option LimitFault). line_unless o (line_of (answer_of text))) is));
       own = λ none. absurd (some_is_no_none f (sym is ∙ none));
+      says = Says-fault (any.Limit f) line.fault (cow_slice_items line.bytes) says bytes;
+      has = inl (steps ∙ sym (ap steps_in asks));
     }
 
 -- the line of a tensor
-IsLineUnder-tensor : (limits : Limits) (text : List ℕ) (a : Asked) (over : Option LimitFault) (line : Line)
-    → request_of text ≡ Ok a → over ≡ over_limits limits a → over ≡ None → IsLineOf (tensor (asked_tensor a)) line → IsLineUnder limits text line
-IsLineUnder-tensor limits text a over line asks found nothing line_is =
+Says-tensor : (t : Contents) (o : Option AnyFault) (bytes : List ℕ) → o ≡ None → bytes ≡ tensor_line t → Says bytes o
+Says-tensor t o bytes is written = subst (λ (p : Option AnyFault). Says bytes p) (sym is) (t, written)
+
+pub IsLineUnder-tensor : (limits : Limits) (text : List ℕ) (a : Asked) (over : Option LimitFault) (line : Line)
+    → request_of text ≡ Ok a → over ≡ over_limits limits a → over ≡ None → cow_slice_items line.bytes ≡ tensor_line (asked_tensor a)
+    → line.status ≡ status.Tensor → line.fault ≡ None → line.steps ≡ Some (steps_of a) → IsLineUnder limits text line
+IsLineUnder-tensor limits text a over line asks found nothing bytes status none steps =
     let is : refusal limits (request_of text) ≡ None = ap (refusal limits) asks ∙ sym found ∙ nothing in
     let own : answer_of text ≡ tensor (asked_tensor a) = ap answer_from asks in
     record {
-      within = inl (line_is.written ∙ sym (ap line_of own) ∙ sym (ap (λ (o : Option LimitFault). line_unless o (line_of (answer_of text))) is));
-      own = λ none. record { answer = tensor (asked_tensor a); answers = inl (sym own); written = line_is.written; status = line_is.status };
+      within = inl (bytes ∙ sym (ap line_of own) ∙ sym (ap (λ (o : Option LimitFault). line_unless o (line_of (answer_of text))) is));
+      own = λ over_none. record { answer = tensor (asked_tensor a); answers = inl (sym own); written = bytes; status = status };
+      says = Says-tensor (asked_tensor a) line.fault (cow_slice_items line.bytes) none bytes;
+      has = inl (steps ∙ sym (ap steps_in asks));
     }
 
 -- a text that asks for something isn't too long
@@ -107,9 +144,8 @@ IsFaultOf-read text f r is long (inl memory) = elim (dec_le (length text) most_b
   | no above ↦ absurd (memory_is_not_long f r is memory (long (lt_of_not-le above)))
 ]
 
--- the line of a request's tensor, or want of memory
-pub MatchResult-tensor : (limits : Limits) (text : List ℕ) (a : Asked) (over : Option LimitFault) (r : Result Line Fault)
-    → request_of text ≡ Ok a → over ≡ over_limits limits a → over ≡ None → MatchResult r (IsLineOf (tensor (asked_tensor a))) (λ f. f ≡ NoMemory)
-    → MatchResult r (IsLineUnder limits text) (IsFaultOf text)
-MatchResult-tensor limits text a over (Ok line) asks found nothing is = IsLineUnder-tensor limits text a over line asks found nothing is
-MatchResult-tensor limits text a over (Err f) asks found nothing memory = subst (IsFaultOf text) (sym memory) (IsFaultOf-memory text a asks)
+-- the line of want of memory for a request's tensor
+pub IsLineUnder-memory : (limits : Limits) (text : List ℕ) (a : Asked) (line : Line) → request_of text ≡ Ok a → IsFaultLine NoMemory line
+    → line.status ≡ status.Fault → line.steps ≡ Some (steps_of a) → IsLineUnder limits text line
+IsLineUnder-memory limits text a line asks is status steps =
+    IsLineUnder-told limits text NoMemory line (IsFaultOf-memory text a asks) is status (inl (steps ∙ sym (ap steps_in asks)))

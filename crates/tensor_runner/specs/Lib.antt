@@ -8,6 +8,7 @@ pub use Rattle.message_server.specs.Streams
 pub mod Answer
 pub mod Ending
 pub mod History
+pub mod Journal
 pub mod Limited
 pub mod LimitedEnding
 pub mod Lines

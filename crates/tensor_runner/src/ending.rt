@@ -10,8 +10,10 @@ ghost use Rattle.tensor_runner.specs.Run.{most_reads, TakesAtMost};
 ghost use Rattle.message_server.specs.Streams.{HasFailed};
 
 use crate::engine::run;
+use crate::journal::Journal;
 use crate::limits::Limits;
-use crate::server::{answer_lines, answer_lines_within};
+use crate::server::{answer_lines, answer_lines_logged, answer_lines_within};
+use crate::service::Service;
 use crate::status::Status;
 use message_server::{Client, Ending, Sink, Source, StreamFault, ending_of};
 use std::alloc::Global;
@@ -89,4 +91,23 @@ pub fn serve_lines_within<RT: Threads + Wait + Sync, C: Client>(
         (C.write_failures client.old, C.write_failures client.new) result }
 {
     ending_of(answer_lines_within(rt, alloc, limits, client))
+}
+
+/// Answers the lines of a client and notes them, as [`answer_lines_logged`] does, and says what the
+/// program ends with.
+pub fn serve_lines_logged<RT: Threads + Wait + Sync, C: Client, J: Journal + Drop>(
+    rt: &RT,
+    alloc: Global,
+    service: Service<J>,
+    client: &mut C,
+) -> Ending
+    requires by_lines { GoesByLinesWithin service.limits C.owes_nothing }
+    requires new { IfSome (C.history client.old) IsNew }
+    // All lines were answered, or a read failed, or a write.
+    ensures ended { EndsWithin service.limits (C.remaining client.old) (C.remaining client.new)
+        (C.contents client.old) (C.contents client.new)
+        (C.read_failures client.old, C.read_failures client.new)
+        (C.write_failures client.old, C.write_failures client.new) result }
+{
+    ending_of(answer_lines_logged(rt, alloc, service, client))
 }

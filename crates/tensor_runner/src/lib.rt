@@ -6,11 +6,13 @@ mod answer;
 mod ending;
 mod engine;
 mod evaluation;
+mod journal;
 mod kept;
 mod limits;
 mod options;
 mod reading;
 mod server;
+mod service;
 mod stack;
 mod status;
 mod taking;
@@ -18,17 +20,19 @@ mod text;
 mod work;
 mod writing;
 
-pub use ending::{serve, serve_lines, serve_lines_within};
+pub use ending::{serve, serve_lines, serve_lines_logged, serve_lines_within};
 pub use engine::{MOST_READ, run};
 pub use evaluation::eval;
 pub use expr_reader::{Request, Tensor};
+pub use journal::{AnyFault, Entry, Journal, LineJournal, Silent};
 pub use limits::{LimitFault, Limits};
 pub use message_server::{
     Client, Connection, CountedReader, CountedWriter, Ending, Sink, Source, StreamFault,
     Uninterrupted, ending_of, write_answer,
 };
-pub use options::{Command, VERSION, command_of};
-pub use server::{answer_lines, answer_lines_within};
+pub use options::{Command, ServeOptions, VERSION, command_of};
+pub use server::{answer_lines, answer_lines_logged, answer_lines_within};
+pub use service::Service;
 pub use stack::grow_stack;
 pub use status::{RunFault, Status};
 pub use text::unsigned_text;

@@ -8,9 +8,11 @@ ghost use Rattle.tensor_runner.specs.Lines.{lines_of, AnswersLines, BreaksOff, C
 ghost use Rattle.tensor_runner.specs.Server.{IsNothing};
 ghost use Rattle.message_server.specs.Streams.{HasFailed};
 
-use crate::answer::answer;
+use crate::answer::{answer, entry_of};
+use crate::journal::{Journal, Silent};
 use crate::kept::NextLine;
 use crate::limits::Limits;
+use crate::service::Service;
 use crate::taking::next_line;
 use message_server::{Client, InputBuffer, StreamFault, write_answer};
 use std::alloc::Global;
@@ -94,14 +96,65 @@ pub fn answer_lines_within<RT: Threads + Wait + Sync, C: Client>(
     ensures no_failure { OnOk result ((C.read_failures client.new ≡ C.read_failures client.old)
         × (C.write_failures client.new ≡ C.write_failures client.old)) }
 {
+    let service = Service {
+        limits,
+        journal: Silent,
+    };
+    answer_lines_logged(rt, alloc, service, client)
+}
+
+/// Answers each line of the client's as [`answer_lines_within`] does, and notes each of them in the
+/// service's journal, in order: when it is read, and what it was answered once that is written.
+///
+/// # Errors
+///
+/// As [`answer_lines`].
+pub fn answer_lines_logged<RT: Threads + Wait + Sync, C: Client, J: Journal + Drop>(
+    rt: &RT,
+    alloc: Global,
+    service: Service<J>,
+    client: &mut C,
+) -> Result<(), StreamFault>
+    requires by_lines { GoesByLinesWithin service.limits C.owes_nothing }
+    requires new { IfSome (C.history client.old) IsNew }
+
+    ensures answered { (text held : List ℕ) → C.remaining client.old ≡ Some text
+        → C.contents client.old ≡ Some held
+        → OnOk result
+        (AnswersLinesWithin service.limits (lines_of text) held (C.contents client.new)) }
+    // Nothing of a line is answered in which a read failed.
+    ensures broken_off { (text held : List ℕ) → C.remaining client.old ≡ Some text
+        → C.contents client.old ≡ Some held → result ≡ Err StreamFault.ReadFault
+        → BreaksOffWithin service.limits text held (C.remaining client.new)
+        (C.contents client.new) }
+    ensures cut_short { (text held : List ℕ) → C.remaining client.old ≡ Some text
+        → C.contents client.old ≡ Some held → result ≡ Err StreamFault.WriteFault
+        → CutsLinesShortWithin service.limits (lines_of text) held (C.contents client.new) }
+
+    ensures read_fault { result ≡ Err StreamFault.ReadFault
+        → HasFailed (C.read_failures client.old) (C.read_failures client.new)
+        × (C.write_failures client.new ≡ C.write_failures client.old) }
+    ensures write_fault { result ≡ Err StreamFault.WriteFault
+        → (C.read_failures client.new ≡ C.read_failures client.old)
+        × HasFailed (C.write_failures client.old) (C.write_failures client.new) }
+    ensures no_failure { OnOk result ((C.read_failures client.new ≡ C.read_failures client.old)
+        × (C.write_failures client.new ≡ C.write_failures client.old)) }
+{
+    let Service {
+        limits,
+        mut journal,
+    } = service;
     let mut buffer = InputBuffer::new();
     for turn in rt.forever() {
         let next = next_line(rt, alloc, client, &mut buffer)?;
         if is_nothing(&next) {
             return Ok(());
         }
+        journal.begin();
+        let length = next.kept.len();
         let line = answer(rt, alloc, limits, next.kept);
         write_answer(client, line.bytes.as_slice())?;
+        journal.end(&entry_of(length, &line));
         if !next.ended {
             return Ok(());
         }

@@ -30,15 +30,15 @@ struct Count {
     combined: u128,
 }
 
-/// The limit that a request is over, that of its workers first. The steps are counted in time linear
-/// in its nodes, and no memory is taken.
-pub fn over_limits(limits: Limits, request: &Request<'_>) -> Option<LimitFault>
+/// The limit that a request is over that takes so many steps, that of its workers first.
+pub fn over_limits(limits: Limits, request: &Request<'_>, steps: u128) -> Option<LimitFault>
+    requires { steps ≡ steps_of (asked_under request.now) }
     ensures { result ≡ over_limits limits (asked_under request.now) }
 {
     if is_over(limits.workers, u128::from(request.workers)) {
         return Some(LimitFault::TooManyWorkers);
     }
-    if is_over(limits.steps, steps_of(request)) {
+    if is_over(limits.steps, steps) {
         return Some(LimitFault::TooManySteps);
     }
     None
@@ -54,7 +54,7 @@ fn is_over(most: Option<u64>, number: u128) -> bool
     }
 }
 
-/// How many steps a request takes.
+/// How many steps a request takes, counted in time linear in its nodes. No memory is taken.
 pub fn steps_of(request: &Request<'_>) -> u128
     ensures { result ≡ steps_of (asked_under request.now) }
 {

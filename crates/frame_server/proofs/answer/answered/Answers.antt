@@ -7,4 +7,6 @@ returns-in-Whole g c = λ bytes whole kept.
     c.answered_whole.ensures bytes is.0 is.1
 
 pub returns-in-Passed : goal.returns-in-Passed
-returns-in-Passed g c = λ bytes whole kept. IsAnswerTo-passed bytes c.in-Passed.fault whole (rw c.in-Passed.is at kept)
+returns-in-Passed g c = λ bytes whole kept.
+    let is = rw c.in-Passed.is at kept in
+    IsAnswerTo-passed bytes c.in-Passed.fault whole is.0

@@ -1,18 +1,13 @@
-use Rattle.std.proofs.Common.{◌∙◌, ap, sym, Option}
+use Rattle.std.proofs.Common.{◌∙◌, sym}
 use Rattle.expr_reader.specs.Asked.{asked_under}
-use Rattle.tensor_runner.specs.Answer.{tensor, asked_tensor}
-use Rattle.tensor_runner.specs.declared.limits.LimitFault.{LimitFault}
-use Rattle.frame_server.specs.Answer.{answer_bytes}
-use Rattle.frame_server.specs.Limited.{frame_unless}
-use Rattle.frame_server.proofs.Answering.{unlimited}
+use Rattle.frame_server.proofs.Answering.{IsOwnFrame-limit, IsOwnFrame-tensor}
 use Rattle.frame_server.proofs.answer.own_frame.Goals as goal
 
-pub returns-in-Some : goal.returns-in-Some
-returns-in-Some g c =
-    let own = answer_bytes (tensor (asked_tensor (asked_under c.args.request.now))) in
-    c.limit_frame.ensures ∙ ap (λ (o : Option LimitFault). frame_unless o own) (sym c.in-Some.is ∙ c.over_limits.ensures)
+pub returns-in-Some-clause-frame : goal.returns-in-Some-clause-frame
+returns-in-Some-clause-frame g c =
+    IsOwnFrame-limit _ c.in-Some.fault (asked_under c.args.request.now) c.limit_frame.result (sym c.over_limits.ensures ∙ c.in-Some.is)
+    c.limit_frame.ensures.bytes c.limit_frame.ensures.fault
 
-pub returns-in-None : goal.returns-in-None
-returns-in-None g c =
-    unlimited c.tensor_frame.result _ (answer_bytes (tensor (asked_tensor (asked_under c.args.request.now)))) (sym c.over_limits.ensures ∙ c.in-None.is)
-    c.tensor_frame.ensures
+pub returns-in-None-clause-frame : goal.returns-in-None-clause-frame
+returns-in-None-clause-frame g c =
+    IsOwnFrame-tensor _ (asked_under c.args.request.now) c.tensor_frame.result (sym c.over_limits.ensures ∙ c.in-None.is) c.tensor_frame.ensures.frame

@@ -1,4 +1,4 @@
-use Rattle.std.proofs.Common.{◌∙◌, ap, List, ℕ, ◌++◌}
+use Rattle.std.proofs.Common.{◌∙◌, ap, refl, List, ℕ, ◌++◌, inl}
 use Rattle.std.specs.List.{flat_map}
 use Rattle.expr_reader.specs.Contents.{Contents}
 use Rattle.tensor_runner.specs.Answer.{tensor}
@@ -7,9 +7,12 @@ use Rattle.frame_server.specs.Frame.{value_bytes}
 use Rattle.frame_server.proofs.Answering.{front-behind}
 use Rattle.frame_server.proofs.answer.tensor_frame.Goals as goal
 
-pub returns-in-Ok-front_of : goal.returns-in-Ok-front_of
-returns-in-Ok-front_of g c =
+pub returns-in-Ok-front_of-clause-frame : goal.returns-in-Ok-front_of-clause-frame
+returns-in-Ok-front_of-clause-frame g c =
     let t = c.in-Ok.tensor in
-    ap (λ (l : List ℕ). l ++ flat_map value_bytes t.values) c.in-Ok-front_of.ensures
-    ∙ front-behind (dims_text t.dims) t.values
-    ∙ ap (λ (u : Contents). answer_bytes (tensor u)) c.in-Ok.ensures.tensor
+    inl (
+      ap (λ (l : List ℕ). l ++ flat_map value_bytes t.values) c.in-Ok-front_of.ensures
+          ∙ front-behind (dims_text t.dims) t.values
+          ∙ ap (λ (u : Contents). answer_bytes (tensor u)) c.in-Ok.ensures.tensor,
+      refl,
+    )

@@ -3,6 +3,6 @@ use Rattle.std.specs.Fmt.{digits}
 use Rattle.frame_server.specs.Frame.{number_bytes}
 use Rattle.frame_server.proofs.answer.too_many_workers.Goals as goal
 
-pub returns : goal.returns
+pub returns-clause-bytes : goal.returns-clause-bytes
 unfolding number_bytes digits
-returns c = refl
+returns-clause-bytes c = refl

@@ -16,10 +16,10 @@ pub returns-in-Counted : goal.returns-in-Counted
 returns-in-Counted g c = λ text is.
     let count : c.in-Counted.count ≡ length (take most_reads text) = rw c.in-Counted.is at is in
     IsLineUnder-fault c.args.limits text TooLong c.too_long.result (IsAnswerTo-counted text c.in-Counted.count count c.if-count-gt-MAX_TEXT.true)
-    c.too_long.ensures.bytes c.too_long.ensures.status
+    (record { bytes = c.too_long.ensures.bytes; fault = c.too_long.ensures.fault }) c.too_long.ensures.status c.too_long.ensures.steps
 
 pub returns-in-Counted-2 : goal.returns-in-Counted-2
 returns-in-Counted-2 g c = λ text is.
     let count : c.in-Counted.count ≡ length (take most_reads text) = rw c.in-Counted.is at is in
     IsLineUnder-fault c.args.limits text NoMemory c.no_memory.result (inr (refl, short-counted text c.in-Counted.count count c.if-count-gt-MAX_TEXT.false))
-    c.no_memory.ensures.bytes c.no_memory.ensures.status
+    (record { bytes = c.no_memory.ensures.bytes; fault = c.no_memory.ensures.fault }) c.no_memory.ensures.status c.no_memory.ensures.steps
