@@ -70,7 +70,7 @@ class Reader:
         if word == "if":
             return "call", IF, (self.term(), self.behind("then"), self.behind("else"))
         if word == "λ":
-            return "function", self.take(), self.behind(".")
+            return self.function()
         if word == "let":
             # What is bound is the argument of a function.
             name, bound = self.take(), self.behind("=")
@@ -81,6 +81,11 @@ class Reader:
         if self.next not in ENDS and self.next[0] == ".":
             return "part", term, tuple(self.take()[1:].split("."))
         return term
+
+    def function(self):
+        """What takes its names one after the other."""
+        name = self.take()
+        return "function", name, self.behind(".") if self.next == "." else self.function()
 
     def bracket(self):
         """A term, or a pair, whose second part may be a pair as well, up to the bracket's end."""

@@ -25,11 +25,12 @@ use Rattle.expr_reader.specs.Filled.{with_other, with_inputs, filled_text}
 use Rattle.expr_reader.specs.Frame.{dims_alone, dealt, framed_tensor, framed_tensors, bad_framed, framed_in, frame_inputs}
 use Rattle.expr_reader.specs.Limits.{greatest_block}
 use Rattle.expr_reader.specs.Place.{Step, field, Located, here, at, below, unlocated}
-use Rattle.expr_reader.specs.Request.{Asked, Naming, profile_in, tree_asked, inputs_asked, block_asked}
-use Rattle.expr_reader.specs.Request.{workers_asked, fields_asked, data_asked}
+use Rattle.expr_reader.specs.Request.{Asked, Naming, profile_in}
+use Rattle.expr_reader.specs.Request.{fields_asked, data_asked}
 use Rattle.expr_reader.specs.Steps.{and_then}
 use Rattle.expr_reader.specs.Tensors.{Named, filled, tensor_in, tensors_in, bad_member, names_in, or_place, named_in, inputs_in}
 use Rattle.expr_reader.specs.declared.fault.Fault.TheVariants.{BadVersion, BadWorkers, BadBlock, BadTensor}
+use Rattle.expr_reader.proofs.Chain.{tree_asked, inputs_asked, block_asked, workers_asked}
 
 -- numbers of the `i64` range are read as they are
 signed_of-of_integer : (v : ℤ) → FitsSigned w64 v → signed_of (number (of_integer v)) ≡ Some v

@@ -1,4 +1,5 @@
 pub mod Arrays
+pub mod Chain
 pub mod Counted
 pub mod Data
 pub mod Filled

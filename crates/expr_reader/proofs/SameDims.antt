@@ -23,13 +23,14 @@ use Rattle.expr_reader.specs.Limits.{greatest_block, most_values}
 use Rattle.expr_reader.specs.Node.{Tree, within_limit, operation_at, checked, made, node_at, applied, tree_at}
 use Rattle.expr_reader.specs.Place.{Step, field, index, Located, here, at, below, unlocated}
 use Rattle.expr_reader.specs.Profile.{Profile}
-use Rattle.expr_reader.specs.Request.{Asked, profile_in, tree_asked, inputs_asked, block_asked, workers_asked}
+use Rattle.expr_reader.specs.Request.{Asked, profile_in}
 use Rattle.expr_reader.specs.Request.{fields_asked, data_asked, data_of, text_asked}
 use Rattle.expr_reader.specs.Steps.{and_then}
 use Rattle.expr_reader.specs.Table.{Operation, one, two, three, arity_of}
 use Rattle.expr_reader.specs.Tensors.{Named, dims_in, names_in, given, or_place}
 use Rattle.expr_reader.specs.declared.fault.Fault.TheVariants.{BadField, BadVersion, BadWorkers, BadBlock, BadTensor, BadArity, TooLong}
 use Rattle.expr_reader.specs.Alike.{HaveSameDims, AskAlike}
+use Rattle.expr_reader.proofs.Chain.{tree_asked, inputs_asked, block_asked, workers_asked}
 
 module _ (ts us : List Contents) (same : HaveSameDims ts us) (rank : ℕ) where
   -- the dims of a term over them

@@ -6,7 +6,7 @@ use Rattle.serde_json.specs.Find.{as_bool}
 use Rattle.expr_reader.specs.Fields.{within, signed_of, list_in}
 use Rattle.expr_reader.specs.Limits.{greatest_size}
 use Rattle.expr_reader.specs.Place.{Located, index, at}
-use Rattle.expr_reader.specs.Steps.{and_then, map_found}
+use Rattle.expr_reader.specs.Steps.{and_then}
 use Rattle.expr_reader.specs.declared.fault.Fault.TheVariants.{BadArgument}
 
 -- the forms: a whole number from 0 up, a list of these, a list of pairs of these, a list of truth
@@ -32,10 +32,8 @@ size_in d = within 0 greatest_size d
 
 -- the two numbers of a list of two
 abbrev pub pair_of : List ℕ → Option (ℕ × ℕ)
-pair_of [] = None
-pair_of (x ∷ []) = None
 pair_of (x ∷ y ∷ []) = Some (x, y)
-pair_of (x ∷ y ∷ z ∷ more) = None
+pair_of numbers = None
 
 -- a list of two sizes
 abbrev pub pair_in : Data → Option (ℕ × ℕ)
@@ -45,7 +43,7 @@ pair_in d = option_and_then pair_of (list_in size_in d)
 abbrev pub argument_in : (f : Form) → Data → Option (Argument f)
 argument_in size d = size_in d
 argument_in sizes d = list_in size_in d
-argument_in pairs d = list_in pair_in d
+argument_in pairs d = list_in (λ pair. option_and_then pair_of (list_in size_in pair)) d
 argument_in flags d = list_in as_bool d
 argument_in value d = signed_of d
 
@@ -58,8 +56,7 @@ Arguments (f ∷ fs) = Argument f × Arguments fs
 -- form; there is one of each form, and no more
 abbrev pub arguments_at : ℕ → (fs : List Form) → Items → Result (Arguments fs) Located
 arguments_at i [] no_items = Ok tt
-arguments_at i [] (item d ds) = Err (at (index i) BadArgument)
-arguments_at i (f ∷ fs) no_items = Err (at (index i) BadArgument)
 arguments_at i (f ∷ fs) (item d ds) =
     and_then (ok_or (argument_in f d) (at (index i) BadArgument)) (λ x.
-    map_found (λ xs. (x, xs)) (arguments_at (i + 1) fs ds))
+    and_then (arguments_at (i + 1) fs ds) (λ xs. Ok (x, xs)))
+arguments_at i fs items = Err (at (index i) BadArgument)

@@ -9,39 +9,29 @@ use Rattle.expr_reader.specs.declared.fault.Fault.TheVariants.{BadTensor, Unknow
 use Rattle.expr_reader.specs.declared.fault.Fault.TheVariants.{BadArity, BadArgument, ShapeMismatch}
 use Rattle.expr_reader.specs.declared.fault.Fault.TheVariants.{OutOfRange, TooLarge, NoMemory}
 
+-- the number and the name of a fault
+abbrev pub number_and_name : Fault → ℕ × List ℕ
+number_and_name TooLong = (1, codes "TooLong")
+number_and_name NotJson = (2, codes "NotJson")
+number_and_name BadField = (3, codes "BadField")
+number_and_name BadVersion = (4, codes "BadVersion")
+number_and_name BadWorkers = (5, codes "BadWorkers")
+number_and_name BadBlock = (6, codes "BadBlock")
+number_and_name BadTensor = (7, codes "BadTensor")
+number_and_name UnknownInput = (8, codes "UnknownInput")
+number_and_name UnknownOp = (9, codes "UnknownOp")
+number_and_name BadArity = (10, codes "BadArity")
+number_and_name BadArgument = (11, codes "BadArgument")
+number_and_name ShapeMismatch = (12, codes "ShapeMismatch")
+number_and_name OutOfRange = (13, codes "OutOfRange")
+number_and_name TooLarge = (14, codes "TooLarge")
+number_and_name NoMemory = (15, codes "NoMemory")
+
 abbrev pub fault_number : Fault → ℕ
-fault_number TooLong = 1
-fault_number NotJson = 2
-fault_number BadField = 3
-fault_number BadVersion = 4
-fault_number BadWorkers = 5
-fault_number BadBlock = 6
-fault_number BadTensor = 7
-fault_number UnknownInput = 8
-fault_number UnknownOp = 9
-fault_number BadArity = 10
-fault_number BadArgument = 11
-fault_number ShapeMismatch = 12
-fault_number OutOfRange = 13
-fault_number TooLarge = 14
-fault_number NoMemory = 15
+fault_number f = (number_and_name f).0
 
 abbrev pub fault_name : Fault → List ℕ
-fault_name TooLong = codes "TooLong"
-fault_name NotJson = codes "NotJson"
-fault_name BadField = codes "BadField"
-fault_name BadVersion = codes "BadVersion"
-fault_name BadWorkers = codes "BadWorkers"
-fault_name BadBlock = codes "BadBlock"
-fault_name BadTensor = codes "BadTensor"
-fault_name UnknownInput = codes "UnknownInput"
-fault_name UnknownOp = codes "UnknownOp"
-fault_name BadArity = codes "BadArity"
-fault_name BadArgument = codes "BadArgument"
-fault_name ShapeMismatch = codes "ShapeMismatch"
-fault_name OutOfRange = codes "OutOfRange"
-fault_name TooLarge = codes "TooLarge"
-fault_name NoMemory = codes "NoMemory"
+fault_name f = (number_and_name f).1
 
 -- the fault of a text whose expression has this one
 abbrev pub text_fault : ExprFault → Fault

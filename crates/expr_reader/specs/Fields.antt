@@ -1,11 +1,11 @@
 -- The data of a text, its fields and the whole numbers in it.
 use Rattle.std.specs.Prelude.{ℕ, ℤ, ◌==◌, ◌&&◌, nat_le, Bool, false, List, [], ◌∷◌, codes, Option}
 use Rattle.std.specs.Prelude.{Some, None, option_map, option_and_then, if◌then◌else◌}
+use Rattle.std.specs.Option.{option_map_or}
 use Rattle.std.specs.Str.{is_utf8}
-use Rattle.serde_json.specs.Data.{Data, null, boolean, number, string, array, object, Items}
-use Rattle.serde_json.specs.Data.{no_items, item}
+use Rattle.serde_json.specs.Data.{Data, Items, no_items, item}
 use Rattle.serde_json.specs.Events.{members_len}
-use Rattle.serde_json.specs.Find.{get, as_array, as_number, as_u64, as_i64}
+use Rattle.serde_json.specs.Find.{get, as_array, as_object, as_number, as_u64, as_i64}
 use Rattle.serde_json.specs.Read.{read}
 
 -- the data that a text is, where it has a reading
@@ -14,12 +14,7 @@ reading text = if is_utf8 text then read text else None
 
 -- an object of this many members
 abbrev pub has_members : ℕ → Data → Bool
-has_members n null = false
-has_members n (boolean b) = false
-has_members n (number x) = false
-has_members n (string s) = false
-has_members n (array ds) = false
-has_members n (object ms) = members_len ms == n
+has_members n d = option_map_or (λ ms. members_len ms == n) (as_object d) false
 
 -- a whole number from 0 up
 abbrev pub whole_of : Data → Option ℕ
@@ -29,10 +24,13 @@ whole_of d = option_and_then as_u64 (as_number d)
 abbrev pub signed_of : Data → Option ℤ
 signed_of d = option_and_then as_i64 (as_number d)
 
+-- what there is, where it passes
+abbrev pub only : {A : Type 0} → (A → Bool) → Option A → Option A
+only passes found = option_and_then (λ x. if passes x then Some x else None) found
+
 -- a whole number within these bounds
 abbrev pub within : ℕ → ℕ → Data → Option ℕ
-within least most d =
-    option_and_then (λ n. if nat_le least n && nat_le n most then Some n else None) (whole_of d)
+within least most d = only (λ n. nat_le least n && nat_le n most) (whole_of d)
 
 -- a head and a rest, where there are both
 abbrev pub cons_of : {A : Type 0} → Option A → Option (List A) → Option (List A)
@@ -65,11 +63,6 @@ fields_of d =
     if has_members 5 d then
     with_member d (codes "version") (λ version. with_member d (codes "workers") (λ workers.
     with_member d (codes "block") (λ block. with_member d (codes "inputs") (λ inputs.
-    option_map (λ expr. record {
-      version = version;
-      workers = workers;
-      block = block;
-      inputs = inputs;
-      expr = expr;
-    }) (get (codes "expr") d)))))
+    option_map (λ expr. record { version = version; workers = workers; block = block;
+    inputs = inputs; expr = expr }) (get (codes "expr") d)))))
     else None

@@ -5,8 +5,7 @@
 use Rattle.std.specs.Prelude.{ℕ, ◌+◌, ◌==◌, nat_le, List, Result, Err}
 use Rattle.std.specs.Prelude.{ok_or, option_map, option_and_then, if◌then◌else◌}
 use Rattle.std.specs.Result.{result_map_both}
-use Rattle.serde_json.specs.Data.{Data, null, boolean, number, string, array, object, Items}
-use Rattle.serde_json.specs.Data.{no_items, item}
+use Rattle.serde_json.specs.Data.{Data, string, array, Items, item}
 use Rattle.serde_json.specs.Events.{items_len}
 use Rattle.serde_json.specs.Find.{as_str}
 use Rattle.tensor_ops.specs.Contents.{Given}
@@ -19,7 +18,7 @@ use Rattle.expr_reader.specs.Place.{Located, index, here, at, below}
 use Rattle.expr_reader.specs.Profile.{Profile, operation_named}
 use Rattle.expr_reader.specs.Steps.{and_then}
 use Rattle.expr_reader.specs.Table.{Operation, one, two, three, arity_of}
-use Rattle.expr_reader.specs.Tensors.{Named, given, number_of}
+use Rattle.expr_reader.specs.Tensors.{Named, number_of}
 use Rattle.expr_reader.specs.declared.fault.Fault.TheVariants.{UnknownInput, UnknownOp, BadArity}
 use Rattle.expr_reader.specs.declared.fault.Fault.TheVariants.{TooLarge}
 
@@ -57,35 +56,38 @@ made inputs fs first items make end =
     and_then (arguments_at first fs items) (λ a. checked inputs (make a) end)
 
 module _ (profile : Profile) (named : Named) where
+  -- the term that arguments of these forms make, the first of which has this index, up to this end,
+  -- or the first fault of the arguments, or of the term's own, whose operands have result dims
+  abbrev pub made_of : (fs : List Form) → ℕ → Items → (Arguments fs → Term) → ℕ
+      → Result Tree Located
+  made_of fs first items make end =
+      and_then (arguments_at first fs items) (λ a. result_map_both
+      (λ dims. record { term = make a; end = end }) (λ fault. here (text_fault fault))
+      (dims_of profile.rank (make a) named.tensors))
+
   abbrev mutual
     -- a node behind n others: a name, or an operation by its name
     pub node_at : ℕ → Data → Result Tree Located
-    node_at n null = Err (here UnknownOp)
-    node_at n (boolean b) = Err (here UnknownOp)
-    node_at n (number x) = Err (here UnknownOp)
-    node_at n (object ms) = Err (here UnknownOp)
     node_at n (string name) = input_at named name (n + 1)
-    node_at n (array no_items) = Err (here UnknownOp)
     node_at n (array (item head rest)) =
         and_then (operation_at profile head) (λ o.
         if items_len rest == arity_of o then applied n o rest else Err (here BadArity))
+    node_at n d = Err (here UnknownOp)
 
     -- its operands from the left, each wholly, then its arguments, and then its own checks
     pub applied : ℕ → Operation → Items → Result Tree Located
     applied n (one forms make) (item a rest) =
         and_then (below (index 1) (within_limit (n + 1) (node_at (n + 1) a))) (λ x.
-        made (given profile.rank named) forms 2 rest (λ args. unary (make args) x.term) x.end)
+        made_of forms 2 rest (λ args. unary (make args) x.term) x.end)
     applied n (two forms make) (item a (item b rest)) =
         and_then (below (index 1) (within_limit (n + 1) (node_at (n + 1) a))) (λ x.
         and_then (below (index 2) (within_limit x.end (node_at x.end b))) (λ y.
-        made (given profile.rank named) forms 3 rest
-        (λ args. binary (make args) x.term y.term) y.end))
+        made_of forms 3 rest (λ args. binary (make args) x.term y.term) y.end))
     applied n (three forms make) (item a (item b (item c rest))) =
         and_then (below (index 1) (within_limit (n + 1) (node_at (n + 1) a))) (λ x.
         and_then (below (index 2) (within_limit x.end (node_at x.end b))) (λ y.
         and_then (below (index 3) (within_limit y.end (node_at y.end c))) (λ z.
-        made (given profile.rank named) forms 4 rest
-        (λ args. ternary (make args) x.term y.term z.term) z.end)))
+        made_of forms 4 rest (λ args. ternary (make args) x.term y.term z.term) z.end)))
     applied n o rest = Err (here BadArity)
 
   -- a tree behind n nodes

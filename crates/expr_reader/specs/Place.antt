@@ -1,5 +1,6 @@
 -- Where something stands in a text, and a fault with its place.
 use Rattle.std.specs.Prelude.{ℕ, List, [], ◌∷◌, map, reverse, Result, Ok, Err}
+use Rattle.std.specs.Result.{result_map_both}
 use Rattle.expr_reader.specs.declared.fault.Fault.{Fault}
 
 -- a step down into a value: to the member of a name, or to the element of an index, from 0 up
@@ -31,5 +32,4 @@ below step (Err found) = Err (record { fault = found.fault; place = step ∷ fou
 
 -- what is found, its fault without the place
 abbrev pub unlocated : {A : Type 0} → Result A Located → Result A Fault
-unlocated (Ok x) = Ok x
-unlocated (Err found) = Err found.fault
+unlocated found = result_map_both (λ x. x) (λ it. it.fault) found

@@ -6,7 +6,7 @@ use Rattle.tensor_ops.specs.Contents.{Contents}
 use Rattle.tensor_ops.specs.Term.{Term}
 use Rattle.expr_reader.specs.Fields.{Fields, fields_of, reading, whole_of, within}
 use Rattle.expr_reader.specs.Limits.{most_bytes, greatest_block}
-use Rattle.expr_reader.specs.Node.{tree_at}
+use Rattle.expr_reader.specs.Node.{within_limit, node_at}
 use Rattle.expr_reader.specs.Place.{field, Located, here, at, below, unlocated}
 use Rattle.expr_reader.specs.Profile.{Profile, profile_of}
 use Rattle.expr_reader.specs.Steps.{and_then}
@@ -27,42 +27,25 @@ pub record Asked : Type 0 where
 abbrev pub profile_in : Fields → Option Profile
 profile_in f = option_and_then profile_of (whole_of f.version)
 
--- what the tree asks for, over inputs
-abbrev pub tree_asked : Fields → Profile → ℕ → ℕ → Named → Result Asked Located
-tree_asked f p workers block named =
-    and_then (below (field (codes "expr")) (tree_at p named 0 f.expr)) (λ tree. Ok (record {
-      workers = workers;
-      block = block;
-      inputs = named.tensors;
-      rank = p.rank;
-      term = tree.term;
-    }))
-
 -- what inputs are read as, where ranks end there: names and tensors, or their fault
 abbrev pub Naming : Type 0
 Naming = ℕ → Data → Result Named Located
 
 module _ (named : Naming) where
-  -- each field is looked at where those before it have no fault
-  abbrev pub inputs_asked : Fields → Profile → ℕ → ℕ → Result Asked Located
-  inputs_asked f p workers block =
-      and_then (below (field (codes "inputs")) (named p.rank f.inputs))
-      (tree_asked f p workers block)
-
-  abbrev pub block_asked : Fields → Profile → ℕ → Result Asked Located
-  block_asked f p workers =
-      and_then (ok_or (within 1 greatest_block f.block) (at (field (codes "block")) BadBlock))
-      (inputs_asked f p workers)
-
-  abbrev pub workers_asked : Fields → Profile → Result Asked Located
-  workers_asked f p =
-      and_then (ok_or (within 1 p.workers f.workers) (at (field (codes "workers")) BadWorkers))
-      (block_asked f p)
-
+  -- what fields ask for: each is looked at where those before it have no fault
   abbrev pub fields_asked : Fields → Result Asked Located
   fields_asked f =
-      and_then (ok_or (profile_in f) (at (field (codes "version")) BadVersion)) (workers_asked f)
+      and_then (ok_or (profile_in f) (at (field (codes "version")) BadVersion)) (λ p.
+      and_then (ok_or (within 1 p.workers f.workers) (at (field (codes "workers")) BadWorkers))
+      (λ workers.
+      and_then (ok_or (within 1 greatest_block f.block) (at (field (codes "block")) BadBlock))
+      (λ block.
+      and_then (below (field (codes "inputs")) (named p.rank f.inputs)) (λ inputs.
+      and_then (below (field (codes "expr")) (within_limit 0 (node_at p inputs 0 f.expr))) (λ tree.
+      Ok (record { workers = workers; block = block; inputs = inputs.tensors; rank = p.rank;
+      term = tree.term }))))))
 
+  -- what data asks for: it has to have the five fields
   abbrev pub data_asked : Data → Result Asked Located
   data_asked d = and_then (ok_or (fields_of d) (here BadField)) fields_asked
 

@@ -1,5 +1,5 @@
 -- The operations of the text, as a table: what each takes, and what is made of it.
-use Rattle.std.specs.Prelude.{ℕ, ◌+◌, length, List, [], ◌∷◌, ◌++◌, codes}
+use Rattle.std.specs.Prelude.{ℕ, ◌+◌, length, List, [], ◌∷◌, ◌++◌, take, drop, codes}
 use Rattle.tensor_ops.specs.Term.{Unary, each, constant, movement, pad, reduce}
 use Rattle.tensor_ops.specs.Term.{Binary, pairwise, concat, contract, convolve}
 use Rattle.tensor_ops.specs.Term.{Ternary, select, broadcast, slice, shuffle, reshape}
@@ -35,9 +35,10 @@ on_pairs o = two [] (λ none. pairwise o)
 abbrev pub over_axes : Reducer → Operation
 over_axes r = one (sizes ∷ []) (λ a. reduce r a.0)
 
--- the operations that work each value out from those at its own place, by their names
-abbrev pub operations_on_values : List (List ℕ × Operation)
-operations_on_values =
+-- the operations of the first version, by their names: those that work each value out from those at
+-- its own place, the movements, the reductions and the contraction
+abbrev pub operations_1 : List (List ℕ × Operation)
+operations_1 =
     (codes "neg", on_each unary.Neg)
     ∷ (codes "abs", on_each unary.Abs)
     ∷ (codes "square", on_each unary.Square)
@@ -57,44 +58,38 @@ operations_on_values =
     ∷ (codes "or", on_pairs binary.Or)
     ∷ (codes "select", three [] (λ none. select))
     ∷ (codes "constant", one (value ∷ []) (λ a. constant a.0))
-    ∷ []
-
--- the movements
-abbrev pub movements : List (List ℕ × Operation)
-movements =
-    (codes "broadcast", one (sizes ∷ []) (λ a. movement (broadcast a.0)))
+    ∷ (codes "broadcast", one (sizes ∷ []) (λ a. movement (broadcast a.0)))
     ∷ (codes "slice", one (sizes ∷ sizes ∷ []) (λ a. movement (slice a.0 a.1.0)))
     ∷ (codes "shuffle", one (sizes ∷ []) (λ a. movement (shuffle a.0)))
     ∷ (codes "reshape", one (sizes ∷ []) (λ a. movement (reshape a.0)))
     ∷ (codes "chip", one (size ∷ size ∷ []) (λ a. movement (chip a.0 a.1.0)))
     ∷ (codes "reverse", one (flags ∷ []) (λ a. movement (reverse a.0)))
-    ∷ []
-
--- the reductions and the contraction
-abbrev pub operations_along_axes : List (List ℕ × Operation)
-operations_along_axes =
-    (codes "sum", over_axes Sum)
+    ∷ (codes "sum", over_axes Sum)
     ∷ (codes "prod", over_axes Prod)
     ∷ (codes "maximum", over_axes Max)
     ∷ (codes "minimum", over_axes Min)
     ∷ (codes "all", over_axes All)
     ∷ (codes "any", over_axes Any)
-    ∷ (codes "contract", two (pairs ∷ []) (λ a. contract a.0))
-    ∷ []
+    ∷ (codes "contract", two (pairs ∷ []) (λ a. contract a.0)) ∷ []
 
--- the operations of the first version
-abbrev pub operations_1 : List (List ℕ × Operation)
-operations_1 = (operations_on_values ++ movements) ++ operations_along_axes
+-- the operations of the second version: all of the first, and these
+abbrev pub operations_2 : List (List ℕ × Operation)
+operations_2 = operations_1
+    ++ ((codes "stride", one (sizes ∷ []) (λ a. movement (stride a.0)))
+    ∷ (codes "pad", one (pairs ∷ []) (λ a. pad a.0))
+    ∷ (codes "concat", two (size ∷ []) (λ a. concat a.0))
+    ∷ (codes "convolve", two (sizes ∷ []) (λ a. convolve a.0)) ∷ [])
+
+-- parts of these: the first 19, the 6 behind them, and the rest of the first version's
+abbrev pub operations_on_values : List (List ℕ × Operation)
+operations_on_values = take 19 operations_1
+
+abbrev pub movements : List (List ℕ × Operation)
+movements = take 6 (drop 19 operations_1)
+
+abbrev pub operations_along_axes : List (List ℕ × Operation)
+operations_along_axes = drop 25 operations_1
 
 -- those that the second version has beside them
 abbrev pub operations_added : List (List ℕ × Operation)
-operations_added =
-    (codes "stride", one (sizes ∷ []) (λ a. movement (stride a.0)))
-    ∷ (codes "pad", one (pairs ∷ []) (λ a. pad a.0))
-    ∷ (codes "concat", two (size ∷ []) (λ a. concat a.0))
-    ∷ (codes "convolve", two (sizes ∷ []) (λ a. convolve a.0))
-    ∷ []
-
--- the operations of the second version
-abbrev pub operations_2 : List (List ℕ × Operation)
-operations_2 = operations_1 ++ operations_added
+operations_added = drop 32 operations_2

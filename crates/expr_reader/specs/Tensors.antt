@@ -10,21 +10,17 @@ use Rattle.tensor_ops.specs.Index.{size_of}
 use Rattle.tensor_ops.specs.Legal.{are_legal}
 use Rattle.tensor_ops.specs.Contents.{Contents, Given}
 use Rattle.expr_reader.specs.Fields.{has_members, with_member, whole_of, signed_of}
-use Rattle.expr_reader.specs.Fields.{list_in, cons_of}
+use Rattle.expr_reader.specs.Fields.{only, list_in, cons_of}
 use Rattle.expr_reader.specs.Place.{Step, field, Located}
 use Rattle.expr_reader.specs.declared.fault.Fault.TheVariants.{BadTensor}
 
 -- a list of whole numbers that are legal dims
 abbrev pub dims_in : ℕ → Data → Option (List ℕ)
-dims_in rank d =
-    option_and_then (λ dims. if are_legal rank dims then Some dims else None)
-    (list_in whole_of d)
+dims_in rank d = only (are_legal rank) (list_in whole_of d)
 
 -- a list of this many whole numbers
 abbrev pub values_in : ℕ → Data → Option (List ℤ)
-values_in size d =
-    option_and_then (λ values. if length values == size then Some values else None)
-    (list_in signed_of d)
+values_in size d = only (λ values. length values == size) (list_in signed_of d)
 
 -- as many values as the dims have places
 abbrev pub filled : Data → List ℕ → Option Contents

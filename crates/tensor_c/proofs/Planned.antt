@@ -21,13 +21,14 @@ use Rattle.expr_reader.specs.Limits.{greatest_block, most_values}
 use Rattle.expr_reader.specs.Node.{Tree, tree_at}
 use Rattle.expr_reader.specs.Place.{Step, field, Located, here, at, below, unlocated}
 use Rattle.expr_reader.specs.Profile.{Profile}
-use Rattle.expr_reader.specs.Request.{Asked, profile_in, tree_asked, inputs_asked, block_asked, workers_asked}
+use Rattle.expr_reader.specs.Request.{Asked, profile_in}
 use Rattle.expr_reader.specs.Request.{fields_asked, data_asked, data_of, text_asked}
 use Rattle.expr_reader.specs.Steps.{and_then}
 use Rattle.expr_reader.specs.Tensors.{Named, dims_in, names_in}
 use Rattle.expr_reader.specs.Value.{tensor_of}
 use Rattle.expr_reader.specs.declared.fault.Fault.{Fault}
 use Rattle.expr_reader.specs.declared.fault.Fault.TheVariants.{BadField, BadVersion, BadWorkers, BadBlock, BadTensor, TooLong}
+use Rattle.expr_reader.proofs.Chain.{tree_asked, inputs_asked, block_asked, workers_asked}
 use Rattle.expr_reader.proofs.SameDims.{AskAlike-frame}
 use Rattle.prepared_expressions.specs.Prepared.{dims_of_all, before, dealt}
 use Rattle.prepared_expressions.specs.declared.refusal.Refusal.{Refusal}

@@ -4,9 +4,10 @@ use Rattle.std.specs.Prelude.{decimal, Result, Ok, Err}
 use Rattle.std.specs.Fmt.{signed_decimal}
 use Rattle.std.specs.List.{join_with_byte}
 use Rattle.expr_reader.specs.Contents.{Contents}
-use Rattle.expr_reader.specs.Faults.{fault_number, fault_name}
+use Rattle.expr_reader.specs.Faults.{number_and_name}
 use Rattle.expr_reader.specs.Limits.{most_bytes}
-use Rattle.expr_reader.specs.Request.{Asked, request_of}
+use Rattle.expr_reader.specs.Place.{unlocated}
+use Rattle.expr_reader.specs.Request.{Asked, request_at}
 use Rattle.expr_reader.specs.Value.{tensor_of}
 use Rattle.expr_reader.specs.declared.fault.Fault.{Fault}
 use Rattle.expr_reader.specs.declared.fault.Fault.TheVariants.{NoMemory}
@@ -24,28 +25,30 @@ asked_tensor a = tensor_of a.term a.inputs
 
 -- the tensor of a request, or the first fault of its text
 abbrev pub answer_from : Result Asked Fault → Answer
-answer_from (Ok asked) = tensor (asked_tensor asked)
+answer_from (Ok asked) = tensor (tensor_of asked.term asked.inputs)
 answer_from (Err f) = fault f
 
 abbrev pub answer_of : List ℕ → Answer
-answer_of text = answer_from (request_of text)
+answer_of text = answer_from (unlocated (request_at text))
 
 -- numbers in decimal, with commas between
 abbrev pub numbers_text : List ℤ → List ℕ
 numbers_text xs = join_with_byte 44 (map signed_decimal xs)
 
-abbrev pub tensor_line : Contents → List ℕ
-tensor_line t =
-    codes "{\"data\":[" ++ (numbers_text t.values
-    ++ (codes "],\"dims\":[" ++ (numbers_text (map pos t.dims) ++ (codes "]}" ++ 10 ∷ []))))
-
-abbrev pub fault_line : Fault → List ℕ
-fault_line f = codes "error " ++ decimal (fault_number f) ++ 32 ∷ fault_name f ++ 10 ∷ []
-
 -- the line that answers, with its line feed
 abbrev pub line_of : Answer → List ℕ
-line_of (tensor t) = tensor_line t
-line_of (fault f) = fault_line f
+line_of (tensor t) =
+    codes "{\"data\":[" ++ (numbers_text t.values
+    ++ (codes "],\"dims\":[" ++ (numbers_text (map pos t.dims) ++ (codes "]}" ++ 10 ∷ []))))
+line_of (fault f) =
+    codes "error " ++ decimal (number_and_name f).0 ++ 32 ∷ (number_and_name f).1 ++ 10 ∷ []
+
+-- the line of a tensor, and of a fault
+abbrev pub tensor_line : Contents → List ℕ
+tensor_line t = line_of (tensor t)
+
+abbrev pub fault_line : Fault → List ℕ
+fault_line f = line_of (fault f)
 
 abbrev pub status_of : Answer → Status
 status_of (tensor t) = status.Tensor

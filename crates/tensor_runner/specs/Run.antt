@@ -1,6 +1,7 @@
 -- What a run reads and writes.
-use Rattle.std.specs.Prelude.{◌≡◌, ◌<◌, ◌≤◌, ℕ, List, ◌++◌, length, take, drop, Option, Some}
+use Rattle.std.specs.Prelude.{◌≡◌, ◌<◌, ◌≤◌, ℕ, ◌+◌, List, ◌++◌, length, take, drop, Option, Some}
 use Rattle.std.specs.Io.KnownBytes.{Consumes}
+use Rattle.expr_reader.specs.Limits.{most_bytes}
 use Rattle.tensor_runner.specs.Answer.{Answer, IsAnswerTo, line_of, status_of}
 use Rattle.tensor_runner.specs.declared.status.Status.{Status}
 
@@ -19,12 +20,13 @@ pub record TakesAtMost (most : ℕ) (before after : Option (List ℕ)) : Type 0 
 abbrev pub IsLeft : List ℕ → Option (List ℕ) → Type 0
 IsLeft text remaining = remaining ≡ Some (drop most_reads text)
 
--- what was held, and behind it the whole line of an answer to the text
+-- what was held, and behind it the whole line of an answer to the text, of which one byte more is
+-- read than a text may have
 pub record Answers (text held : List ℕ) (remaining contents : Option (List ℕ)) (status : Status)
     : Type 0 where
   pub answer : Answer
   pub answers : IsAnswerTo text answer
-  pub left : IsLeft text remaining
+  pub left : remaining ≡ Some (drop (most_bytes + 1) text)
   pub written : contents ≡ Some (held ++ line_of answer)
   pub told : status ≡ status_of answer
 

@@ -1,8 +1,8 @@
 -- Two tensors, one behind the other along an axis.
 use Rattle.std.specs.Prelude.{ℕ, ℤ, ◌+◌, ◌-◌, List, length, slice_index, slice_set, remove}
-use Rattle.std.specs.Prelude.{nat_eq, nat_lt, Err, if◌then◌else◌}
+use Rattle.std.specs.Prelude.{nat_eq, nat_lt, if◌then◌else◌}
 use Rattle.std.specs.Cmp.Lexicographic.{pointwise}
-use Rattle.tensor_terms.specs.Shaped.{Shaped, legal_dims}
+use Rattle.tensor_terms.specs.Shaped.{Shaped, check, check_lengths, legal_dims}
 use Rattle.tensor_terms.specs.declared.fault.ExprFault.TheVariants.{ShapeMismatch, OutOfRange}
 
 -- the first's dims, with the second's dimension along the axis on top
@@ -12,17 +12,12 @@ joined_dims axis ds es = slice_set ds axis (slice_index ds axis + slice_index es
 -- the result dims of a concatenation, where ranks end there, or the first of its own faults
 abbrev pub concatenated_dims : ℕ → ℕ → List ℕ → List ℕ → Shaped
 concatenated_dims rank axis ds es =
-    if nat_eq (length ds) (length es)
-    then (if nat_lt axis (length ds)
-    then (if pointwise nat_eq (remove ds axis) (remove es axis)
-    then legal_dims rank (joined_dims axis ds es)
-    else Err ShapeMismatch)
-    else Err OutOfRange)
-    else Err ShapeMismatch
+    check_lengths ds es (check (nat_lt axis (length ds)) OutOfRange
+    (check (pointwise nat_eq (remove ds axis) (remove es axis)) ShapeMismatch
+    (legal_dims rank (joined_dims axis ds es))))
 
 -- the value of a concatenation at an index list: the first's, or past its part the second's
-abbrev pub concatenated :
-    ℕ → List ℕ → (List ℕ → ℤ) → (List ℕ → ℤ) → List ℕ → ℤ
+abbrev pub concatenated : ℕ → List ℕ → (List ℕ → ℤ) → (List ℕ → ℤ) → List ℕ → ℤ
 concatenated axis ds a b is =
     if nat_lt (slice_index is axis) (slice_index ds axis)
     then a is

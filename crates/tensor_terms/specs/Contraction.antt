@@ -1,13 +1,13 @@
 -- Contractions: sums of products over paired index lists.
 use Rattle.std.specs.Prelude.{ℕ, ℤ, pos, ◌+ℤ◌, ◌*ℤ◌, ◌*◌}
 use Rattle.std.specs.Prelude.{List, ◌++◌, length, map, take, drop}
-use Rattle.std.specs.Prelude.{nat_eq, nat_le, ◌&&◌, Ok, Err, if◌then◌else◌}
+use Rattle.std.specs.Prelude.{nat_eq, nat_le, ◌&&◌, Ok}
 use Rattle.std.specs.Cmp.Lexicographic.{pointwise}
 use Rattle.std.specs.List.{fold}
 use Rattle.tensor_shape.specs.Index.{size_of}
 use Rattle.tensor_shape.specs.Wrap.{wrap}
 use Rattle.tensor_terms.specs.Reduction.{are_axes}
-use Rattle.tensor_terms.specs.Shaped.{Shaped, legal_dims, with_one}
+use Rattle.tensor_terms.specs.Shaped.{Shaped, check, legal_dims, with_one}
 use Rattle.tensor_terms.specs.Woven.{dims_at, other_dims, woven, index_lists}
 use Rattle.tensor_terms.specs.declared.fault.ExprFault.TheVariants.{ShapeMismatch, OutOfRange}
 use Rattle.tensor_terms.specs.declared.fault.ExprFault.TheVariants.{TooLarge}
@@ -29,26 +29,22 @@ outer_dims pairs ds es = other_dims (firsts pairs) ds ++ other_dims (seconds pai
 
 -- dims whose elements are sums of so many products
 abbrev pub few_products : ℕ → List ℕ → Shaped
-few_products count ds =
-    if nat_le (size_of ds * count) most_products then Ok ds else Err TooLarge
+few_products count ds = check (nat_le (size_of ds * count) most_products) TooLarge (Ok ds)
 
 -- the result dims of a contraction, where ranks end there, or the first of its own faults. Legal
 -- operands with a legal result have no more products than may be, so that the last check finds
 -- nothing
 abbrev pub contracted_dims : ℕ → List (ℕ × ℕ) → List ℕ → List ℕ → Shaped
 contracted_dims rank pairs ds es =
-    if are_axes (length ds) (firsts pairs) && are_axes (length es) (seconds pairs)
-    then (if pointwise nat_eq (dims_at (firsts pairs) ds) (dims_at (seconds pairs) es)
-    then with_one (few_products (size_of (dims_at (firsts pairs) ds)))
-    (legal_dims rank (outer_dims pairs ds es))
-    else Err ShapeMismatch)
-    else Err OutOfRange
+    check (are_axes (length ds) (firsts pairs) && are_axes (length es) (seconds pairs)) OutOfRange
+    (check (pointwise nat_eq (dims_at (firsts pairs) ds) (dims_at (seconds pairs) es)) ShapeMismatch
+    (with_one (few_products (size_of (dims_at (firsts pairs) ds)))
+    (legal_dims rank (outer_dims pairs ds es))))
 
 -- the value of a contraction at an index list: the whole-number sum, modulo 2^64, of the products
 -- of both operands' values over all index lists of the paired axes
-abbrev pub contracted :
-    List (ℕ × ℕ) → List ℕ → List ℕ
-    → (List ℕ → ℤ) → (List ℕ → ℤ) → List ℕ → ℤ
+abbrev pub contracted : List (ℕ × ℕ) → List ℕ → List ℕ → (List ℕ → ℤ) → (List ℕ → ℤ)
+    → List ℕ → ℤ
 contracted pairs ds es a b is =
     wrap (fold ◌+ℤ◌ (pos 0) (map (λ js.
     a (woven (firsts pairs) ds js (take (length (other_dims (firsts pairs) ds)) is))

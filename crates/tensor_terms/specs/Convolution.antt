@@ -1,21 +1,19 @@
 -- Convolutions: sums of products of a kernel and what lies under it.
-use Rattle.std.specs.Prelude.{ℕ, ℤ, pos, ◌+ℤ◌, ◌*ℤ◌, ◌+◌, ◌-◌, List, [], ◌∷◌, length, map}
-use Rattle.std.specs.Prelude.{slice_index, slice_set, nat_eq, nat_le, Bool, true, ◌&&◌}
-use Rattle.std.specs.Prelude.{Err, if◌then◌else◌}
+use Rattle.std.specs.Prelude.{ℕ, ℤ, pos, ◌+ℤ◌, ◌*ℤ◌, ◌+◌, ◌-◌, List, ◌∷◌, length, map}
+use Rattle.std.specs.Prelude.{slice_index, slice_set, nat_le, Bool, true, ◌&&◌}
 use Rattle.std.specs.List.{fold}
 use Rattle.tensor_shape.specs.Index.{size_of}
 use Rattle.tensor_shape.specs.Wrap.{wrap}
 use Rattle.tensor_terms.specs.Contraction.{few_products}
 use Rattle.tensor_terms.specs.Reduction.{are_axes}
-use Rattle.tensor_terms.specs.Shaped.{Shaped}
+use Rattle.tensor_terms.specs.Shaped.{Shaped, check, check_lengths}
 use Rattle.tensor_terms.specs.Woven.{index_lists}
-use Rattle.tensor_terms.specs.declared.fault.ExprFault.TheVariants.{ShapeMismatch, OutOfRange}
+use Rattle.tensor_terms.specs.declared.fault.ExprFault.TheVariants.{OutOfRange}
 
 -- how many places a kernel has along each of its axes, where it stays within the dims
 abbrev pub slid_dims : List ℕ → List ℕ → List ℕ → List ℕ
-slid_dims [] ks ds = ds
-slid_dims (x ∷ xs) [] ds = ds
 slid_dims (x ∷ xs) (k ∷ ks) ds = slice_set (slid_dims xs ks ds) x (slice_index ds x - k + 1)
+slid_dims axes ks ds = ds
 
 -- whether each dimension of a kernel is from 1 to that of its axis
 abbrev pub fit_along : List ℕ → List ℕ → List ℕ → Bool
@@ -24,24 +22,17 @@ fit_along axes ks ds = true
 
 -- an index list, with each number of another on top at its axis
 abbrev pub slid : List ℕ → List ℕ → List ℕ → List ℕ
-slid [] js is = is
-slid (x ∷ xs) [] is = is
 slid (x ∷ xs) (j ∷ js) is = slice_set (slid xs js is) x (slice_index is x + j)
+slid axes js is = is
 
 -- the result dims of a convolution, or the first of its own faults
 abbrev pub convolved_dims : List ℕ → List ℕ → List ℕ → Shaped
 convolved_dims axes ds ks =
-    if are_axes (length ds) axes
-    then (if nat_eq (length ks) (length axes)
-    then (if fit_along axes ks ds
-    then few_products (size_of ks) (slid_dims axes ks ds)
-    else Err OutOfRange)
-    else Err ShapeMismatch)
-    else Err OutOfRange
+    check (are_axes (length ds) axes) OutOfRange (check_lengths ks axes
+    (check (fit_along axes ks ds) OutOfRange (few_products (size_of ks) (slid_dims axes ks ds))))
 
 -- the value of a convolution at an index list: the whole-number sum, modulo 2^64, of the products
 -- of the kernel's values and those of the operand that lie under them
-abbrev pub convolved :
-    List ℕ → List ℕ → (List ℕ → ℤ) → (List ℕ → ℤ) → List ℕ → ℤ
+abbrev pub convolved : List ℕ → List ℕ → (List ℕ → ℤ) → (List ℕ → ℤ) → List ℕ → ℤ
 convolved axes ks a kernel is =
     wrap (fold ◌+ℤ◌ (pos 0) (map (λ js. a (slid axes js is) *ℤ kernel js) (index_lists ks)))

@@ -13,5 +13,6 @@ pub mod Term
 pub mod Tree
 pub mod Value
 pub mod Woven
+pub mod Zipped
 -- for private clauses alone
 pub mod Pairing

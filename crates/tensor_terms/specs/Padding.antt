@@ -1,14 +1,12 @@
 -- Zeroes round a tensor.
-use Rattle.std.specs.Prelude.{ℕ, ℤ, pos, ◌+◌, ◌-◌, List, [], ◌∷◌, length}
-use Rattle.std.specs.Prelude.{nat_eq, nat_lt, nat_le, Bool, true, ◌&&◌, Err, if◌then◌else◌}
-use Rattle.tensor_terms.specs.Shaped.{Shaped, legal_dims}
-use Rattle.tensor_terms.specs.declared.fault.ExprFault.TheVariants.{ShapeMismatch}
+use Rattle.std.specs.Prelude.{ℕ, ℤ, pos, ◌+◌, ◌-◌, List, ◌∷◌}
+use Rattle.std.specs.Prelude.{nat_lt, nat_le, Bool, true, ◌&&◌, if◌then◌else◌}
+use Rattle.tensor_terms.specs.Shaped.{Shaped, check_lengths, legal_dims}
+use Rattle.tensor_terms.specs.Zipped.{zip_with}
 
 -- each dimension, and what stands before and behind it
 abbrev pub padded_dims : List (ℕ × ℕ) → List ℕ → List ℕ
-padded_dims [] ds = []
-padded_dims (p ∷ ps) [] = []
-padded_dims (p ∷ ps) (d ∷ ds) = (p.0 + d + p.1) ∷ padded_dims ps ds
+padded_dims pairs ds = zip_with (λ p d. p.0 + d + p.1) pairs ds
 
 -- whether each number is past what stands before, and not past the dimension
 abbrev pub is_inside : List (ℕ × ℕ) → List ℕ → List ℕ → Bool
@@ -18,17 +16,14 @@ is_inside pairs ds is = true
 
 -- each number less what stands before
 abbrev pub moved_back : List (ℕ × ℕ) → List ℕ → List ℕ
-moved_back [] is = []
-moved_back (p ∷ ps) [] = []
-moved_back (p ∷ ps) (i ∷ is) = (i - p.0) ∷ moved_back ps is
+moved_back pairs is = zip_with (λ p i. i - p.0) pairs is
 
 -- the result dims of a pad, where ranks end there, or the first of its own faults
 abbrev pub pad_dims : ℕ → List (ℕ × ℕ) → List ℕ → Shaped
 pad_dims rank pairs ds =
-    if nat_eq (length pairs) (length ds)
-    then legal_dims rank (padded_dims pairs ds)
-    else Err ShapeMismatch
+    check_lengths pairs ds (legal_dims rank (zip_with (λ p d. p.0 + d + p.1) pairs ds))
 
 -- the value of a pad at an index list: the operand's, or 0 outside of it
 abbrev pub padded : List (ℕ × ℕ) → List ℕ → (List ℕ → ℤ) → List ℕ → ℤ
-padded pairs ds a is = if is_inside pairs ds is then a (moved_back pairs is) else pos 0
+padded pairs ds a is =
+    if is_inside pairs ds is then a (zip_with (λ p i. i - p.0) pairs is) else pos 0

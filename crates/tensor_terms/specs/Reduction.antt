@@ -1,9 +1,9 @@
 -- Reductions: all values along the dropped axes, combined one after the other from a unit.
 use Rattle.std.specs.Prelude.{ℕ, ℤ, List, [], ◌∷◌, length, map}
-use Rattle.std.specs.Prelude.{nat_lt, Bool, true, not, ◌&&◌, Ok, Err, if◌then◌else◌}
+use Rattle.std.specs.Prelude.{nat_lt, Bool, true, not, ◌&&◌, Ok}
 use Rattle.tensor_values.specs.Combining.{combination}
 use Rattle.tensor_terms.specs.Movement.{is_among}
-use Rattle.tensor_terms.specs.Shaped.{Shaped}
+use Rattle.tensor_terms.specs.Shaped.{Shaped, check}
 use Rattle.tensor_terms.specs.Woven.{among, dims_at, other_dims, woven, index_lists}
 use Rattle.tensor_terms.specs.declared.fault.ExprFault.TheVariants.{OutOfRange}
 use Rattle.tensor_values.specs.declared.reducer.Reducer.{Reducer}
@@ -15,7 +15,7 @@ are_axes rank (x ∷ xs) = nat_lt x rank && (not (is_among x xs) && are_axes ran
 
 -- the result dims of a reduction over axes, or its own fault
 abbrev pub reduced_dims : List ℕ → List ℕ → Shaped
-reduced_dims axes ds = if are_axes (length ds) axes then Ok (other_dims axes ds) else Err OutOfRange
+reduced_dims axes ds = check (are_axes (length ds) axes) OutOfRange (Ok (other_dims axes ds))
 
 -- the value of a reduction at an index list: the combination of the operand's over all index lists
 -- of the dropped axes, in order of their places

@@ -9,7 +9,7 @@ use Rattle.tensor_terms.specs.Convolution.{convolved_dims}
 use Rattle.tensor_terms.specs.Movement.{moved_dims}
 use Rattle.tensor_terms.specs.Padding.{pad_dims}
 use Rattle.tensor_terms.specs.Reduction.{reduced_dims}
-use Rattle.tensor_terms.specs.Shaped.{Shaped, with_one, with_two, with_three, equal_dims}
+use Rattle.tensor_terms.specs.Shaped.{Shaped, with_one, equal_dims}
 use Rattle.tensor_terms.specs.Term.{Term, input, unary, binary, ternary}
 use Rattle.tensor_terms.specs.Term.{Unary, each, constant, movement, pad, reduce}
 use Rattle.tensor_terms.specs.Term.{Binary, pairwise, concat, contract, convolve, Ternary, select}
@@ -37,10 +37,10 @@ abbrev pub dims_of : ℕ → Term → List Contents → Shaped
 dims_of rank (input n) inputs = Ok (input_of inputs n).dims
 dims_of rank (unary o a) inputs = with_one (unary_dims rank o) (dims_of rank a inputs)
 dims_of rank (binary o a b) inputs =
-    with_two (binary_dims rank o) (dims_of rank a inputs) (dims_of rank b inputs)
+    with_one (λ d. with_one (binary_dims rank o d) (dims_of rank b inputs)) (dims_of rank a inputs)
 dims_of rank (ternary o a b c) inputs =
-    with_three (ternary_dims o)
-    (dims_of rank a inputs) (dims_of rank b inputs) (dims_of rank c inputs)
+    with_one (λ d. with_one (λ e. with_one (ternary_dims o d e) (dims_of rank c inputs))
+    (dims_of rank b inputs)) (dims_of rank a inputs)
 
 -- the dims of a term's operands, or their faults
 abbrev pub operand_dims : ℕ → Term → List Contents → List Shaped

@@ -1,5 +1,5 @@
 -- Result dims, or the first fault.
-use Rattle.std.specs.Prelude.{ℕ, List, Result, Ok, Err, nat_eq, if◌then◌else◌}
+use Rattle.std.specs.Prelude.{ℕ, List, length, Result, Ok, Err, Bool, nat_eq, if◌then◌else◌}
 use Rattle.std.specs.Cmp.Lexicographic.{pointwise}
 use Rattle.tensor_shape.specs.Legal.{are_legal}
 use Rattle.tensor_terms.specs.declared.fault.ExprFault.{ExprFault}
@@ -16,19 +16,25 @@ with_one own (Err fault) = Err fault
 
 -- the same of two operands, from the left
 abbrev pub with_two : (List ℕ → List ℕ → Shaped) → Shaped → Shaped → Shaped
-with_two own (Ok d) second = with_one (own d) second
-with_two own (Err fault) second = Err fault
+with_two own first second = with_one (λ d. with_one (own d) second) first
 
 -- the same of three
 abbrev pub with_three : (List ℕ → List ℕ → List ℕ → Shaped)
     → Shaped → Shaped → Shaped → Shaped
-with_three own (Ok d) second third = with_two (own d) second third
-with_three own (Err fault) second third = Err fault
+with_three own first second third = with_one (λ d. with_two (own d) second third) first
+
+-- the fault of a check that does not hold, or what is behind it
+abbrev pub check : Bool → ExprFault → Shaped → Shaped
+check holds fault behind = if holds then behind else Err fault
+
+-- a check that two lists are as long
+abbrev pub check_lengths : {A : Type 0} → List A → List ℕ → Shaped → Shaped
+check_lengths xs ds behind = check (nat_eq (length xs) (length ds)) ShapeMismatch behind
 
 -- dims that have to be equal
 abbrev pub equal_dims : List ℕ → List ℕ → Shaped
-equal_dims d e = if pointwise nat_eq d e then Ok d else Err ShapeMismatch
+equal_dims d e = check (pointwise nat_eq d e) ShapeMismatch (Ok d)
 
 -- dims that have to be legal, where ranks end there
 abbrev pub legal_dims : ℕ → List ℕ → Shaped
-legal_dims rank d = if are_legal rank d then Ok d else Err TooLarge
+legal_dims rank d = check (are_legal rank d) TooLarge (Ok d)

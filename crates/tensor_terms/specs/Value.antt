@@ -23,15 +23,13 @@ unary_value (movement m) d a index = a (moved m d index)
 unary_value (pad pairs) d a index = padded pairs d a index
 unary_value (reduce r axes) d a index = reduced r axes d a index
 
-abbrev pub binary_value :
-    Binary → List ℕ → List ℕ → (List ℕ → ℤ) → (List ℕ → ℤ) → List ℕ → ℤ
+abbrev pub binary_value : Binary → List ℕ → List ℕ → (List ℕ → ℤ) → (List ℕ → ℤ) → List ℕ → ℤ
 binary_value (pairwise o) d e a b index = combined o (a index) (b index)
 binary_value (concat axis) d e a b index = concatenated axis d a b index
 binary_value (contract pairs) d e a b index = contracted pairs d e a b index
 binary_value (convolve axes) d e a b index = convolved axes e a b index
 
-abbrev pub ternary_value : Ternary
-    → (List ℕ → ℤ) → (List ℕ → ℤ) → (List ℕ → ℤ) → List ℕ → ℤ
+abbrev pub ternary_value : Ternary → (List ℕ → ℤ) → (List ℕ → ℤ) → (List ℕ → ℤ) → List ℕ → ℤ
 ternary_value select c a b index = if is_true (c index) then a index else b index
 
 abbrev pub value : Term → List Contents → List ℕ → ℤ
@@ -52,8 +50,8 @@ values_from t inputs first count = map (value_of_place t inputs) (range_with_len
 
 -- the tensor of a term: its values at all index lists, in order of their places
 abbrev pub tensor_of : Term → List Contents → Contents
-tensor_of t inputs =
-    record {
-      dims = shape_of t inputs;
-      values = values_from t inputs 0 (size_of (shape_of t inputs));
-    }
+tensor_of t inputs = record {
+  dims = shape_of t inputs;
+  values = map (λ p. value t inputs (index_of (shape_of t inputs) p))
+      (range_with_len 0 (size_of (shape_of t inputs)));
+}

@@ -1,8 +1,8 @@
 -- Index lists in two parts: the numbers at some of the axes, and those at the others.
-use Rattle.std.specs.Prelude.{◌≡◌, ℕ, List, ◌++◌, length, map, not}
+use Rattle.std.specs.Prelude.{◌≡◌, ℕ, List, ◌++◌, length, map, slice_index, not}
 use Rattle.std.specs.List.{filter, range_with_len}
 use Rattle.tensor_shape.specs.Index.{size_of, IsIndexOf, index_of}
-use Rattle.tensor_terms.specs.Movement.{is_among, scattered, shuffled_dims}
+use Rattle.tensor_terms.specs.Movement.{is_among, scattered}
 
 -- which of so many axes are among these, and which aren't, both in order
 abbrev pub among : List ℕ → ℕ → List ℕ
@@ -13,10 +13,10 @@ others axes rank = filter (λ k. not (is_among k axes)) (range_with_len 0 rank)
 
 -- the dims of these axes, and those of the others
 abbrev pub dims_at : List ℕ → List ℕ → List ℕ
-dims_at axes ds = shuffled_dims ds axes
+dims_at axes ds = map (λ s. slice_index ds s) axes
 
 abbrev pub other_dims : List ℕ → List ℕ → List ℕ
-other_dims axes ds = shuffled_dims ds (others axes (length ds))
+other_dims axes ds = dims_at (others axes (length ds)) ds
 
 -- the index list with these numbers at these axes, one after the other, and those at the others
 abbrev pub woven : List ℕ → List ℕ → List ℕ → List ℕ → List ℕ
