@@ -16,8 +16,8 @@ use Rattle.serde_json.specs.Find.{get_member, get, as_object}
 use Rattle.serde_json.specs.Read.{number_of, of_json, of_items, of_members, max_depth, read}
 use Rattle.tensor_ops.specs.Contents.{Contents}
 use Rattle.expr_reader.specs.Arrays.{array_tensor, array_tensors}
-use Rattle.expr_reader.specs.Behind.{Source, in_text, behind, apart, tensors_by, place_by, naming_by}
-use Rattle.expr_reader.specs.Counted.{member_count, count_in_items, count_in_members}
+use Rattle.expr_reader.specs.private.Behind.{Source, in_text, behind, apart, tensors_by, place_by, naming_by}
+use Rattle.expr_reader.specs.private.Counted.{member_count, count_in_items, count_in_members}
 use Rattle.expr_reader.specs.Fields.{Fields, has_members, cons_of, fields_of, reading}
 use Rattle.expr_reader.specs.Frame.{none_left, framed_tensor, framed_tensors}
 use Rattle.expr_reader.specs.Place.{Step}

@@ -10,7 +10,7 @@ use Rattle.serde_json.specs.Data.{Data, Members, no_members, member}
 use Rattle.serde_json.specs.View.{view, members_view}
 use Rattle.serde_json.specs.declared.value.Value.{Value}
 use Rattle.tensor_ops.specs.Contents.{Contents, HaveRank}
-use Rattle.expr_reader.specs.Behind.{Source, in_text, behind, apart, tensor_by, left_by, tensors_by, place_by, is_end}
+use Rattle.expr_reader.specs.private.Behind.{Source, in_text, behind, apart, tensor_by, left_by, tensors_by, place_by, is_end}
 use Rattle.expr_reader.specs.Fields.{cons_of}
 use Rattle.expr_reader.specs.Place.{field}
 use Rattle.expr_reader.specs.Tensors.{names_in}

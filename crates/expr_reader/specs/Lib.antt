@@ -24,11 +24,4 @@ pub mod Request
 pub mod Steps
 pub mod Table
 pub mod Tensors
--- for private clauses alone
-pub mod Behind
-pub mod Counted
-pub mod Numbers
-pub mod Outcome
-pub mod Shown
-pub mod Version
-pub mod Walked
+pub mod private

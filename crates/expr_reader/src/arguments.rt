@@ -6,10 +6,10 @@ ghost use Rattle.tensor_ops.specs.Term.{unary, binary};
 ghost use Rattle.tensor_ops.specs.Tree.{term_of};
 ghost use Rattle.expr_reader.specs.Arguments.{arguments_at};
 ghost use Rattle.expr_reader.specs.Fields.{list_in};
-ghost use Rattle.expr_reader.specs.Outcome.{IsReadAt};
+ghost use Rattle.expr_reader.specs.private.Outcome.{IsReadAt};
 ghost use Rattle.expr_reader.specs.Place.{index, at};
 ghost use Rattle.expr_reader.specs.Steps.{map_found};
-ghost use Rattle.expr_reader.specs.Version.{forms_of, unary_of, forms_of_two, binary_of};
+ghost use Rattle.expr_reader.specs.private.Version.{forms_of, unary_of, forms_of_two, binary_of};
 
 use crate::fault::Fault;
 use crate::items::{Item, read_list};

@@ -3,7 +3,7 @@
 ghost use Rattle.std.specs.Prelude.{◌≡◌, ◌≤◌, IfSome, option_map};
 ghost use Rattle.serde_json.specs.View.{view};
 ghost use Rattle.expr_reader.specs.Fields.{reading, has_members, within, fields_of};
-ghost use Rattle.expr_reader.specs.Outcome.{IsReadOr};
+ghost use Rattle.expr_reader.specs.private.Outcome.{IsReadOr};
 
 use crate::fault::Fault;
 use serde_json::Value;
@@ -57,7 +57,7 @@ pub(crate) struct Fields<'v> {
 }
 
 impl<'v> Fields<'v> {
-    ghost use Rattle.expr_reader.specs.Shown.{fields_under};
+    ghost use Rattle.expr_reader.specs.private.Shown.{fields_under};
 
     /// The fields of an object that has exactly these.
     pub(crate) fn of(value: &'v Value) -> Option<Fields<'v>>

@@ -4,7 +4,7 @@ ghost use Rattle.std.specs.Prelude.{◌≡◌, Option};
 ghost use Rattle.serde_json.specs.Data.{Data};
 ghost use Rattle.serde_json.specs.View.{view};
 ghost use Rattle.expr_reader.specs.Fields.{list_in};
-ghost use Rattle.expr_reader.specs.Outcome.{IsReadOr};
+ghost use Rattle.expr_reader.specs.private.Outcome.{IsReadOr};
 
 use crate::MAX_SIZE;
 use crate::fault::Fault;

@@ -5,13 +5,13 @@ ghost use Rattle.std.specs.Prelude.{Ok, Err, MatchResult, OnOk, IfErr, if◌then
 ghost use Rattle.std.specs.Option.{option_or};
 ghost use Rattle.std.specs.Str.{bytes_eq};
 ghost use Rattle.serde_json.specs.View.{view, members_view};
-ghost use Rattle.expr_reader.specs.Behind.{source_of, tensors_by, place_by, naming_by};
-ghost use Rattle.expr_reader.specs.Counted.{member_count};
+ghost use Rattle.expr_reader.specs.private.Behind.{source_of, tensors_by, place_by, naming_by};
+ghost use Rattle.expr_reader.specs.private.Counted.{member_count};
 ghost use Rattle.expr_reader.specs.Limits.{most_bytes};
 ghost use Rattle.expr_reader.specs.Located.{steps_under};
-ghost use Rattle.expr_reader.specs.Numbers.{number_in};
+ghost use Rattle.expr_reader.specs.private.Numbers.{number_in};
 ghost use Rattle.expr_reader.specs.Place.{field, below};
-ghost use Rattle.expr_reader.specs.Shown.{IsNamed};
+ghost use Rattle.expr_reader.specs.private.Shown.{IsNamed};
 ghost use Rattle.expr_reader.specs.Tensors.{Named, names_in, number_of};
 
 use crate::fault::Fault;

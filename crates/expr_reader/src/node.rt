@@ -9,13 +9,13 @@ ghost use Rattle.tensor_ops.specs.Term.{has_inputs, unary, binary, ternary, sele
 ghost use Rattle.tensor_ops.specs.Tree.{term_of};
 ghost use Rattle.expr_reader.specs.Limits.{most_nodes};
 ghost use Rattle.expr_reader.specs.Node.{Tree, operation_at, input_at, made, checked, tree_at};
-ghost use Rattle.expr_reader.specs.Outcome.{IsReadAt};
+ghost use Rattle.expr_reader.specs.private.Outcome.{IsReadAt};
 ghost use Rattle.expr_reader.specs.Place.{Located, index, below};
-ghost use Rattle.expr_reader.specs.Shown.{IsNamed};
+ghost use Rattle.expr_reader.specs.private.Shown.{IsNamed};
 ghost use Rattle.expr_reader.specs.Tensors.{Named, given};
-ghost use Rattle.expr_reader.specs.Version.{profile_under, operation_under, forms_of, unary_of};
-ghost use Rattle.expr_reader.specs.Version.{forms_of_two, binary_of};
-ghost use Rattle.expr_reader.specs.Walked.{IsShaped, IsFound};
+ghost use Rattle.expr_reader.specs.private.Version.{profile_under, operation_under, forms_of, unary_of};
+ghost use Rattle.expr_reader.specs.private.Version.{forms_of_two, binary_of};
+ghost use Rattle.expr_reader.specs.private.Walked.{IsShaped, IsFound};
 
 use crate::MAX_NODES;
 use crate::arguments::{both_with_arguments, with_arguments};

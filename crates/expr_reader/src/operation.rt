@@ -38,7 +38,7 @@ pub(crate) enum Operation {
 }
 
 impl Unary {
-    ghost use Rattle.expr_reader.specs.Version.{forms_of};
+    ghost use Rattle.expr_reader.specs.private.Version.{forms_of};
 
     /// How many arguments stand behind its operand.
     pub(crate) fn arguments(self) -> usize
@@ -60,7 +60,7 @@ impl Unary {
 }
 
 impl Binary {
-    ghost use Rattle.expr_reader.specs.Version.{forms_of_two};
+    ghost use Rattle.expr_reader.specs.private.Version.{forms_of_two};
 
     /// How many arguments stand behind its operands.
     pub(crate) fn arguments(self) -> usize
@@ -75,7 +75,7 @@ impl Binary {
 
 impl Operation {
     ghost use Rattle.expr_reader.specs.Table.{arity_of};
-    ghost use Rattle.expr_reader.specs.Version.{operation_under};
+    ghost use Rattle.expr_reader.specs.private.Version.{operation_under};
 
     /// How many elements stand behind its name: operands, and then arguments.
     pub(crate) fn arity(self) -> usize

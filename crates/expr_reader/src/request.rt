@@ -5,7 +5,7 @@ ghost use Rattle.serde_json.specs.View.{view};
 ghost use Rattle.tensor_ops.specs.Result.{dims_of};
 ghost use Rattle.tensor_ops.specs.Term.{has_inputs, nodes_of};
 ghost use Rattle.tensor_ops.specs.Tree.{term_of};
-ghost use Rattle.expr_reader.specs.Counted.{member_count};
+ghost use Rattle.expr_reader.specs.private.Counted.{member_count};
 ghost use Rattle.expr_reader.specs.Limits.{most_bytes, most_workers};
 
 use serde_json::Value;

@@ -5,7 +5,7 @@ ghost use Rattle.serde_json.specs.View.{view};
 ghost use Rattle.tensor_ops.specs.Legal.{highest_rank};
 ghost use Rattle.expr_reader.specs.Arrays.{array_tensor};
 ghost use Rattle.expr_reader.specs.Frame.{framed_tensor};
-ghost use Rattle.expr_reader.specs.Outcome.{IsReadOr};
+ghost use Rattle.expr_reader.specs.private.Outcome.{IsReadOr};
 ghost use Rattle.expr_reader.specs.Tensors.{dims_in, values_in, tensor_in};
 
 use crate::fault::Fault;

@@ -6,20 +6,20 @@ ghost use Rattle.std.specs.Prelude.{MatchOption, length, IsErrOf, option_map, co
 ghost use Rattle.serde_json.specs.View.{view};
 ghost use Rattle.expr_reader.specs.Arrays.{arrays_under, joined, request_of_arrays};
 ghost use Rattle.expr_reader.specs.Asked.{asked_under};
-ghost use Rattle.expr_reader.specs.Behind.{source_of, naming_by};
-ghost use Rattle.expr_reader.specs.Counted.{member_count};
+ghost use Rattle.expr_reader.specs.private.Behind.{source_of, naming_by};
+ghost use Rattle.expr_reader.specs.private.Counted.{member_count};
 ghost use Rattle.expr_reader.specs.Frame.{request_of_frame};
 ghost use Rattle.expr_reader.specs.Limits.{most_bytes, most_values};
 ghost use Rattle.expr_reader.specs.Located.{steps_under, located_under};
 ghost use Rattle.expr_reader.specs.Node.{tree_at};
-ghost use Rattle.expr_reader.specs.Outcome.{IsToldAt};
+ghost use Rattle.expr_reader.specs.private.Outcome.{IsToldAt};
 ghost use Rattle.expr_reader.specs.Place.{field, here, below, unlocated};
 ghost use Rattle.expr_reader.specs.Request.{profile_in, fields_asked, data_asked, part_asked};
 ghost use Rattle.expr_reader.specs.Request.{data_of, request_of};
-ghost use Rattle.expr_reader.specs.Shown.{fields_under, IsNamed};
+ghost use Rattle.expr_reader.specs.private.Shown.{fields_under, IsNamed};
 ghost use Rattle.expr_reader.specs.Tensors.{Named, inputs_in, given};
-ghost use Rattle.expr_reader.specs.Version.{profile_under};
-ghost use Rattle.expr_reader.specs.Walked.{IsShaped, tree_under};
+ghost use Rattle.expr_reader.specs.private.Version.{profile_under};
+ghost use Rattle.expr_reader.specs.private.Walked.{IsShaped, tree_under};
 
 use crate::array::Array;
 use crate::fault::Fault;

@@ -3,7 +3,7 @@
 ghost use Rattle.std.specs.Prelude.{◌≡◌, ◌≤◌, length, IfOk};
 ghost use Rattle.serde_json.specs.View.{view};
 ghost use Rattle.tensor_ops.specs.Legal.{highest_rank};
-ghost use Rattle.expr_reader.specs.Outcome.{IsReadOr};
+ghost use Rattle.expr_reader.specs.private.Outcome.{IsReadOr};
 
 use crate::array::Array;
 use crate::fault::Fault;
@@ -22,7 +22,7 @@ pub(crate) enum Values<'a> {
 }
 
 impl<'a> Values<'a> {
-    ghost use Rattle.expr_reader.specs.Behind.{source_of, tensor_by, left_by, is_end, HasFirst};
+    ghost use Rattle.expr_reader.specs.private.Behind.{source_of, tensor_by, left_by, is_end, HasFirst};
 
     /// The tensor that a member is, with the first of the values or arrays where there are any.
     pub(crate) fn first_tensor(

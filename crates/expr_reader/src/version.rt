@@ -4,7 +4,7 @@ ghost use Rattle.std.specs.Prelude.{◌≡◌, ◌⊎◌, option_map};
 ghost use Rattle.expr_reader.specs.Profile.{operation_named};
 ghost use Rattle.expr_reader.specs.Table.{operations_on_values, movements, operations_along_axes};
 ghost use Rattle.expr_reader.specs.Table.{operations_1, operations_added};
-ghost use Rattle.expr_reader.specs.Version.{operation_under};
+ghost use Rattle.expr_reader.specs.private.Version.{operation_under};
 
 use crate::operation::{Binary, Operation, Unary};
 use tensor_ops::{BinaryScalar, Reducer, UnaryScalar};
@@ -18,7 +18,7 @@ pub(crate) enum Version {
 
 impl Version {
     ghost use Rattle.expr_reader.specs.Profile.{profile_of, operation_named};
-    ghost use Rattle.expr_reader.specs.Version.{profile_under, operation_under};
+    ghost use Rattle.expr_reader.specs.private.Version.{profile_under, operation_under};
 
     /// The version of a number.
     pub(crate) fn of(number: u64) -> Option<Version>

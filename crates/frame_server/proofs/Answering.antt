@@ -32,10 +32,10 @@ use Rattle.tensor_runner.specs.declared.limits.Limits.{Limits}
 use Rattle.message_server.specs.Pieces.{AppendsFront}
 use Rattle.message_server.proofs.Streams.{Appends-trans}
 use Rattle.frame_server.specs.Answer.{answer_of, answer_bytes, IsAnswerTo, IsShort}
-use Rattle.frame_server.specs.Answering.{front_bytes, bytes_in, values_in, Says, IsFrameUnder, IsFaultOf, IsFaultFrame, IsTensorFrame, IsOwnFrame}
+use Rattle.frame_server.specs.private.Answering.{front_bytes, bytes_in, values_in, Says, IsFrameUnder, IsFaultOf, IsFaultFrame, IsTensorFrame, IsOwnFrame}
 use Rattle.frame_server.specs.Frame.{Frame, frame_bytes, frame_in, header_len, value_count, number_bytes, value_bytes, IsWhole}
 use Rattle.frame_server.specs.Limited.{frame_unless, limit_frame, request_in, IsFrameWithin}
-use Rattle.frame_server.specs.Taking.{IsTooLong, IsPassed, frame_under}
+use Rattle.frame_server.specs.private.Taking.{IsTooLong, IsPassed, frame_under}
 use Rattle.frame_server.specs.declared.frame.AnswerFrame.{AnswerFrame}
 use Rattle.frame_server.specs.declared.frame.WholeFrame.{WholeFrame}
 use Rattle.frame_server.proofs.Frames.{length-values_of}

@@ -6,7 +6,7 @@ use Rattle.std.specs.Simd.{first_chunks}
 use Rattle.std.proofs.lemmas.List.{append_cancel_left, take-append-le, drop-append-le, take_at, drop_at, length-drop, drop-drop, map-append, nil_from_length, take_more}
 use Rattle.std.proofs.lemmas.List.Elements.{All-head, All-tail}
 use Rattle.frame_server.specs.Frame.{number_of, value_of, header_len, value_count, frame_len, frame_in, IsWhole, IsUnfinished}
-use Rattle.frame_server.specs.Taking.{values_of}
+use Rattle.frame_server.specs.private.Taking.{values_of}
 
 pub header_len-append : (xs ys : List ℕ) → 8 ≤ length xs → header_len (xs ++ ys) ≡ header_len xs
 header_len-append xs ys some = ap number_of (take-append-le 8 xs ys some)

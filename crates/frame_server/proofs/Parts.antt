@@ -8,9 +8,9 @@ use Rattle.message_server.specs.Streams.{HasFailed}
 use Rattle.frame_server.specs.Frame.{Frame, IsUnfinished, header_len, value_count}
 use Rattle.frame_server.specs.Answer.{IsShort}
 use Rattle.message_server.specs.Pieces.{IsBelow}
-use Rattle.frame_server.specs.Taking.{IsCutOff, IsHeadOf, IsKept, IsKeptRest, IsPassed, values_of}
+use Rattle.frame_server.specs.private.Taking.{IsCutOff, IsHeadOf, IsKept, IsKeptRest, IsPassed, values_of}
 use Rattle.message_server.specs.Pieces.{Takes, FailsIn}
-use Rattle.frame_server.specs.Taking.{TakesCount, TakesValues, TakesHead, TakesRest, TakesFrame, StopsInFrame, MovesValues}
+use Rattle.frame_server.specs.private.Taking.{TakesCount, TakesValues, TakesHead, TakesRest, TakesFrame, StopsInFrame, MovesValues}
 use Rattle.frame_server.specs.declared.frame.Head.{Head}
 use Rattle.frame_server.specs.declared.frame.NextFrame.{NextFrame}
 use Rattle.frame_server.specs.declared.frame.NextFrame.TheVariants.{Whole, Passed}

@@ -16,9 +16,9 @@ use Rattle.message_server.proofs.Streams.{Appends-none}
 use Rattle.tensor_runner.specs.declared.limits.Limits.{Limits}
 use Rattle.frame_server.specs.Frame.{IsWhole, IsUnfinished}
 use Rattle.frame_server.specs.Limited.{IsFrameWithin, whole_frames_within, AnswersFramesWithin, CutsFramesShortWithin}
-use Rattle.frame_server.specs.Server.{by_sizes}
+use Rattle.frame_server.specs.private.Server.{by_sizes}
 use Rattle.frame_server.specs.Stream.{EndsInside, StopsReading}
-use Rattle.frame_server.specs.Taking.{Ends, StopsInFrame}
+use Rattle.frame_server.specs.private.Taking.{Ends, StopsInFrame}
 use Rattle.frame_server.proofs.Frames.{IsUnfinished-short}
 
 concat-push : (done : List (List ℕ)) (frame rest : List ℕ) → concat (done ++ frame ∷ []) ++ rest ≡ concat done ++ (frame ++ rest)

@@ -10,7 +10,7 @@ use Rattle.std.proofs.lemmas.List.{take_all, take_at, drop_at}
 use Rattle.std.proofs.lemmas.List.Elements.{All-head, All-tail}
 use Rattle.frame_server.specs.Frame.{Frame, number_bytes, number_of, value_bytes, value_of, frame_bytes, header_len, value_count, frame_in, IsWhole}
 use Rattle.frame_server.specs.Stream.{Fits}
-use Rattle.frame_server.specs.Taking.{values_of}
+use Rattle.frame_server.specs.private.Taking.{values_of}
 use Rattle.frame_server.proofs.Frames.{IsWhole-head, frame_in-head}
 
 pub length-number_bytes : (n : ℕ) → length (number_bytes n) ≡ 8

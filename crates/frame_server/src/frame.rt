@@ -31,7 +31,7 @@ pub(crate) enum NextFrame {
 impl NextFrame {
     ghost use Rattle.std.specs.Prelude.{◌≡◌, ℕ, List, length};
     ghost use Rattle.frame_server.specs.Frame.{IsWhole};
-    ghost use Rattle.frame_server.specs.Taking.{IsKept};
+    ghost use Rattle.frame_server.specs.private.Taking.{IsKept};
 
     /// How many bytes the frame has.
     pub(crate) fn len(&self) -> u128
@@ -64,7 +64,7 @@ pub(crate) struct AnswerFrame {
 
 impl AnswerFrame {
     ghost use Rattle.std.specs.Prelude.{◌≡◌, length};
-    ghost use Rattle.frame_server.specs.Answering.{bytes_in};
+    ghost use Rattle.frame_server.specs.private.Answering.{bytes_in};
 
     /// How many bytes the frame has.
     pub(crate) fn len(&self) -> u128

@@ -1,7 +1,7 @@
 //! Deals out what was read of a client.
 
 ghost use Rattle.std.specs.Prelude.{◌≡◌, ◌+◌, ◌/◌, ◌<◌, ◌≤◌, ◌++◌, length, take, drop, vec_capacity};
-ghost use Rattle.frame_server.specs.Taking.{values_of, IsHeadOf, MovesBytes, MovesValues};
+ghost use Rattle.frame_server.specs.private.Taking.{values_of, IsHeadOf, MovesBytes, MovesValues};
 ghost use Rattle.message_server.specs.Pieces.{pending_bytes};
 
 use crate::frame::Head;

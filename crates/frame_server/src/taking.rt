@@ -5,8 +5,8 @@ ghost use Rattle.std.specs.Prelude.{MatchOption, MatchResult, vec_capacity};
 ghost use Rattle.frame_server.specs.Frame.{IsUnfinished};
 ghost use Rattle.message_server.specs.Pieces.{pending_bytes, IsBelow, OwesNothingWhile, FailsIn};
 ghost use Rattle.message_server.specs.Pieces.{Takes};
-ghost use Rattle.frame_server.specs.Taking.{IsCutOff, StopsInFrame, TakesCount, TakesHead};
-ghost use Rattle.frame_server.specs.Taking.{TakesValues, TakesRest, TakesFrame, Ends, HasRoom, IsPassed};
+ghost use Rattle.frame_server.specs.private.Taking.{IsCutOff, StopsInFrame, TakesCount, TakesHead};
+ghost use Rattle.frame_server.specs.private.Taking.{TakesValues, TakesRest, TakesFrame, Ends, HasRoom, IsPassed};
 
 use crate::frame::{Head, NextFrame, WholeFrame};
 use crate::reading::{HEAD, VALUE, head_of, move_bytes, move_values};

@@ -3,7 +3,7 @@
 ghost use Rattle.std.specs.Prelude.{◌≡◌, ◌≤◌, ◌++◌, length, OnOk, OnErr, IfOk, IfErr, option_map};
 ghost use Rattle.std.specs.List.{flat_map};
 ghost use Rattle.std.specs.Io.KnownBytes.{Appends};
-ghost use Rattle.frame_server.specs.Answering.{bytes_in};
+ghost use Rattle.frame_server.specs.private.Answering.{bytes_in};
 ghost use Rattle.frame_server.specs.Frame.{value_bytes};
 ghost use Rattle.message_server.specs.History.{writing};
 ghost use Rattle.message_server.specs.Pieces.{AppendsFront};

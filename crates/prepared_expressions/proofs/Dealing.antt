@@ -7,7 +7,7 @@ use Rattle.std.proofs.Math.Seq.{take-append_seam, drop-append_seam}
 use Rattle.tensor_shape.specs.Index.{size_of}
 use Rattle.tensor_shape.specs.Legal.{are_legal, bulk_of, most_elements}
 use Rattle.tensor_terms.specs.Contents.{Contents, HaveRank, input_of}
-use Rattle.prepared_expressions.specs.Dealing.{Dealing, One, one_from, after, next_from, all_from}
+use Rattle.prepared_expressions.specs.private.Dealing.{Dealing, One, one_from, after, next_from, all_from}
 use Rattle.prepared_expressions.specs.Prepared.{recorded_dims, all_legal, dims_of_all, values_of_all, before, dealt, Prepared, IsPrepared, record_of}
 use Rattle.tensor_terms.specs.Term.{Term}
 use Rattle.prepared_expressions.specs.Recorded.{recorded}

@@ -1,6 +1,6 @@
 -- Lists that are read item by item.
 use Rattle.std.proofs.Common.{◌≡◌, List, [], ◌∷◌, ◌++◌, Option, Some, None, option_map, refl, ap, append_assoc}
-use Rattle.prepared_expressions.specs.Made.{cons_of}
+use Rattle.prepared_expressions.specs.private.Made.{cons_of}
 
 -- what was taken, before the rest
 abbrev pub after : {A : Type 0} → List A → Option (List A) → Option (List A)

@@ -10,7 +10,7 @@ use Rattle.prepared_expressions.specs.declared.kind.UnaryKind.TheVariants.{Each,
 use Rattle.prepared_expressions.specs.declared.kind.UnaryKind.TheVariants.{Reshape, Chip, Reverse, Stride, Pad, Reduce}
 use Rattle.prepared_expressions.specs.declared.kind.BinaryKind.{BinaryKind}
 use Rattle.prepared_expressions.specs.declared.kind.BinaryKind.TheVariants.{Pairwise, Concat, Contract, Convolve}
-use Rattle.prepared_expressions.specs.Made.{of_none, one_in, two_in, lists_in, cons_of, flag_in, flags_in, pairs_in, unary_from, binary_from}
+use Rattle.prepared_expressions.specs.private.Made.{of_none, one_in, two_in, lists_in, cons_of, flag_in, flags_in, pairs_in, unary_from, binary_from}
 use Rattle.prepared_expressions.specs.Recorded.{flag_number, pair_numbers, unary_kind, unary_numbers, binary_kind, binary_numbers, HasRange}
 use Rattle.std.proofs.lemmas.Int.{to_z-of_z}
 use Rattle.std.proofs.Math.Seq.{take-append_seam, drop-append_seam}

@@ -11,10 +11,10 @@ use Rattle.prepared_expressions.specs.declared.kind.Kind.TheVariants.{Input, One
 use Rattle.prepared_expressions.specs.declared.refusal.Refusal.{Refusal}
 use Rattle.prepared_expressions.specs.declared.refusal.Refusal.TheVariants.{NoMemory, NoRecord}
 use Rattle.prepared_expressions.specs.declared.tree.Read.{Read}
-use Rattle.prepared_expressions.specs.Made.{unary_from, binary_from, of_none, input_from}
+use Rattle.prepared_expressions.specs.private.Made.{unary_from, binary_from, of_none, input_from}
 use Rattle.prepared_expressions.specs.Numbers.{number_of, headed}
 use Rattle.prepared_expressions.specs.Recorded.{recorded, unary_kind, unary_numbers, binary_kind, binary_numbers, height_of, HasRanges}
-use Rattle.prepared_expressions.specs.Told.{IsTold, IsToldOf}
+use Rattle.prepared_expressions.specs.private.Told.{IsTold, IsToldOf}
 use Rattle.prepared_expressions.proofs.Made.{Fit, unary_from-numbers, binary_from-numbers, unary_from-back, binary_from-back, of_none-back, option_map-some}
 use Rattle.prepared_expressions.proofs.Numbers.{recorded-head}
 

@@ -10,7 +10,4 @@ pub mod Numbers
 pub mod Part
 pub mod Prepared
 pub mod Recorded
--- for private clauses alone
-pub mod Dealing
-pub mod Made
-pub mod Told
+pub mod private

@@ -3,9 +3,9 @@
 ghost use Rattle.std.specs.Prelude.{◌≡◌, option_map, MatchResult};
 ghost use Rattle.tensor_terms.specs.Term.{unary, binary, ternary, select};
 ghost use Rattle.tensor_terms.specs.Tree.{term_of};
-ghost use Rattle.prepared_expressions.specs.Made.{IsMadeOr, of_none, one_in, two_in, lists_in};
-ghost use Rattle.prepared_expressions.specs.Made.{flag_in, flags_in, pairs_in, unary_from};
-ghost use Rattle.prepared_expressions.specs.Made.{binary_from, input_from};
+ghost use Rattle.prepared_expressions.specs.private.Made.{IsMadeOr, of_none, one_in, two_in, lists_in};
+ghost use Rattle.prepared_expressions.specs.private.Made.{flag_in, flags_in, pairs_in, unary_from};
+ghost use Rattle.prepared_expressions.specs.private.Made.{binary_from, input_from};
 
 use crate::kind::{BinaryKind, UnaryKind};
 use crate::refusal::Refusal;

@@ -4,7 +4,7 @@ ghost use Rattle.std.specs.Prelude.{◌≡◌, ◌⊎◌, ◌≤◌, Ok, Err, If
 ghost use Rattle.expr_reader.specs.Arrays.{arrays_under};
 ghost use Rattle.tensor_shape.specs.Legal.{highest_rank};
 ghost use Rattle.tensor_terms.specs.Contents.{HaveRank};
-ghost use Rattle.prepared_expressions.specs.Dealing.{all_from, one_from};
+ghost use Rattle.prepared_expressions.specs.private.Dealing.{all_from, one_from};
 
 use crate::refusal::Refusal;
 use expr_reader::Array;

@@ -4,7 +4,7 @@ ghost use Rattle.std.specs.Prelude.{◌≡◌, IfOk, IsTrue};
 ghost use Rattle.tensor_terms.specs.Term.{has_inputs};
 ghost use Rattle.tensor_terms.specs.Tree.{term_of};
 ghost use Rattle.prepared_expressions.specs.Recorded.{recorded};
-ghost use Rattle.prepared_expressions.specs.Told.{IsToldOf};
+ghost use Rattle.prepared_expressions.specs.private.Told.{IsToldOf};
 
 use crate::arguments::{binary_over, input_of, select_over, unary_over};
 use crate::head::read_head;

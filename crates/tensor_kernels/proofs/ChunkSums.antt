@@ -8,7 +8,7 @@ use Rattle.std.proofs.lemmas.List.Edits.{get_or-between}
 use Rattle.std.specs.Cow.{cow_slice_items}
 use Rattle.std.specs.Int.{w64}
 use Rattle.tensor_shape.specs.Wrap.{wrap}
-use Rattle.tensor_kernels.specs.Cells.{HoldsRows}
+use Rattle.tensor_kernels.specs.private.Cells.{HoldsRows}
 use Rattle.tensor_kernels.specs.Chunks.{chunk_start, chunk, before}
 use Rattle.tensor_kernels.specs.Panels.{AreInside, cell_of}
 use Rattle.tensor_values.specs.Values.{value_in}

@@ -11,7 +11,7 @@ use lib.Lanes.{zip2}
 use Rattle.tensor_values.specs.Values.{value_in}
 use Rattle.tensor_shape.specs.Wrap.{wrap}
 use Rattle.tensor_kernels.specs.Panels.{AreLanes}
-use Rattle.tensor_kernels.specs.Halves.{low_half, word_in, joined}
+use Rattle.tensor_kernels.specs.private.Halves.{low_half, word_in, joined}
 use Rattle.tensor_kernels.proofs.HalfProducts.{wrap-onto}
 use Rattle.tensor_kernels.proofs.SimdLanes.{value_in-lanes}
 

@@ -5,7 +5,7 @@ use Rattle.std.proofs.lemmas.Int.{to_z-of_z, int_wrap-add_left, int_wrap-add_rig
 use Rattle.std.proofs.lemmas.Int.{int_wrap-mul_left, int_wrap-mul_right, ints}
 use Rattle.std.specs.Int.{w64, int_wrap}
 use Rattle.tensor_shape.specs.Wrap.{wrap}
-use Rattle.tensor_kernels.specs.Halves.{low_half, high_half}
+use Rattle.tensor_kernels.specs.private.Halves.{low_half, high_half}
 
 -- what is the same modulo 2^64 wraps to the same
 pub wrap-same : (m n : ℕ) → m % 2 ^ 64 ≡ n % 2 ^ 64 → wrap (pos m) ≡ wrap (pos n)

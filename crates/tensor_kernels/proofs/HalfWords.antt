@@ -9,7 +9,7 @@ use Rattle.std.proofs.lemmas.Simd.{get_or_narrower}
 use lib.Lanes.{Each1, number_l, digits_l, zip2}
 use Rattle.tensor_values.specs.Values.{value_in}
 use Rattle.tensor_kernels.specs.Panels.{AreLanes}
-use Rattle.tensor_kernels.specs.Halves.{low_half, high_half}
+use Rattle.tensor_kernels.specs.private.Halves.{low_half, high_half}
 use Rattle.tensor_kernels.proofs.HalfProducts.{bits_below}
 use Rattle.tensor_kernels.proofs.HalfLanes.{length-bits, at-bits, length-both, at-both}
 

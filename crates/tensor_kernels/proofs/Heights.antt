@@ -1,6 +1,6 @@
 -- How high panels can be.
 use Rattle.std.proofs.Common.{◌<◌, ◌≤◌, arith}
-use Rattle.tensor_kernels.specs.Cells.{height_of}
+use Rattle.tensor_kernels.specs.private.Cells.{height_of}
 use Rattle.tensor_kernels.specs.declared.panels.height.Height.{Height}
 use Rattle.tensor_kernels.specs.declared.panels.height.Height.TheVariants.{Sixteen, Four}
 

@@ -8,8 +8,8 @@ use Rattle.std.specs.Int.{w64, int_wrap}
 use lib.Lanes.{zip2}
 use Rattle.tensor_values.specs.Values.{value_in}
 use Rattle.tensor_shape.specs.Wrap.{wrap}
-use Rattle.tensor_kernels.specs.Halves.{AreWords, joined, word_in}
-use Rattle.tensor_kernels.specs.Pairs.{pairs_dot}
+use Rattle.tensor_kernels.specs.private.Halves.{AreWords, joined, word_in}
+use Rattle.tensor_kernels.specs.private.Pairs.{pairs_dot}
 use Rattle.tensor_kernels.specs.Panels.{AreLanes}
 use Rattle.tensor_kernels.proofs.HalfProducts.{wrap-bits}
 use Rattle.tensor_kernels.proofs.HalfLanes.{length-bits, at-bits, length-both, at-both, joined-bits}

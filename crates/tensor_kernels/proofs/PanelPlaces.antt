@@ -12,7 +12,7 @@ use Rattle.std.proofs.lemmas.Nat.{mod_below}
 use Rattle.std.specs.Int.{div_ceil}
 use Rattle.tensor_shape.specs.Wrap.{wrap}
 use Rattle.tensor_values.specs.Values.{value_in}
-use Rattle.tensor_kernels.specs.Pairs.{own_pairs, lane, ArePairSums}
+use Rattle.tensor_kernels.specs.private.Pairs.{own_pairs, lane, ArePairSums}
 use Rattle.tensor_kernels.specs.Panels.{panel_place, cell_of, part_value, AreCells}
 use Rattle.tensor_kernels.proofs.ProductSums.{sum_to-ext}
 

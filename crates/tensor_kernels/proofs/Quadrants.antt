@@ -7,10 +7,10 @@ use Rattle.tensor_shape.specs.Wrap.{wrap}
 use Rattle.tensor_values.specs.Values.{value_in}
 use Rattle.tensor_kernels.specs.Panels.{cell_of, panel_place}
 use Rattle.tensor_kernels.specs.Products.{dot}
-use Rattle.tensor_kernels.specs.Quartering.{half_size}
-use Rattle.tensor_kernels.specs.Strassen.{cell, sum_of, difference_of, IsFactor, product_sum}
-use Rattle.tensor_kernels.specs.Strassen.{AreFirstFactors}
-use Rattle.tensor_kernels.specs.Strassen.{AreSecondFactors, quadrant_sum}
+use Rattle.tensor_kernels.specs.private.Quartering.{half_size}
+use Rattle.tensor_kernels.specs.private.Strassen.{cell, sum_of, difference_of, IsFactor, product_sum}
+use Rattle.tensor_kernels.specs.private.Strassen.{AreFirstFactors}
+use Rattle.tensor_kernels.specs.private.Strassen.{AreSecondFactors, quadrant_sum}
 use Rattle.tensor_kernels.specs.declared.panels.Panels.{Panels}
 use Rattle.tensor_kernels.specs.declared.tiling.strassen.factors.Factors.{Factors}
 use Rattle.tensor_kernels.specs.declared.tiling.strassen.half.Half.{Half}

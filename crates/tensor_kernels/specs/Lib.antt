@@ -1,20 +1,12 @@
--- for private clauses alone
-pub mod Cells
 pub mod Chunks
 pub mod Contracting
 pub mod Dots
-pub mod Halves
-pub mod PackedChunks
-pub mod PairedBands
-pub mod Pairs
 pub mod Panels
 pub mod Products
-pub mod Quartering
 pub mod Rows
 pub mod SlidDots
 pub mod SlidRuns
-pub mod Strassen
 pub mod StripDots
 pub mod Strips
-pub mod Tiles
 pub mod Tiling
+pub mod private

@@ -24,7 +24,7 @@ pub(crate) struct Panels {
 }
 
 impl Panels {
-    ghost use Rattle.tensor_kernels.specs.Cells.{HoldsRows, AreReady};
+    ghost use Rattle.tensor_kernels.specs.private.Cells.{HoldsRows, AreReady};
 
     /// Some rows of an operand, so many a panel. Takes a cell for each value, up to whole panels,
     /// and a number for each row where numbers don't fit 32 bits.

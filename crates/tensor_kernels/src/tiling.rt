@@ -13,7 +13,7 @@ ghost use Rattle.std.specs.Prelude.{◌≡◌, ℕ, ◌*◌, ◌+◌, ◌+ℤ◌
 ghost use Rattle.std.specs.Prelude.{IfOk, IsTrue, OnOk};
 ghost use Rattle.std.specs.Cow.{cow_slice_items};
 ghost use Rattle.tensor_values.specs.Values.{value_in};
-ghost use Rattle.tensor_kernels.specs.Cells.{AreChunks, AreChunks-prop, IsChunk};
+ghost use Rattle.tensor_kernels.specs.private.Cells.{AreChunks, AreChunks-prop, IsChunk};
 ghost use Rattle.tensor_kernels.specs.Panels.{AreSmall};
 ghost use Rattle.tensor_kernels.specs.Rows.{row_count, row_length, dot_at};
 

@@ -14,7 +14,7 @@ use Rattle.tensor_shape.specs.Index.{size_of, place, index_of}
 use Rattle.tensor_shape.specs.Wrap.{wrap}
 use Rattle.tensor_terms.specs.Contraction.{firsts, seconds, outer_dims, contracted, contracted_dims}
 use Rattle.tensor_kernels.specs.Products.{sum_to, rows_dot}
-use Rattle.tensor_operands.specs.OperandRows.{IsOperand}
+use Rattle.tensor_operands.specs.private.OperandRows.{IsOperand}
 use Rattle.tensor_terms.specs.Woven.{dims_at, other_dims, woven}
 use Rattle.tensor_terms.proofs.Dropped.{length-axes}
 use Rattle.tensor_terms.proofs.Known.{contraction-known}

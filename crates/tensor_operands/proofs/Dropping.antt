@@ -9,7 +9,7 @@ use Rattle.tensor_shape.specs.Index.{size_of, IsIndexOf, place, index_of}
 use Rattle.tensor_shape.proofs.Places.{IsIndexOf-index_of, place-below-size_of}
 use Rattle.tensor_walks.specs.Folds.{folded, offset_at, start_at}
 use Rattle.tensor_terms.specs.Movement.{is_among, scattered}
-use Rattle.tensor_operands.specs.Offsets.{offset_of}
+use Rattle.tensor_operands.specs.private.Offsets.{offset_of}
 use Rattle.tensor_values.specs.Values.{value_in}
 use Rattle.tensor_terms.specs.Reduction.{are_axes, reduced}
 use Rattle.tensor_values.specs.Combining.{unit, combine}

@@ -1,10 +1,10 @@
 -- Rows of a list along a route, whose tables are led along it.
 use Rattle.std.proofs.Common.{◌≡◌, ℕ, ℤ, ◌+◌, ◌<◌, ◌≤◌, List, length, slice_index, ap, sym, subst, ◌∙◌, arith}
 use Rattle.tensor_shape.specs.Index.{size_of}
-use Rattle.tensor_operands.specs.Offsets.{HasTables}
+use Rattle.tensor_operands.specs.private.Offsets.{HasTables}
 use Rattle.tensor_kernels.specs.Panels.{AreInside}
 use Rattle.tensor_values.specs.Values.{value_in}
-use Rattle.tensor_operands.specs.OperandRows.{IsOperand}
+use Rattle.tensor_operands.specs.private.OperandRows.{IsOperand}
 use Rattle.tensor_walks.specs.Walk.{walk_size, reached, AreAllApart}
 use Rattle.tensor_terms.specs.Woven.{others}
 use Rattle.tensor_walks.specs.declared.walk.Axis.{Axis}

@@ -12,7 +12,7 @@ use Rattle.tensor_shape.specs.Index.{size_of, place, place_by, index_of}
 use Rattle.tensor_shape.proofs.Places.{place-cons, place_by-scaled}
 use Rattle.tensor_walks.specs.Rising.{rising, no_axis}
 use Rattle.tensor_operands.specs.Axes.{axes_from, by_steps, shuffled_axes}
-use Rattle.tensor_operands.specs.Offsets.{offset_of}
+use Rattle.tensor_operands.specs.private.Offsets.{offset_of}
 use Rattle.tensor_terms.specs.Reduction.{are_axes}
 use Rattle.tensor_terms.specs.Woven.{dims_at}
 use Rattle.tensor_operands.proofs.AxisLists.{by_steps-from}

@@ -5,8 +5,8 @@ use Rattle.std.specs.List.{range_with_len}
 use Rattle.tensor_shape.specs.Index.{size_of, place, index_of}
 use Rattle.tensor_shape.proofs.Places.{IsIndexOf-index_of, place-below-size_of}
 use Rattle.tensor_terms.specs.Movement.{is_among}
-use Rattle.tensor_operands.specs.Offsets.{offset_of, HasOffsets, HasTables}
-use Rattle.tensor_operands.specs.OperandRows.{IsOperand}
+use Rattle.tensor_operands.specs.private.Offsets.{offset_of, HasOffsets, HasTables}
+use Rattle.tensor_operands.specs.private.OperandRows.{IsOperand}
 use Rattle.tensor_terms.specs.Reduction.{are_axes}
 use Rattle.tensor_terms.specs.Woven.{dims_at, other_dims, others, woven}
 use Rattle.tensor_terms.proofs.Weaving.{IsIndexOf-woven}

@@ -9,9 +9,9 @@ use Rattle.tensor_walks.specs.Rising.{no_axis}
 use Rattle.tensor_operands.specs.Axes.{axes_from, by_steps, shuffled_axes}
 use Rattle.tensor_terms.specs.Convolution.{slid}
 use Rattle.tensor_terms.specs.Movement.{shuffled_dims}
-use Rattle.tensor_operands.specs.Offsets.{offset_of}
+use Rattle.tensor_operands.specs.private.Offsets.{offset_of}
 use Rattle.tensor_terms.specs.Reduction.{are_axes}
-use Rattle.tensor_operands.specs.Stepped.{stepped}
+use Rattle.tensor_operands.specs.private.Stepped.{stepped}
 use Rattle.tensor_terms.specs.Woven.{dims_at}
 use Rattle.tensor_operands.proofs.AxisLists.{axes_from-short, are_along-from, along-at}
 use Rattle.tensor_terms.proofs.OtherAxes.{are_axes-first}

@@ -12,7 +12,7 @@ use Rattle.tensor_shape.proofs.Places.{place-cons, IsIndexOf-index_of}
 use Rattle.tensor_walks.specs.Rising.{rising, no_axis}
 use Rattle.tensor_operands.specs.Axes.{axes_from}
 use Rattle.tensor_terms.specs.Movement.{scattered, is_among}
-use Rattle.tensor_operands.specs.Offsets.{offset_of}
+use Rattle.tensor_operands.specs.private.Offsets.{offset_of}
 use Rattle.tensor_terms.specs.Reduction.{are_axes}
 use Rattle.tensor_terms.specs.Woven.{dims_at}
 use Rattle.tensor_terms.proofs.Moved.{scattered-below, length-scattered}

@@ -4,9 +4,9 @@ ghost use Rattle.std.specs.Prelude.{◌≡◌, ◌<◌, ◌≤◌, ◌+◌, ◌*
 ghost use Rattle.std.specs.Prelude.{IsTrue, IfOk};
 ghost use Rattle.tensor_shape.specs.Index.{size_of, index_of};
 ghost use Rattle.tensor_shape.specs.Legal.{most_elements, IsLegal};
-ghost use Rattle.tensor_operands.specs.Offsets.{offset_of, HasTables};
+ghost use Rattle.tensor_operands.specs.private.Offsets.{offset_of, HasTables};
 ghost use Rattle.tensor_terms.specs.Reduction.{are_axes};
-ghost use Rattle.tensor_operands.specs.Stepped.{stepped};
+ghost use Rattle.tensor_operands.specs.private.Stepped.{stepped};
 ghost use Rattle.tensor_terms.specs.Woven.{dims_at};
 
 use std::alloc::{AllocError, Global};

@@ -9,7 +9,7 @@ ghost use Rattle.tensor_values.specs.Values.{value_in};
 ghost use Rattle.tensor_terms.specs.Reduction.{are_axes};
 ghost use Rattle.tensor_operands.specs.Operand.{operand_at, operand_count, routed_count};
 ghost use Rattle.tensor_operands.specs.Operand.{routed_value};
-ghost use Rattle.tensor_operands.specs.OperandRows.{IsOperand};
+ghost use Rattle.tensor_operands.specs.private.OperandRows.{IsOperand};
 ghost use Rattle.tensor_kernels.specs.Rows.{row_count, row_length, row_value};
 ghost use Rattle.tensor_operands.specs.Slid.{IsOneRow};
 

@@ -6,7 +6,7 @@ ghost use Rattle.std.specs.Prelude.{IfOk, Ok};
 ghost use Rattle.std.specs.Cow.{cow_slice_items};
 ghost use Rattle.tensor_shape.specs.Index.{size_of};
 ghost use Rattle.tensor_terms.specs.Convolution.{convolved_dims};
-ghost use Rattle.tensor_operands.specs.Stepped.{run_axes, run_width};
+ghost use Rattle.tensor_operands.specs.private.Stepped.{run_axes, run_width};
 ghost use Rattle.tensor_operands.specs.Slid.{IsUnderKernel};
 ghost use Rattle.tensor_kernels.specs.SlidRuns.{slid_count, slid_length, slid_value};
 

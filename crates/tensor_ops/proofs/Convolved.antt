@@ -2,7 +2,7 @@
 use Rattle.std.proofs.Common.{◌≡◌, ℕ, ℤ, ◌<◌, List, Ok, sym, subst, arith}
 use Rattle.tensor_shape.specs.Index.{size_of, IsIndexOf, place, index_of}
 use Rattle.tensor_terms.specs.Convolution.{convolved, convolved_dims}
-use Rattle.tensor_ops.specs.Placing.{HasValues}
+use Rattle.tensor_ops.specs.private.Placing.{HasValues}
 use Rattle.tensor_terms.proofs.Convolutions.{convolved-other}
 use Rattle.tensor_terms.proofs.SlidIndex.{known, convolved-shape}
 use Rattle.tensor_ops.proofs.Worked.{values-other, values-agree}

@@ -17,18 +17,18 @@ use Rattle.tensor_shape.proofs.Places.{length-IsIndexOf}
 use Rattle.tensor_terms.specs.Contents.{Contents}
 use Rattle.tensor_terms.specs.Contraction.{firsts, seconds, outer_dims}
 use Rattle.tensor_walks.specs.Folds.{folded}
-use Rattle.tensor_ops.specs.InRuns.{GivesParts}
-use Rattle.tensor_ops.specs.Meaning.{meaning}
+use Rattle.tensor_ops.specs.private.InRuns.{GivesParts}
+use Rattle.tensor_ops.specs.private.Meaning.{meaning}
 use Rattle.tensor_terms.specs.Movement.{moved, moved_dims, shuffled_dims, scattered}
 use Rattle.tensor_values.specs.Values.{value_in}
-use Rattle.tensor_ops.specs.Placing.{Gives, meaning_at}
+use Rattle.tensor_ops.specs.private.Placing.{Gives, meaning_at}
 use Rattle.tensor_kernels.specs.Products.{sum_to}
 use Rattle.tensor_terms.specs.Reduction.{are_axes}
 use Rattle.tensor_terms.specs.Result.{dims_of, shape_of}
 use Rattle.tensor_terms.specs.Term.{Term, binary, contract, shuffle}
 use Rattle.tensor_terms.specs.Value.{value}
-use Rattle.tensor_ops.specs.Runs.{LieInRuns}
-use Rattle.tensor_ops.specs.ValueRuns.{run_value}
+use Rattle.tensor_ops.specs.private.Runs.{LieInRuns}
+use Rattle.tensor_ops.specs.private.ValueRuns.{run_value}
 use Rattle.tensor_terms.specs.Woven.{others, dims_at, other_dims, woven}
 use Rattle.tensor_ops.specs.declared.part_evaluator.in_runs.InRuns.TheVariants.{Multiplied}
 use Rattle.tensor_ops.specs.declared.placed.Placed.{Placed}

@@ -8,10 +8,10 @@ use Rattle.tensor_shape.specs.Legal.{highest_rank, most_elements}
 use Rattle.tensor_shape.proofs.Places.{place-below-size_of, index_of-place, place-index_of, IsIndexOf-index_of}
 use Rattle.tensor_operands.specs.Axes.{axes_from, by_steps, moved_axes, moved_start}
 use Rattle.tensor_terms.specs.Contents.{Contents, value_at}
-use Rattle.tensor_ops.specs.Meaning.{meaning, count_of, IsSound, IsListOf}
+use Rattle.tensor_ops.specs.private.Meaning.{meaning, count_of, IsSound, IsListOf}
 use Rattle.tensor_terms.specs.Movement.{moved, moved_dims}
 use Rattle.tensor_values.specs.Values.{value_in}
-use Rattle.tensor_ops.specs.Placing.{Gives, IsJoined, IsView, meaning_at}
+use Rattle.tensor_ops.specs.private.Placing.{Gives, IsJoined, IsView, meaning_at}
 use Rattle.tensor_terms.specs.Term.{Movement, reshape}
 use Rattle.tensor_values.specs.Scalars.{applied, combined}
 use Rattle.tensor_walks.specs.Walk.{walk_size, reached}

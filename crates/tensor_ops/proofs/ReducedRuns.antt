@@ -6,10 +6,10 @@ use Rattle.std.proofs.lemmas.Simd.{map-map}
 use Rattle.tensor_shape.specs.Index.{size_of, IsIndexOf, index_of}
 use Rattle.tensor_shape.specs.Legal.{highest_rank}
 use Rattle.tensor_walks.specs.Folds.{folded}
-use Rattle.tensor_ops.specs.InRuns.{run_length, run_places, run_part, HaveOneLength}
-use Rattle.tensor_ops.specs.InRuns.{GivesParts, GivesReduced}
+use Rattle.tensor_ops.specs.private.InRuns.{run_length, run_places, run_part, HaveOneLength}
+use Rattle.tensor_ops.specs.private.InRuns.{GivesParts, GivesReduced}
 use Rattle.tensor_ops.specs.Parts.{reduced_part}
-use Rattle.tensor_ops.specs.Runs.{value_in_run, LieInRuns}
+use Rattle.tensor_ops.specs.private.Runs.{value_in_run, LieInRuns}
 use Rattle.tensor_terms.specs.Contents.{Contents}
 use Rattle.tensor_terms.specs.Result.{dims_of, shape_of}
 use Rattle.tensor_terms.specs.Term.{Term, unary, reduce}

@@ -9,11 +9,11 @@ use Rattle.tensor_shape.proofs.Places.{place-index_of}
 use Rattle.tensor_shape.specs.Legal.{most_elements}
 use Rattle.tensor_walks.specs.Joining.{span, IsJoint}
 use Rattle.tensor_walks.specs.Loops.{either_way, selected}
-use Rattle.tensor_ops.specs.Meaning.{meaning, count_of, IsSound, IsListOf}
+use Rattle.tensor_ops.specs.private.Meaning.{meaning, count_of, IsSound, IsListOf}
 use Rattle.tensor_values.specs.Values.{value_in}
-use Rattle.tensor_ops.specs.Placing.{Gives, HasValues, IsJoined, meaning_at}
+use Rattle.tensor_ops.specs.private.Placing.{Gives, HasValues, IsJoined, meaning_at}
 use Rattle.tensor_values.specs.Scalars.{applied}
-use Rattle.tensor_ops.specs.Settling.{Follows, meaning_along}
+use Rattle.tensor_ops.specs.private.Settling.{Follows, meaning_along}
 use Rattle.tensor_values.specs.Splicing.{spliced, HaveTurns}
 use Rattle.tensor_walks.specs.Walk.{walk_size, reached, steps_to}
 use Rattle.tensor_walks.specs.declared.loops.SelectOrder.{SelectOrder}

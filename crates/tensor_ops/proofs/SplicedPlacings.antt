@@ -7,8 +7,8 @@ use Rattle.std.proofs.Math.Nat.{mod-lt}
 use Rattle.tensor_shape.specs.Index.{size_of, index_of}
 use Rattle.tensor_shape.specs.Legal.{highest_rank}
 use Rattle.tensor_terms.specs.Concatenation.{joined_dims, concatenated_dims, concatenated}
-use Rattle.tensor_ops.specs.Meaning.{meaning, count_of, IsSound}
-use Rattle.tensor_ops.specs.Placing.{Gives, meaning_at}
+use Rattle.tensor_ops.specs.private.Meaning.{meaning, count_of, IsSound}
+use Rattle.tensor_ops.specs.private.Placing.{Gives, meaning_at}
 use Rattle.tensor_values.specs.Splicing.{is_of_first, firsts_before, seconds_before, spliced, HaveTurns}
 use Rattle.tensor_ops.specs.declared.placed.Placed.{Placed}
 use Rattle.tensor_values.proofs.InTurns.{spliced-second, spliced-first}

@@ -10,9 +10,9 @@ use Rattle.tensor_shape.proofs.Places.{place-below-size_of, index_of-place, plac
 use Rattle.tensor_shape.proofs.Places.{IsIndexOf-index_of}
 use Rattle.tensor_terms.specs.Contents.{Contents}
 use Rattle.tensor_terms.specs.Contraction.{outer_dims, contracted, contracted_dims}
-use Rattle.tensor_ops.specs.Meaning.{meaning, count_of, IsSound, IsListOf}
+use Rattle.tensor_ops.specs.private.Meaning.{meaning, count_of, IsSound, IsListOf}
 use Rattle.tensor_values.specs.Values.{value_in}
-use Rattle.tensor_ops.specs.Placing.{Gives, HasValues, meaning_at}
+use Rattle.tensor_ops.specs.private.Placing.{Gives, HasValues, meaning_at}
 use Rattle.tensor_terms.specs.Reduction.{reduced, reduced_dims}
 use Rattle.tensor_terms.specs.Result.{shape_of, unary_dims, binary_dims}
 use Rattle.tensor_terms.specs.Term.{Term, unary, binary, Unary, Binary}

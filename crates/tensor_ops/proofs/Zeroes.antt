@@ -8,9 +8,9 @@ use Rattle.std.specs.Cmp.Lexicographic.{pointwise}
 use Rattle.tensor_shape.specs.Index.{IsIndexOf}
 use Rattle.tensor_shape.specs.Legal.{highest_rank, most_elements, bulk_of, IsLegal, are_legal}
 use Rattle.tensor_terms.specs.Concatenation.{joined_dims, concatenated_dims, concatenated}
-use Rattle.tensor_ops.specs.Meaning.{meaning}
+use Rattle.tensor_ops.specs.private.Meaning.{meaning}
 use Rattle.tensor_terms.specs.Padding.{padded_dims, padded}
-use Rattle.tensor_ops.specs.Placing.{Gives, meaning_at}
+use Rattle.tensor_ops.specs.private.Placing.{Gives, meaning_at}
 use Rattle.tensor_terms.specs.Shaped.{Shaped}
 use Rattle.tensor_values.specs.Splicing.{padded_along}
 use Rattle.tensor_ops.specs.declared.placed.Placed.{Placed}

@@ -20,12 +20,4 @@ pub use Rattle.tensor_terms.specs.declared.fault.ExprFault
 pub mod Evaluator
 pub mod PartEvaluator
 pub mod Parts
--- for private clauses alone
-pub mod ContractedRuns
-pub mod InRuns
-pub mod Meaning
-pub mod Placing
-pub mod Root
-pub mod Runs
-pub mod Settling
-pub mod ValueRuns
+pub mod private

@@ -8,7 +8,7 @@ ghost use Rattle.std.specs.Prelude.{OnOk};
 ghost use Rattle.tensor_shape.specs.Legal.{highest_rank};
 ghost use Rattle.tensor_shape.specs.Index.{size_of};
 ghost use Rattle.tensor_terms.specs.Result.{dims_of, shape_of};
-ghost use Rattle.tensor_ops.specs.Root.{root_value, root_count, IsSoundRoot, IsSoundRoot-prop};
+ghost use Rattle.tensor_ops.specs.private.Root.{root_value, root_count, IsSoundRoot, IsSoundRoot-prop};
 ghost use Rattle.tensor_terms.specs.Tensors.{tensors_in};
 ghost use Rattle.tensor_terms.specs.Term.{has_inputs};
 ghost use Rattle.tensor_terms.specs.Tree.{term_of};

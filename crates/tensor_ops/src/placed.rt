@@ -12,10 +12,10 @@ ghost use Rattle.std.specs.Cow.{cow_slice_items};
 ghost use Rattle.std.specs.List.{range_with_len};
 ghost use Rattle.tensor_shape.specs.Index.{size_of};
 ghost use Rattle.tensor_walks.specs.Loops.{either_way};
-ghost use Rattle.tensor_ops.specs.Meaning.{meaning, count_of, IsSound, IsListOf, IsReadingOf};
+ghost use Rattle.tensor_ops.specs.private.Meaning.{meaning, count_of, IsSound, IsListOf, IsReadingOf};
 ghost use Rattle.tensor_walks.specs.Places.{places_of, AreBelow};
 ghost use Rattle.tensor_values.specs.Values.{value_in};
-ghost use Rattle.tensor_ops.specs.Placing.{HasValues, meaning_at};
+ghost use Rattle.tensor_ops.specs.private.Placing.{HasValues, meaning_at};
 ghost use Rattle.tensor_values.specs.Splicing.{spliced, HaveTurns};
 
 use crate::placed::settling::settled_over;

@@ -8,7 +8,7 @@ use Rattle.tensor_ops.specs.Contents.{Contents}
 use Rattle.tensor_ops.specs.Result.{dims_of}
 use Rattle.tensor_ops.specs.Shaped.{Shaped}
 use Rattle.tensor_ops.specs.Term.{Term, input, unary, binary, ternary, Unary, Binary, Ternary}
-use Rattle.tensor_reduce.specs.Cutting.{IsCut, IsSettled}
+use Rattle.tensor_reduce.specs.private.Cutting.{IsCut, IsSettled}
 use Rattle.tensor_reduce.specs.Plan.{term_of_step, dims_of_step, terms_in, dims_in}
 use Rattle.tensor_reduce.specs.Steps.{combines, combines_two, own, operand_nodes, number_of, Cut}
 use Rattle.tensor_reduce.specs.Steps.{settled, cut}

@@ -4,8 +4,8 @@ use Rattle.std.proofs.Common.{refl, ap, sym, subst, ◌∙◌, arith}
 use Rattle.std.proofs.lemmas.Bool.{true≢false}
 use Rattle.std.proofs.lemmas.List.{length-append, length-set, get_or-set_other, set-append_right}
 use Rattle.tensor_ops.specs.Contents.{Contents, input_of, nothing}
-use Rattle.tensor_reduce.specs.Held.{AreHeldFor, AreHeld}
-use Rattle.tensor_reduce.specs.Readers.{are_reading}
+use Rattle.tensor_reduce.specs.private.Held.{AreHeldFor, AreHeld}
+use Rattle.tensor_reduce.specs.private.Readers.{are_reading}
 use Rattle.tensor_reduce.specs.declared.step.Step.{Step}
 
 AreHeldFor-set : (left : List Step) (held all : List Contents) (k : ℕ) (x : Contents)

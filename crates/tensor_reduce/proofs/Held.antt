@@ -19,9 +19,9 @@ use Rattle.tensor_ops.proofs.Evaluated.{value_at-tensor_of}
 use Rattle.tensor_ops.proofs.Shapes.{Ok-unwrap}
 use Rattle.tensor_reduce.specs.Plan.{term_of_step, dims_of_step, terms_in, worked_out}
 use Rattle.tensor_reduce.specs.Plan.{IsReady, AreReady}
-use Rattle.tensor_reduce.specs.Fusing.{fused_with}
-use Rattle.tensor_reduce.specs.Held.{AreHeldFor, AreHeld}
-use Rattle.tensor_reduce.specs.Readers.{reads, are_reading}
+use Rattle.tensor_reduce.specs.private.Fusing.{fused_with}
+use Rattle.tensor_reduce.specs.private.Held.{AreHeldFor, AreHeld}
+use Rattle.tensor_reduce.specs.private.Readers.{reads, are_reading}
 use Rattle.tensor_reduce.specs.Steps.{is_combining}
 use Rattle.tensor_reduce.specs.declared.step.Step.{Step}
 use Rattle.tensor_reduce.proofs.Planned.{last_tensor-append}

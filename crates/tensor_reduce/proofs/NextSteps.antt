@@ -7,11 +7,11 @@ use Rattle.tensor_ops.specs.Contents.{Contents}
 use Rattle.tensor_ops.specs.Legal.{highest_rank}
 use Rattle.tensor_ops.specs.Result.{dims_of}
 use Rattle.tensor_ops.specs.Term.{has_inputs}
-use Rattle.tensor_reduce.specs.Held.{AreHeldFor, HasMore}
-use Rattle.tensor_reduce.specs.Next.{IsNextOf, fused_in, last_number}
-use Rattle.tensor_reduce.specs.Next.{next_term, next_dims, next_schedule}
+use Rattle.tensor_reduce.specs.private.Held.{AreHeldFor, HasMore}
+use Rattle.tensor_reduce.specs.private.Next.{IsNextOf, fused_in, last_number}
+use Rattle.tensor_reduce.specs.private.Next.{next_term, next_dims, next_schedule}
 use Rattle.tensor_reduce.specs.Plan.{term_of_step}
-use Rattle.tensor_reduce.specs.Schedules.{IsScheduleFor}
+use Rattle.tensor_reduce.specs.private.Schedules.{IsScheduleFor}
 use Rattle.tensor_reduce.specs.declared.schedule.next.Next.{Next}
 use Rattle.tensor_reduce.specs.declared.schedule.next.Next.TheVariants.{Alone, Fused, BothFused}
 use Rattle.tensor_reduce.specs.declared.step.Step.{Step}

@@ -4,9 +4,9 @@ use Rattle.tensor_ops.specs.Parts.{has_parts, is_reduction, is_contraction}
 use Rattle.tensor_ops.specs.Term.{Term, input, unary, binary, ternary, Unary, Binary}
 use Rattle.tensor_ops.specs.Term.{each, constant, movement, pad, reduce}
 use Rattle.tensor_ops.specs.Term.{pairwise, concat, contract, convolve}
-use Rattle.tensor_reduce.specs.Fusing.{fused_with}
+use Rattle.tensor_reduce.specs.private.Fusing.{fused_with}
 use Rattle.tensor_reduce.specs.Steps.{combines, combines_two, is_combining}
-use Rattle.tensor_reduce.specs.Schedules.{IsScheduleFor, IsFusingFor}
+use Rattle.tensor_reduce.specs.private.Schedules.{IsScheduleFor, IsFusingFor}
 use Rattle.tensor_reduce.specs.declared.schedule.Schedule.{Schedule}
 use Rattle.tensor_reduce.specs.declared.schedule.Schedule.TheVariants.{Sharded, Ranged}
 use Rattle.tensor_reduce.proofs.FusedTerms.{is_combining-fused_with, has_parts-fused_with}

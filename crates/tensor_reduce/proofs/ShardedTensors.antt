@@ -21,7 +21,7 @@ use Rattle.tensor_ops.specs.Term.{pairwise, concat, contract, convolve}
 use Rattle.tensor_ops.specs.Reducer.{Reducer}
 use Rattle.tensor_ops.specs.Value.{value, value_of_place, tensor_of}
 use Rattle.tensor_ops.proofs.Evaluated.{map-values_from, tensor_of-made}
-use Rattle.tensor_reduce.specs.Combined.{reducer_of, shard_value, value_shard, combined_by}
+use Rattle.tensor_reduce.specs.private.Combined.{reducer_of, shard_value, value_shard, combined_by}
 use Rattle.tensor_reduce.specs.Shards.{Shard, shards_by, shards_of, most_shards, width_of}
 use Rattle.tensor_reduce.proofs.Sharding.{one-shard, reduced-shards, contracted-shards, width_of-enough}
 

@@ -10,14 +10,14 @@ use Rattle.tensor_ops.specs.Legal.{highest_rank}
 use Rattle.tensor_ops.specs.Result.{dims_of}
 use Rattle.tensor_ops.specs.Term.{Term, input, unary, binary, ternary, has_inputs}
 use Rattle.tensor_ops.specs.Value.{tensor_of}
-use Rattle.tensor_reduce.specs.Fusing.{fused_with}
-use Rattle.tensor_reduce.specs.Held.{AreHeldFor, AreHeld, HasMore}
-use Rattle.tensor_reduce.specs.Next.{fused_in, next_term}
+use Rattle.tensor_reduce.specs.private.Fusing.{fused_with}
+use Rattle.tensor_reduce.specs.private.Held.{AreHeldFor, AreHeld, HasMore}
+use Rattle.tensor_reduce.specs.private.Next.{fused_in, next_term}
 use Rattle.tensor_reduce.specs.Plan.{term_of_step, AreReady}
-use Rattle.tensor_reduce.specs.Readers.{reads, is_over, are_reading}
-use Rattle.tensor_reduce.specs.Schedules.{IsScheduleFor}
-use Rattle.tensor_reduce.specs.Stage.{IsStageOf, IsReducing, HasNumbers, fused_in_stage}
-use Rattle.tensor_reduce.specs.Stage.{stage_term, stage_dims, stage_schedule}
+use Rattle.tensor_reduce.specs.private.Readers.{reads, is_over, are_reading}
+use Rattle.tensor_reduce.specs.private.Schedules.{IsScheduleFor}
+use Rattle.tensor_reduce.specs.private.Stage.{IsStageOf, IsReducing, HasNumbers, fused_in_stage}
+use Rattle.tensor_reduce.specs.private.Stage.{stage_term, stage_dims, stage_schedule}
 use Rattle.tensor_reduce.specs.declared.schedule.Schedule.{Schedule}
 use Rattle.tensor_reduce.specs.declared.schedule.stage.Stage.{Stage}
 use Rattle.tensor_reduce.specs.declared.schedule.stage.Stage.TheVariants.{Plain, Reduced}

@@ -17,13 +17,4 @@ pub mod Plan
 pub mod Reducers
 pub mod Shards
 pub mod Steps
--- for private clauses alone
-pub mod Combined
-pub mod Cutting
-pub mod Fusing
-pub mod Held
-pub mod Next
-pub mod Readers
-pub mod Schedules
-pub mod Stage
-pub mod Worth
+pub mod private

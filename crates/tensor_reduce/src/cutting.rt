@@ -5,7 +5,7 @@ ghost use Rattle.tensor_ops.specs.Legal.{highest_rank};
 ghost use Rattle.tensor_ops.specs.Result.{dims_of, operand_dims};
 ghost use Rattle.tensor_ops.specs.Term.{has_inputs};
 ghost use Rattle.tensor_ops.specs.Tree.{term_of, unary_at, binary_at};
-ghost use Rattle.tensor_reduce.specs.Cutting.{IsCut, IsSettled, AreStepsOf};
+ghost use Rattle.tensor_reduce.specs.private.Cutting.{IsCut, IsSettled, AreStepsOf};
 ghost use Rattle.tensor_reduce.specs.Steps.{combines, combines_two, is_input, number_of};
 
 use crate::step::Step;

@@ -15,7 +15,7 @@ ghost use Rattle.std.specs.Prelude.{vec_capacity, IfOk, IfErr, IsErrOf};
 ghost use Rattle.parallel_for.specs.Setup.{IsPoolSize, IsNoPoolSize, AreNoPartitions};
 ghost use Rattle.tensor_reduce.specs.Plan.{steps_in, terms_in, worked_out};
 ghost use Rattle.tensor_reduce.specs.Plan.{last_tensor, AreReady};
-ghost use Rattle.tensor_reduce.specs.Held.{AreHeld};
+ghost use Rattle.tensor_reduce.specs.private.Held.{AreHeld};
 
 use crate::plan::Plan;
 use crate::running::freeing::{free_unread, push_freed};

@@ -84,7 +84,7 @@ impl Costed<'_> {
 }
 
 impl Schedule {
-    ghost use Rattle.tensor_reduce.specs.Schedules.{IsScheduleFor, IsFusingFor};
+    ghost use Rattle.tensor_reduce.specs.private.Schedules.{IsScheduleFor, IsFusingFor};
 
     /// A step by itself, which combines values of so many places: in shards of a block where it has
     /// few values and the parts of each lie side by side, and else by whole columns of so many rows

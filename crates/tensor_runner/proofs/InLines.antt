@@ -7,8 +7,8 @@ use Rattle.std.specs.Io.KnownBytes.{IsAtEnd}
 use Rattle.message_server.specs.History.{History}
 use Rattle.message_server.specs.Pieces.{IsBelow, OwesNothingWhile, Takes, FailsIn}
 use Rattle.message_server.proofs.Takings.{Takes-none, Takes-more, Takes-wait, owes-on, FailsIn-on}
-use Rattle.tensor_runner.specs.Kept.{IsKept}
-use Rattle.tensor_runner.specs.Taking.{HasNoFeed, TakesPiece, InLine, TakesLine}
+use Rattle.tensor_runner.specs.private.Kept.{IsKept}
+use Rattle.tensor_runner.specs.private.Taking.{HasNoFeed, TakesPiece, InLine, TakesLine}
 use Rattle.tensor_runner.specs.declared.kept.KeptText.{KeptText}
 
 -- a byte that is no line feed

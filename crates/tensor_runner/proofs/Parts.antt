@@ -9,7 +9,7 @@ use Rattle.std.proofs.lemmas.Bool.{cases_lt, eqb-true, false_from_ne_true}
 use Rattle.memchr.specs.Find.{Passes, is_byte, Nowhere}
 use Rattle.message_server.specs.Serving.{AreAnswers}
 use Rattle.tensor_runner.specs.Limited.{line_within, lines_within}
-use Rattle.tensor_runner.specs.Taking.{HasNoFeed, with_feeds}
+use Rattle.tensor_runner.specs.private.Taking.{HasNoFeed, with_feeds}
 use Rattle.tensor_runner.specs.Lines.{lines_of, whole_lines}
 use Rattle.tensor_runner.specs.declared.limits.Limits.{Limits}
 

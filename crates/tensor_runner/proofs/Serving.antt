@@ -10,12 +10,12 @@ use Rattle.message_server.specs.Server.{Serves}
 use Rattle.message_server.specs.Serving.{AreAnswers, bytes_answering}
 use Rattle.message_server.proofs.Serving.{Laws, Serves-end, Serves-cut, Serves-more, CutsShort-more, rest_at_end}
 use Rattle.message_server.proofs.Streams.{Appends-none}
-use Rattle.tensor_runner.specs.Kept.{IsKept, kept_len}
+use Rattle.tensor_runner.specs.private.Kept.{IsKept, kept_len}
 use Rattle.tensor_runner.specs.Limited.{IsLineWithin, lines_within, AnswersLinesWithin, CutsLinesShortWithin}
 use Rattle.tensor_runner.specs.Line.{IsLineUnder}
 use Rattle.tensor_runner.specs.Lines.{lines_of}
-use Rattle.tensor_runner.specs.Server.{HasNothing, IsNothing, by_feeds}
-use Rattle.tensor_runner.specs.Taking.{HasNoFeed, with_feeds, TakesLine, behind}
+use Rattle.tensor_runner.specs.private.Server.{HasNothing, IsNothing, by_feeds}
+use Rattle.tensor_runner.specs.private.Taking.{HasNoFeed, with_feeds, TakesLine, behind}
 use Rattle.tensor_runner.specs.declared.answer.Line.{Line}
 use Rattle.tensor_runner.specs.declared.kept.KeptText.{KeptText}
 use Rattle.tensor_runner.specs.declared.kept.NextLine.{NextLine}

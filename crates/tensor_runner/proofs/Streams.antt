@@ -4,8 +4,8 @@ use Rattle.std.proofs.Common.{take, drop, min, Option, Some, None, ap, sym, â—Œâ
 use Rattle.std.proofs.Common.{arith}
 use Rattle.std.specs.Prelude.{IfSome}
 use Rattle.message_server.proofs.Streams.{Consumes-trans, Consumes-none}
-use Rattle.tensor_runner.specs.Kept.{IsKept, kept_len}
-use Rattle.tensor_runner.specs.Pieces.{IsFrontOf, Takes, HasTaken}
+use Rattle.tensor_runner.specs.private.Kept.{IsKept, kept_len}
+use Rattle.tensor_runner.specs.private.Pieces.{IsFrontOf, Takes, HasTaken}
 use Rattle.tensor_runner.specs.Run.{most_reads, TakesAtMost}
 use Rattle.std.specs.Io.KnownBytes.{Consumes, IsAtEnd}
 use Rattle.tensor_runner.specs.declared.kept.KeptText.{KeptText}

@@ -11,14 +11,10 @@ pub mod History
 pub mod Journal
 pub mod Limited
 pub mod LimitedEnding
+pub mod Line
 pub mod Lines
 pub mod Options
 pub mod Run
 pub mod Status
 pub mod Work
--- for private clauses alone
-pub mod Kept
-pub mod Taking
-pub mod Line
-pub mod Pieces
-pub mod Server
+pub mod private

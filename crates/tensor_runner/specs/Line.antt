@@ -1,4 +1,4 @@
--- Lines on the way, for the private clauses of the engine.
+-- Lines on the way.
 use Rattle.std.specs.Prelude.{◌≡◌, ◌≢◌, ◌⊎◌, ℕ, ℤ, List, [], ◌∷◌, ◌++◌, length, map, Option, Some, None}
 use Rattle.std.specs.Cow.{cow_slice_items}
 use Rattle.serde_json.specs.Data.{Data, Items, number}

@@ -4,7 +4,7 @@ ghost use Rattle.std.specs.Prelude.{◌≡◌, ℕ, List, Some, None, IfOk, Matc
 ghost use Rattle.std.specs.Cow.{cow_slice_items};
 ghost use Rattle.expr_reader.specs.Asked.{asked_under};
 ghost use Rattle.tensor_runner.specs.Answer.{asked_tensor, tensor_line, fault_line};
-ghost use Rattle.tensor_runner.specs.Kept.{IsKept};
+ghost use Rattle.tensor_runner.specs.private.Kept.{IsKept};
 ghost use Rattle.tensor_runner.specs.Limited.{limit_line};
 ghost use Rattle.tensor_runner.specs.Line.{entry_of, IsLineUnder, IsFaultOf, IsRefusal};
 

@@ -1,7 +1,7 @@
 //! Says what is kept of a text on the way.
 
 ghost use Rattle.std.specs.Prelude.{◌≡◌, ℕ, List, [], ◌++◌};
-ghost use Rattle.tensor_runner.specs.Kept.{IsKept, kept_len};
+ghost use Rattle.tensor_runner.specs.private.Kept.{IsKept, kept_len};
 
 use crate::engine::MOST_READ;
 use std::alloc::Global;

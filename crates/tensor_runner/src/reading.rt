@@ -1,8 +1,8 @@
 //! Reading a text.
 
 ghost use Rattle.std.specs.Prelude.{◌≡◌, ◌+◌, ◌-◌, ◌≤◌, ◌<◌, IfOk, IfErr, IfSome, MatchResult};
-ghost use Rattle.tensor_runner.specs.Kept.{kept_len};
-ghost use Rattle.tensor_runner.specs.Pieces.{IsFrontOf, Takes};
+ghost use Rattle.tensor_runner.specs.private.Kept.{kept_len};
+ghost use Rattle.tensor_runner.specs.private.Pieces.{IsFrontOf, Takes};
 ghost use Rattle.tensor_runner.specs.Run.{most_reads, TakesAtMost};
 ghost use Rattle.message_server.specs.Streams.{HasFailed};
 

@@ -5,7 +5,7 @@ ghost use Rattle.tensor_runner.specs.History.{IsNew, GoesByLines};
 ghost use Rattle.tensor_runner.specs.Limited.{AnswersLinesWithin, BreaksOffWithin};
 ghost use Rattle.tensor_runner.specs.Limited.{CutsLinesShortWithin, GoesByLinesWithin};
 ghost use Rattle.tensor_runner.specs.Lines.{lines_of, AnswersLines, BreaksOff, CutsLinesShort};
-ghost use Rattle.tensor_runner.specs.Server.{IsNothing};
+ghost use Rattle.tensor_runner.specs.private.Server.{IsNothing};
 ghost use Rattle.message_server.specs.Streams.{HasFailed};
 
 use crate::answer::{answer, entry_of};

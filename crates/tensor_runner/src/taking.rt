@@ -3,7 +3,7 @@
 ghost use Rattle.std.specs.Prelude.{◌≡◌, IfOk, IfSome, IfErr, OnErr, MatchResult};
 ghost use Rattle.message_server.specs.Pieces.{pending_bytes, OwesNothingWhile, FailsIn};
 ghost use Rattle.message_server.specs.Streams.{HasFailed};
-ghost use Rattle.tensor_runner.specs.Taking.{HasNoFeed, TakesPiece, TakesLine};
+ghost use Rattle.tensor_runner.specs.private.Taking.{HasNoFeed, TakesPiece, TakesLine};
 
 use crate::kept::{KeptText, NextLine};
 use memchr::memchr;

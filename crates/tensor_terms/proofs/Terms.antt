@@ -12,7 +12,7 @@ use Rattle.tensor_shape.specs.Wrap.{wrap}
 use Rattle.tensor_shape.proofs.Places.{index_of-place}
 use Rattle.tensor_terms.specs.Contents.{Contents}
 use Rattle.tensor_terms.specs.Contraction.{firsts, seconds, outer_dims, contracted, contracted_dims}
-use Rattle.tensor_terms.specs.Pairing.{IsPairing}
+use Rattle.tensor_terms.specs.private.Pairing.{IsPairing}
 use Rattle.tensor_values.specs.Combining.{combine, unit}
 use Rattle.tensor_terms.specs.Reduction.{reduced, reduced_dims, are_axes}
 use Rattle.tensor_terms.specs.Result.{dims_of, shape_of}

@@ -14,5 +14,4 @@ pub mod Tree
 pub mod Value
 pub mod Woven
 pub mod Zipped
--- for private clauses alone
-pub mod Pairing
+pub mod private

@@ -222,7 +222,7 @@ struct Pairing {
 }
 
 impl Pairing {
-    ghost use Rattle.tensor_terms.specs.Pairing.{IsPairing};
+    ghost use Rattle.tensor_terms.specs.private.Pairing.{IsPairing};
 
     /// Of a contraction that has result dims.
     fn of(pairs: &[(u64, u64)], a: &Expr, b: &Expr, inputs: &Inputs) -> Pairing

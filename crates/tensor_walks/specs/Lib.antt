@@ -1,4 +1,3 @@
--- for private clauses alone
 pub mod Chain
 pub mod Folds
 pub mod Joining

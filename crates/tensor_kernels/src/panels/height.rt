@@ -11,7 +11,7 @@ pub(crate) enum Height {
 }
 
 impl Height {
-    ghost use Rattle.tensor_kernels.specs.Cells.{height_of};
+    ghost use Rattle.tensor_kernels.specs.private.Cells.{height_of};
 
     /// The height for so many rows. A panel of four takes a third longer for each of its rows.
     pub(crate) fn for_rows(rows: usize) -> Height {

@@ -2,8 +2,8 @@
 
 ghost use Rattle.std.specs.Prelude.{◌≡◌, ℕ, ◌*◌, ◌+◌, ◌%◌, ◌<◌, ◌≤◌, ◌^◌, length, IfOk, vec_len};
 ghost use Rattle.tensor_shape.specs.Wrap.{wrap};
-ghost use Rattle.tensor_kernels.specs.Pairs.{own_pairs, lane, ArePairSums};
-ghost use Rattle.tensor_kernels.specs.Halves.{AreWords, joined};
+ghost use Rattle.tensor_kernels.specs.private.Pairs.{own_pairs, lane, ArePairSums};
+ghost use Rattle.tensor_kernels.specs.private.Halves.{AreWords, joined};
 ghost use Rattle.tensor_kernels.specs.Panels.{AreLanes};
 ghost use Rattle.tensor_values.specs.Values.{value_in};
 

@@ -6,7 +6,7 @@ ghost use Rattle.std.specs.Prelude.{◌≡◌, ℕ, ◌*◌, ◌+◌, ◌/◌, �
 ghost use Rattle.std.specs.Prelude.{◌*ℤ◌};
 ghost use Rattle.tensor_values.specs.Values.{value_in};
 ghost use Rattle.tensor_shape.specs.Wrap.{wrap};
-ghost use Rattle.tensor_kernels.specs.Halves.{low_half, high_half, word_in, AreWords, joined};
+ghost use Rattle.tensor_kernels.specs.private.Halves.{low_half, high_half, word_in, AreWords, joined};
 ghost use Rattle.tensor_kernels.specs.Panels.{AreLanes};
 
 use std::simd::prelude::*;

@@ -4,7 +4,7 @@
 
 ghost use Rattle.std.specs.Prelude.{◌≡◌, ℕ, ◌*◌, ◌+◌, ◌<◌, ◌≤◌, ◌+ℤ◌, length};
 ghost use Rattle.tensor_shape.specs.Wrap.{wrap};
-ghost use Rattle.tensor_kernels.specs.Cells.{height_of};
+ghost use Rattle.tensor_kernels.specs.private.Cells.{height_of};
 ghost use Rattle.tensor_kernels.specs.Chunks.{before};
 ghost use Rattle.tensor_values.specs.Values.{value_in};
 
@@ -32,8 +32,8 @@ pub(crate) struct PackedChunk<'a> {
 }
 
 impl PackedChunk<'_> {
-    ghost use Rattle.tensor_kernels.specs.PackedChunks.{chunk_sum, tile_sum, IsPacked};
-    ghost use Rattle.tensor_kernels.specs.PackedChunks.{IsPutInTile, IsPutInPanel};
+    ghost use Rattle.tensor_kernels.specs.private.PackedChunks.{chunk_sum, tile_sum, IsPacked};
+    ghost use Rattle.tensor_kernels.specs.private.PackedChunks.{IsPutInTile, IsPutInPanel};
 
     /// Writes the sums of the products to places of the columns, from one on.
     pub(crate) fn put(&self, from: usize, out: &mut [i64])

@@ -7,8 +7,8 @@ ghost use Rattle.std.specs.Prelude.{◌≡◌, ℕ, ◌*◌, ◌+◌, ◌/◌, �
 ghost use Rattle.std.specs.Prelude.{◌*ℤ◌};
 ghost use Rattle.tensor_values.specs.Values.{value_in};
 ghost use Rattle.tensor_shape.specs.Wrap.{wrap};
-ghost use Rattle.tensor_kernels.specs.Halves.{AreWords, joined};
-ghost use Rattle.tensor_kernels.specs.Pairs.{lane, own_pairs, without_own};
+ghost use Rattle.tensor_kernels.specs.private.Halves.{AreWords, joined};
+ghost use Rattle.tensor_kernels.specs.private.Pairs.{lane, own_pairs, without_own};
 ghost use Rattle.tensor_kernels.specs.Panels.{AreLanes};
 ghost use Rattle.tensor_kernels.specs.Products.{dot};
 

@@ -3,7 +3,7 @@
 ghost use Rattle.std.specs.Prelude.{◌≡◌, ℕ, ◌*◌, ◌+◌, ◌/◌, ◌%◌, ◌<◌, ◌≤◌, ◌^◌, ◌+ℤ◌, length};
 ghost use Rattle.std.specs.Prelude.{IsFalse, IsTrue};
 ghost use Rattle.tensor_shape.specs.Wrap.{wrap};
-ghost use Rattle.tensor_kernels.specs.Cells.{height_of};
+ghost use Rattle.tensor_kernels.specs.private.Cells.{height_of};
 ghost use Rattle.tensor_kernels.specs.Chunks.{before};
 ghost use Rattle.tensor_values.specs.Values.{value_in};
 
@@ -21,7 +21,7 @@ pub(crate) struct Tile {
 }
 
 impl Tile {
-    ghost use Rattle.tensor_kernels.specs.Tiles.{IsAmong, IsPut, start_of, end_of};
+    ghost use Rattle.tensor_kernels.specs.private.Tiles.{IsAmong, IsPut, start_of, end_of};
 
     /// Where its rows begin.
     fn start(self) -> usize

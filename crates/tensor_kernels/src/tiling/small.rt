@@ -3,7 +3,7 @@
 
 ghost use Rattle.std.specs.Prelude.{◌≡◌, ℕ, ◌*◌, ◌+◌, ◌/◌, ◌%◌, ◌≤◌, ◌<◌, length, ◌+ℤ◌, ◌*ℤ◌};
 ghost use Rattle.tensor_shape.specs.Wrap.{wrap};
-ghost use Rattle.tensor_kernels.specs.Pairs.{lane};
+ghost use Rattle.tensor_kernels.specs.private.Pairs.{lane};
 ghost use Rattle.tensor_kernels.specs.Panels.{AreLanes, AreSmall};
 ghost use Rattle.tensor_kernels.specs.Products.{dot};
 ghost use Rattle.tensor_values.specs.Values.{value_in};

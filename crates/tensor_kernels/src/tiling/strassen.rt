@@ -83,9 +83,9 @@ pub(crate) struct Band<'a> {
 impl Tiled<'_> {
     ghost use Rattle.tensor_shape.specs.Wrap.{wrap};
     ghost use Rattle.tensor_kernels.specs.Chunks.{before};
-    ghost use Rattle.tensor_kernels.specs.PairedBands.{IsBand, IsOfColumns, AreOfColumns};
-    ghost use Rattle.tensor_kernels.specs.PairedBands.{AreGathered, IsAdded};
-    ghost use Rattle.tensor_kernels.specs.Strassen.{AreLong};
+    ghost use Rattle.tensor_kernels.specs.private.PairedBands.{IsBand, IsOfColumns, AreOfColumns};
+    ghost use Rattle.tensor_kernels.specs.private.PairedBands.{AreGathered, IsAdded};
+    ghost use Rattle.tensor_kernels.specs.private.Strassen.{AreLong};
     ghost use Rattle.tensor_kernels.specs.Tiling.{tiled_count, group_total};
 
     /// Writes the sums of a group of pairs of chunks. Takes the room for the factors of a band of

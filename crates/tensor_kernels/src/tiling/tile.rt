@@ -2,8 +2,8 @@
 
 ghost use Rattle.std.specs.Prelude.{◌≡◌, ℕ, ◌*◌, ◌+◌, ◌/◌, ◌≤◌, ◌<◌, length, ◌+ℤ◌, ◌*ℤ◌};
 ghost use Rattle.tensor_shape.specs.Wrap.{wrap};
-ghost use Rattle.tensor_kernels.specs.Cells.{height_of};
-ghost use Rattle.tensor_kernels.specs.Pairs.{own_pairs, lane};
+ghost use Rattle.tensor_kernels.specs.private.Cells.{height_of};
+ghost use Rattle.tensor_kernels.specs.private.Pairs.{own_pairs, lane};
 ghost use Rattle.tensor_kernels.specs.Panels.{AreSmall};
 ghost use Rattle.tensor_kernels.specs.Products.{dot};
 ghost use Rattle.tensor_values.specs.Values.{value_in};

@@ -4,7 +4,7 @@ ghost use Rattle.std.specs.Prelude.{◌≡◌, ◌<◌, ◌≤◌, ◌+◌, ◌-
 ghost use Rattle.std.specs.Prelude.{OnOk};
 ghost use Rattle.std.specs.List.{range_with_len};
 ghost use Rattle.tensor_shape.specs.Legal.{highest_rank};
-ghost use Rattle.tensor_ops.specs.Placing.{Gives, HasValues};
+ghost use Rattle.tensor_ops.specs.private.Placing.{Gives, HasValues};
 ghost use Rattle.tensor_values.specs.Values.{value_in};
 ghost use Rattle.tensor_terms.specs.Result.{dims_of, shape_of};
 ghost use Rattle.tensor_terms.specs.Tensors.{tensors_in};
@@ -46,7 +46,7 @@ impl Drop for Root<'_> {
 }
 
 impl<'a> Root<'a> {
-    ghost use Rattle.tensor_ops.specs.Root.{root_value, root_count, IsSoundRoot};
+    ghost use Rattle.tensor_ops.specs.private.Root.{root_value, root_count, IsSoundRoot};
 
     /// The root of an expression, and its result dims.
     pub(crate) fn of(

@@ -9,8 +9,8 @@ ghost use Rattle.tensor_shape.specs.Index.{size_of};
 ghost use Rattle.tensor_shape.specs.Legal.{most_elements};
 ghost use Rattle.tensor_kernels.specs.Contracting.{contraction_count, contraction_value};
 ghost use Rattle.tensor_walks.specs.Folds.{folded};
-ghost use Rattle.tensor_ops.specs.Placing.{contraction_at};
-ghost use Rattle.tensor_ops.specs.Runs.{LieInRuns};
+ghost use Rattle.tensor_ops.specs.private.Placing.{contraction_at};
+ghost use Rattle.tensor_ops.specs.private.Runs.{LieInRuns};
 ghost use Rattle.tensor_terms.specs.Reduction.{are_axes};
 ghost use Rattle.tensor_terms.specs.Woven.{others};
 ghost use Rattle.tensor_values.specs.Combining.{unit};
@@ -36,7 +36,7 @@ pub(crate) struct ContractedRuns<'a> {
 }
 
 impl<'a> ContractedRuns<'a> {
-    ghost use Rattle.tensor_ops.specs.ContractedRuns.{contracted_value, contracted_combined};
+    ghost use Rattle.tensor_ops.specs.private.ContractedRuns.{contracted_value, contracted_combined};
 
     /// The values of a contraction along its first axes: a run for each index list of the others.
     pub(crate) fn along(

@@ -6,9 +6,9 @@ ghost use Rattle.std.specs.List.{range_with_len};
 ghost use Rattle.tensor_shape.specs.Index.{size_of};
 ghost use Rattle.tensor_shape.specs.Legal.{highest_rank};
 ghost use Rattle.tensor_kernels.specs.Contracting.{contraction_count};
-ghost use Rattle.tensor_ops.specs.Meaning.{count_of, IsSound};
+ghost use Rattle.tensor_ops.specs.private.Meaning.{count_of, IsSound};
 ghost use Rattle.tensor_ops.specs.Parts.{has_parts};
-ghost use Rattle.tensor_ops.specs.Placing.{contraction_at, meaning_at};
+ghost use Rattle.tensor_ops.specs.private.Placing.{contraction_at, meaning_at};
 ghost use Rattle.tensor_terms.specs.Result.{dims_of};
 ghost use Rattle.tensor_terms.specs.Tensors.{tensors_in};
 ghost use Rattle.tensor_terms.specs.Term.{has_inputs, unary, reduce};
@@ -39,8 +39,8 @@ pub(crate) enum InRuns<'a> {
 }
 
 impl<'a> InRuns<'a> {
-    ghost use Rattle.tensor_ops.specs.InRuns.{run_length, run_places, run_part, run_whole};
-    ghost use Rattle.tensor_ops.specs.InRuns.{HaveOneLength, GivesParts, GivesReduced};
+    ghost use Rattle.tensor_ops.specs.private.InRuns.{run_length, run_places, run_part, run_whole};
+    ghost use Rattle.tensor_ops.specs.private.InRuns.{HaveOneLength, GivesParts, GivesReduced};
 
     /// The runs of a reduction or a contraction.
     pub(crate) fn of(

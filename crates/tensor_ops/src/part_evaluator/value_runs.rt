@@ -9,10 +9,10 @@ ghost use Rattle.tensor_shape.specs.Index.{size_of};
 ghost use Rattle.tensor_shape.specs.Legal.{highest_rank, most_elements};
 ghost use Rattle.tensor_shape.specs.Wrap.{wrap};
 ghost use Rattle.tensor_walks.specs.Folds.{folded};
-ghost use Rattle.tensor_ops.specs.Meaning.{meaning, count_of, IsSound, IsSound-prop};
+ghost use Rattle.tensor_ops.specs.private.Meaning.{meaning, count_of, IsSound, IsSound-prop};
 ghost use Rattle.tensor_terms.specs.Movement.{moved, moved_dims};
-ghost use Rattle.tensor_ops.specs.Placing.{Gives, meaning_at};
-ghost use Rattle.tensor_ops.specs.Runs.{LieInRuns};
+ghost use Rattle.tensor_ops.specs.private.Placing.{Gives, meaning_at};
+ghost use Rattle.tensor_ops.specs.private.Runs.{LieInRuns};
 ghost use Rattle.tensor_kernels.specs.Products.{sum_to};
 ghost use Rattle.tensor_terms.specs.Reduction.{are_axes};
 ghost use Rattle.tensor_values.specs.Combining.{unit};
@@ -45,7 +45,7 @@ pub(crate) struct ValueRuns<'a> {
 }
 
 impl<'a> ValueRuns<'a> {
-    ghost use Rattle.tensor_ops.specs.ValueRuns.{run_value, run_combined};
+    ghost use Rattle.tensor_ops.specs.private.ValueRuns.{run_value, run_combined};
 
     /// The values of an operand along some of its axes: a run for each index list of the others.
     pub(crate) fn along(

@@ -2,8 +2,8 @@
 
 ghost use Rattle.std.specs.Prelude.{◌≡◌, ℕ, IfOk, IsTrue};
 ghost use Rattle.tensor_walks.specs.Loops.{either_way};
-ghost use Rattle.tensor_ops.specs.Meaning.{meaning, count_of, IsSound};
-ghost use Rattle.tensor_ops.specs.Placing.{IsJoined};
+ghost use Rattle.tensor_ops.specs.private.Meaning.{meaning, count_of, IsSound};
+ghost use Rattle.tensor_ops.specs.private.Placing.{IsJoined};
 
 use crate::placed::Placed;
 use crate::placed::settling::both;

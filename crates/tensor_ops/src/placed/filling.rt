@@ -1,7 +1,7 @@
 //! The values of placed expressions, written where they are wanted.
 
 ghost use Rattle.std.specs.Prelude.{◌≡◌, ◌<◌, ◌≤◌, ◌-◌, ◌+◌, ℕ, length, OnOk};
-ghost use Rattle.tensor_ops.specs.Meaning.{meaning, count_of, IsSound};
+ghost use Rattle.tensor_ops.specs.private.Meaning.{meaning, count_of, IsSound};
 ghost use Rattle.tensor_values.specs.Values.{value_in};
 
 use crate::placed::{PIECE, Placed, combine_at, values_at};

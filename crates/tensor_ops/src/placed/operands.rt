@@ -4,11 +4,11 @@ ghost use Rattle.std.specs.Prelude.{◌≡◌, ◌<◌, ◌≤◌, ℕ, length, 
 ghost use Rattle.std.specs.Cow.{cow_slice_items};
 ghost use Rattle.tensor_shape.specs.Index.{size_of, place};
 ghost use Rattle.tensor_shape.specs.Legal.{most_elements};
-ghost use Rattle.tensor_ops.specs.Meaning.{count_of, IsSound};
+ghost use Rattle.tensor_ops.specs.private.Meaning.{count_of, IsSound};
 ghost use Rattle.tensor_operands.specs.Operand.{operand_at, operand_count};
 ghost use Rattle.tensor_values.specs.Values.{value_in};
-ghost use Rattle.tensor_ops.specs.Placing.{HasValues, meaning_at};
-ghost use Rattle.tensor_ops.specs.Settling.{meaning_along};
+ghost use Rattle.tensor_ops.specs.private.Placing.{HasValues, meaning_at};
+ghost use Rattle.tensor_ops.specs.private.Settling.{meaning_along};
 ghost use Rattle.tensor_walks.specs.Walk.{walk_size, reached};
 
 use crate::placed::Placed;

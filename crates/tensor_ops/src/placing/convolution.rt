@@ -4,8 +4,8 @@ ghost use Rattle.std.specs.Prelude.{◌≡◌, Ok, IsOk, IfOk};
 ghost use Rattle.tensor_shape.specs.Index.{size_of};
 ghost use Rattle.tensor_kernels.specs.Contracting.{contraction_count, contraction_value};
 ghost use Rattle.tensor_terms.specs.Convolution.{convolved, convolved_dims};
-ghost use Rattle.tensor_ops.specs.Meaning.{count_of, IsSound};
-ghost use Rattle.tensor_ops.specs.Placing.{Gives, HasValues, meaning_at};
+ghost use Rattle.tensor_ops.specs.private.Meaning.{count_of, IsSound};
+ghost use Rattle.tensor_ops.specs.private.Placing.{Gives, HasValues, meaning_at};
 
 use crate::placed::Placed;
 use crate::placing::part::Part;

@@ -5,8 +5,8 @@ ghost use Rattle.tensor_shape.specs.Legal.{highest_rank};
 ghost use Rattle.tensor_shape.specs.Index.{size_of};
 ghost use Rattle.tensor_kernels.specs.Contracting.{contraction_count, contraction_value};
 ghost use Rattle.tensor_terms.specs.Contraction.{contracted, contracted_dims};
-ghost use Rattle.tensor_ops.specs.Meaning.{count_of, IsSound};
-ghost use Rattle.tensor_ops.specs.Placing.{Gives, HasValues, contraction_at, meaning_at};
+ghost use Rattle.tensor_ops.specs.private.Meaning.{count_of, IsSound};
+ghost use Rattle.tensor_ops.specs.private.Placing.{Gives, HasValues, contraction_at, meaning_at};
 ghost use Rattle.tensor_operands.specs.Reduced.{places_of_result, reduction_at};
 ghost use Rattle.tensor_terms.specs.Reduction.{reduced, reduced_dims};
 

@@ -5,10 +5,10 @@ ghost use Rattle.std.specs.Prelude.{Ok, IsOk, IfOk};
 ghost use Rattle.tensor_shape.specs.Index.{size_of};
 ghost use Rattle.tensor_shape.specs.Legal.{highest_rank, IsLegal};
 ghost use Rattle.tensor_terms.specs.Concatenation.{concatenated, concatenated_dims};
-ghost use Rattle.tensor_ops.specs.Meaning.{meaning, count_of, IsSound};
+ghost use Rattle.tensor_ops.specs.private.Meaning.{meaning, count_of, IsSound};
 ghost use Rattle.tensor_terms.specs.Padding.{padded, pad_dims};
 ghost use Rattle.tensor_values.specs.Splicing.{padded_along};
-ghost use Rattle.tensor_ops.specs.Placing.{Gives, meaning_at};
+ghost use Rattle.tensor_ops.specs.private.Placing.{Gives, meaning_at};
 
 use crate::placed::Placed;
 use crate::placing::part::Part;

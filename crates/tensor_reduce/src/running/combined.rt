@@ -4,7 +4,7 @@ ghost use Rattle.std.specs.Prelude.{◌≡◌, ◌<◌, ◌*◌, length, map, If
 ghost use Rattle.std.specs.List.{range_with_len};
 ghost use Rattle.tensor_ops.specs.Combining.{combination};
 ghost use Rattle.tensor_ops.specs.Tree.{term_of};
-ghost use Rattle.tensor_reduce.specs.Combined.{combined_by, reducer_of};
+ghost use Rattle.tensor_reduce.specs.private.Combined.{combined_by, reducer_of};
 
 use std::alloc::{AllocError, Global};
 use tensor_ops::{Expr, Node, Reducer, Unary};

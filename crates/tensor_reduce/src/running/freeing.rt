@@ -4,7 +4,7 @@
 ghost use Rattle.std.specs.Prelude.{◌≡◌, ◌+◌, ◌<◌, ◌≤◌, ◌++◌, List, length, slice_set};
 ghost use Rattle.std.specs.Prelude.{vec_capacity};
 ghost use Rattle.tensor_ops.specs.Contents.{Contents};
-ghost use Rattle.tensor_reduce.specs.Held.{AreHeld, HasMore};
+ghost use Rattle.tensor_reduce.specs.private.Held.{AreHeld, HasMore};
 
 use crate::cutting::NUMBERS;
 use crate::schedule::readers::are_reading;

@@ -2,7 +2,7 @@
 
 ghost use Rattle.std.specs.Prelude.{◌≡◌, ◌+◌, ◌<◌, ◌^◌, IfOk};
 ghost use Rattle.tensor_ops.specs.Tree.{term_of};
-ghost use Rattle.tensor_reduce.specs.Fusing.{instead, fused_with};
+ghost use Rattle.tensor_reduce.specs.private.Fusing.{instead, fused_with};
 
 use std::alloc::{AllocError, Global};
 use tensor_ops::{Expr, Node};

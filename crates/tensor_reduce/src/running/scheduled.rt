@@ -6,9 +6,9 @@ ghost use Rattle.tensor_ops.specs.Result.{dims_of};
 ghost use Rattle.tensor_ops.specs.Term.{has_inputs};
 ghost use Rattle.tensor_ops.specs.Tree.{term_of};
 ghost use Rattle.tensor_ops.specs.Value.{tensor_of};
-ghost use Rattle.tensor_reduce.specs.Next.{next_term, last_number};
-ghost use Rattle.tensor_reduce.specs.Schedules.{IsScheduleFor};
-ghost use Rattle.tensor_reduce.specs.Stage.{stage_term, stage_dims, stage_schedule, HasNumbers};
+ghost use Rattle.tensor_reduce.specs.private.Next.{next_term, last_number};
+ghost use Rattle.tensor_reduce.specs.private.Schedules.{IsScheduleFor};
+ghost use Rattle.tensor_reduce.specs.private.Stage.{stage_term, stage_dims, stage_schedule, HasNumbers};
 
 use crate::running::fused_expr::{copied, fused_with, fused_with_both};
 use crate::running::ranged::of_ranges;

@@ -21,7 +21,7 @@ pub(crate) struct ShardKernel<'a> {
 }
 
 impl<'a> ShardKernel<'a> {
-    ghost use Rattle.tensor_reduce.specs.Combined.{shard_places, shard_at_place};
+    ghost use Rattle.tensor_reduce.specs.private.Combined.{shard_places, shard_at_place};
 
     /// What the shard at a place gives.
     fn shard(&self, place: u64) -> Result<i64, AllocError>
@@ -50,7 +50,7 @@ impl<'a> ShardKernel<'a> {
 
 // It has a place for each shard of each value, and there what the shard gives of the value.
 impl<'a> Kernel for ShardKernel<'a> {
-    ghost use Rattle.tensor_reduce.specs.Combined.{shard_places, shard_at_place};
+    ghost use Rattle.tensor_reduce.specs.private.Combined.{shard_places, shard_at_place};
 
     type Item = i64;
 

@@ -8,7 +8,7 @@ ghost use Rattle.tensor_ops.specs.Result.{dims_of};
 ghost use Rattle.tensor_ops.specs.Term.{has_inputs};
 ghost use Rattle.tensor_ops.specs.Tree.{term_of};
 ghost use Rattle.tensor_ops.specs.Value.{tensor_of};
-ghost use Rattle.tensor_reduce.specs.Combined.{most_items, shard_places, shard_at_place};
+ghost use Rattle.tensor_reduce.specs.private.Combined.{most_items, shard_places, shard_at_place};
 
 use crate::running::combined::{combined_values, reducer_of};
 use crate::running::shard_kernel::ShardKernel;

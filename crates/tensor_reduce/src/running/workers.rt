@@ -3,7 +3,7 @@
 ghost use Rattle.std.specs.Prelude.{◌≡◌, ◌<◌, ◌≤◌, IfOk, IfErr};
 ghost use Rattle.parallel_for.specs.Items.{AreItems};
 ghost use Rattle.parallel_for.specs.Setup.{IsPoolSize, AreNoPartitions};
-ghost use Rattle.tensor_reduce.specs.Combined.{most_items};
+ghost use Rattle.tensor_reduce.specs.private.Combined.{most_items};
 
 use crate::schedule::grain::Grain;
 use parallel_for::{ForFault, Kernel, Setup, parallel_for};

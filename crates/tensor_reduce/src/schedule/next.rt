@@ -25,7 +25,7 @@ pub(crate) enum Next<'a> {
 }
 
 impl<'a> Next<'a> {
-    ghost use Rattle.tensor_reduce.specs.Next.{IsNextOf, fused_in, next_dims, next_schedule};
+    ghost use Rattle.tensor_reduce.specs.private.Next.{IsNextOf, fused_in, next_dims, next_schedule};
     ghost use Rattle.tensor_reduce.specs.Plan.{dims_of_step};
 
     /// The next of these steps, over inputs and the tensors of the steps before it: the third if it

@@ -3,7 +3,7 @@
 ghost use Rattle.std.specs.Prelude.{◌≡◌, ◌+◌, ◌<◌, ◌^◌, false};
 ghost use Rattle.tensor_ops.specs.Tree.{term_of};
 ghost use Rattle.tensor_reduce.specs.Plan.{term_of_step};
-ghost use Rattle.tensor_reduce.specs.Readers.{reads, are_reading, is_over};
+ghost use Rattle.tensor_reduce.specs.private.Readers.{reads, are_reading, is_over};
 
 use crate::schedule::rows::is_tensor;
 use crate::step::Step;

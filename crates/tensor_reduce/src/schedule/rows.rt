@@ -2,7 +2,7 @@
 
 ghost use Rattle.std.specs.Prelude.{◌≡◌};
 ghost use Rattle.tensor_ops.specs.Tree.{term_of};
-ghost use Rattle.tensor_reduce.specs.Readers.{is_tensor};
+ghost use Rattle.tensor_reduce.specs.private.Readers.{is_tensor};
 
 use tensor_ops::{Dims, Expr, Node};
 

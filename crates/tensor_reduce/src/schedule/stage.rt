@@ -1,7 +1,7 @@
 //! A stage: what the workers work out in one go of the steps left, and which steps end with it.
 
 ghost use Rattle.std.specs.Prelude.{◌≡◌, ◌<◌, ◌++◌, length, IfSome};
-ghost use Rattle.tensor_reduce.specs.Stage.{IsReducing};
+ghost use Rattle.tensor_reduce.specs.private.Stage.{IsReducing};
 
 use crate::cutting::NUMBERS;
 use crate::schedule::Schedule;
@@ -22,7 +22,7 @@ pub(crate) enum Stage<'a> {
 }
 
 impl<'a> Stage<'a> {
-    ghost use Rattle.tensor_reduce.specs.Stage.{IsStageOf, fused_in_stage};
+    ghost use Rattle.tensor_reduce.specs.private.Stage.{IsStageOf, fused_in_stage};
 
     /// What is worked out of these steps, over inputs and the tensors of the steps before them.
     pub(crate) fn of(

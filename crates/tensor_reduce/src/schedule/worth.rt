@@ -35,7 +35,7 @@ pub(crate) struct Load {
 }
 
 impl Load {
-    ghost use Rattle.tensor_reduce.specs.Worth.{time_on, IsQuickest};
+    ghost use Rattle.tensor_reduce.specs.private.Worth.{time_on, IsQuickest};
 
     /// So many values, which take so long to be worked out, in so many leaves.
     pub(crate) fn new(values: u64, cost: u64, leaves: u64) -> Load {

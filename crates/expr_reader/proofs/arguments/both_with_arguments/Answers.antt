@@ -2,7 +2,7 @@ use Rattle.std.proofs.lemmas.Result.{err_from_is_err_and}
 use Rattle.tensor_ops.specs.Term.{binary}
 use Rattle.tensor_ops.specs.Tree.{term_of}
 use Rattle.expr_reader.specs.Arguments.{size, sizes, pairs}
-use Rattle.expr_reader.specs.Version.{binary_of}
+use Rattle.expr_reader.specs.private.Version.{binary_of}
 use Rattle.expr_reader.specs.declared.operation.Binary.TheVariants.{Pairwise, Concat, Contract, Convolve}
 use Rattle.expr_reader.proofs.Forms.{none-made, one-made, one-unread}
 use Rattle.expr_reader.proofs.arguments.both_with_arguments.Goals as goal

@@ -6,7 +6,7 @@ use mir.Val.{SFits}
 use Rattle.tensor_ops.specs.Term.{unary, constant}
 use Rattle.tensor_ops.specs.Tree.{term_of}
 use Rattle.expr_reader.specs.Arguments.{size, sizes, pairs, flags, value}
-use Rattle.expr_reader.specs.Version.{unary_of}
+use Rattle.expr_reader.specs.private.Version.{unary_of}
 use Rattle.expr_reader.specs.declared.operation.Unary.TheVariants.{Each, Constant, Broadcast, Slice, Shuffle, Reshape, Chip, Reverse, Stride, Pad, Reduce}
 use Rattle.expr_reader.proofs.Forms.{none-made, one-made, one-unread, two-made, two-unread-first, two-unread-second}
 use Rattle.expr_reader.proofs.arguments.with_arguments.Goals as goal

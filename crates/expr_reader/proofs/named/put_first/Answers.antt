@@ -1,7 +1,7 @@
 use Rattle.std.proofs.Common.{◌≡◌, Some, None, arith}
 use Rattle.std.proofs.lemmas.Grind.{common_steps}
 use Rattle.std.proofs.lemmas.Map.Text.{btree_map_updates_str}
-use Rattle.expr_reader.specs.Numbers.{number_in}
+use Rattle.expr_reader.specs.private.Numbers.{number_in}
 use Rattle.expr_reader.proofs.Numbers.{put_new}
 use Rattle.expr_reader.proofs.named.put_first.Goals as goal
 

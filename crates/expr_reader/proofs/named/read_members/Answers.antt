@@ -5,8 +5,8 @@ use Rattle.std.specs.Str.{bytes_eq}
 use Rattle.std.proofs.lemmas.Grind.{common_steps}
 use Rattle.std.proofs.lemmas.List.{append-nil}
 use Rattle.serde_json.specs.View.{members_view}
-use Rattle.expr_reader.specs.Behind.{source_of}
-use Rattle.expr_reader.specs.Numbers.{number_in}
+use Rattle.expr_reader.specs.private.Behind.{source_of}
+use Rattle.expr_reader.specs.private.Numbers.{number_in}
 use Rattle.expr_reader.specs.Tensors.{names_in}
 use Rattle.expr_reader.proofs.Members.{length-turn, after-turn, place-turn, number-turn, length-names_in, HaveRank-append, tensors_by-end}
 use Rattle.expr_reader.proofs.Numbers.{option_or-None}

@@ -6,8 +6,8 @@ use Rattle.std.specs.Option.{option_or}
 use Rattle.std.specs.Str.{bytes_eq}
 use Rattle.serde_json.specs.View.{members_view}
 use Rattle.tensor_ops.specs.Contents.{HaveRank}
-use Rattle.expr_reader.specs.Behind.{source_of, tensors_by, place_by}
-use Rattle.expr_reader.specs.Numbers.{number_in}
+use Rattle.expr_reader.specs.private.Behind.{source_of, tensors_by, place_by}
+use Rattle.expr_reader.specs.private.Numbers.{number_in}
 use Rattle.expr_reader.specs.Tensors.{names_in, number_of}
 use Rattle.expr_reader.proofs.Lists.{after}
 use Rattle.expr_reader.proofs.named.read_members.Given as goal

@@ -6,9 +6,9 @@ use Rattle.tensor_ops.specs.Term as term
 use Rattle.tensor_ops.specs.Tree.{term_of}
 use Rattle.expr_reader.specs.Node.{made, checked, tree_at}
 use Rattle.expr_reader.specs.Tensors.{given}
-use Rattle.expr_reader.specs.Version.{profile_under, operation_under, forms_of, unary_of}
-use Rattle.expr_reader.specs.Version.{forms_of_two, binary_of}
-use Rattle.expr_reader.specs.Walked.{IsFound}
+use Rattle.expr_reader.specs.private.Version.{profile_under, operation_under, forms_of, unary_of}
+use Rattle.expr_reader.specs.private.Version.{forms_of_two, binary_of}
+use Rattle.expr_reader.specs.private.Walked.{IsFound}
 use Rattle.expr_reader.proofs.Walk.{tree_at-arity, tree_at-first, tree_at-one, tree_at-two, tree_at-three, get_or-at}
 use Rattle.expr_reader.proofs.node.+read_node.Goals as goal
 

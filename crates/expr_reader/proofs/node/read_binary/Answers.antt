@@ -3,7 +3,7 @@ use Rattle.serde_json.specs.View.{items_view}
 use Rattle.tensor_ops.specs.Term.{binary}
 use Rattle.tensor_ops.specs.Tree.{term_of}
 use Rattle.expr_reader.specs.Arguments.{arguments_at}
-use Rattle.expr_reader.specs.Version.{forms_of_two, binary_of}
+use Rattle.expr_reader.specs.private.Version.{forms_of_two, binary_of}
 use Rattle.expr_reader.proofs.Walk.{made-found, made-binary}
 use Rattle.expr_reader.proofs.node.read_binary.Goals as goal
 

@@ -3,7 +3,7 @@ use Rattle.serde_json.specs.View.{items_view}
 use Rattle.tensor_ops.specs.Term.{unary}
 use Rattle.tensor_ops.specs.Tree.{term_of}
 use Rattle.expr_reader.specs.Arguments.{arguments_at}
-use Rattle.expr_reader.specs.Version.{forms_of, unary_of}
+use Rattle.expr_reader.specs.private.Version.{forms_of, unary_of}
 use Rattle.expr_reader.proofs.Walk.{made-found, made-unary, made-unary-inputs}
 use Rattle.expr_reader.proofs.node.read_unary.Goals as goal
 

@@ -1,9 +1,9 @@
 use Rattle.std.proofs.Common.{◌≤◌, length, ap, arith}
 use Rattle.serde_json.specs.View.{view}
-use Rattle.expr_reader.specs.Behind.{source_of}
+use Rattle.expr_reader.specs.private.Behind.{source_of}
 use Rattle.expr_reader.specs.Limits.{most_workers}
-use Rattle.expr_reader.specs.Version.{profile_under}
-use Rattle.expr_reader.specs.Walked.{tree_under}
+use Rattle.expr_reader.specs.private.Version.{profile_under}
+use Rattle.expr_reader.specs.private.Walked.{tree_under}
 use Rattle.expr_reader.specs.declared.version.Version.{Version}
 use Rattle.expr_reader.specs.declared.version.Version.TheVariants as version
 use Rattle.expr_reader.proofs.Counted.{length-naming_by}

@@ -2,7 +2,7 @@ use Rattle.std.proofs.Common.{codes}
 use Rattle.serde_json.specs.View.{view}
 use Rattle.expr_reader.specs.Node.{tree_at}
 use Rattle.expr_reader.specs.Place.{field, way_of}
-use Rattle.expr_reader.specs.Version.{profile_under}
+use Rattle.expr_reader.specs.private.Version.{profile_under}
 use Rattle.expr_reader.proofs.Walk.{fault-below}
 use Rattle.expr_reader.proofs.text.read_tree.Goals as goal
 

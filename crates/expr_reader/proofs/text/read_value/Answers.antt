@@ -1,6 +1,6 @@
 use Rattle.std.proofs.Common.{sym, arith}
 use Rattle.serde_json.specs.View.{view}
-use Rattle.expr_reader.specs.Shown.{fields_under}
+use Rattle.expr_reader.specs.private.Shown.{fields_under}
 use Rattle.expr_reader.proofs.Counted.{member_count-fields_of}
 use Rattle.expr_reader.proofs.text.read_value.Goals as goal
 

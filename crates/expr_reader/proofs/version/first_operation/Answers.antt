@@ -1,6 +1,6 @@
 use Rattle.std.proofs.Common.{◌++◌, refl}
 use Rattle.expr_reader.specs.Table.{operations_on_values, movements, operations_along_axes}
-use Rattle.expr_reader.specs.Version.{operation_under}
+use Rattle.expr_reader.specs.private.Version.{operation_under}
 use Rattle.expr_reader.proofs.Operations.{operation_named-append, option_map-or}
 use Rattle.expr_reader.proofs.version.first_operation.Goals as goal
 

@@ -2,7 +2,7 @@ use Rattle.std.proofs.Common.{◌∙◌, refl}
 use Rattle.message_server.proofs.Serving.{Serves-start, Serves-owes, Serves-stops, Serves-more}
 use Rattle.message_server.proofs.Takings.{at_some}
 use Rattle.frame_server.specs.Limited.{whole_frames_within}
-use Rattle.frame_server.specs.Server.{by_sizes}
+use Rattle.frame_server.specs.private.Server.{by_sizes}
 use Rattle.frame_server.proofs.Serving.{laws, frames-cut}
 use Rattle.frame_server.proofs.server.answer_frames_logged.Goals as goal
 

@@ -3,7 +3,7 @@ use Rattle.std.proofs.Common.{◌≡◌}
 use Rattle.message_server.specs.Pieces.{pending_bytes}
 use Rattle.message_server.specs.Server.{Serves}
 use Rattle.frame_server.specs.Limited.{whole_frames_within}
-use Rattle.frame_server.specs.Server.{by_sizes}
+use Rattle.frame_server.specs.private.Server.{by_sizes}
 use Rattle.frame_server.proofs.server.answer_frames_logged.Given as goal
 
 abbrev pub invariant-loop-turn : goal.invariant-loop-turn

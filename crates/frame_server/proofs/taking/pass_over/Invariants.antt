@@ -1,7 +1,7 @@
 -- All but what is left was passed over.
 use Rattle.std.proofs.Common.{◌≡◌, ◌≤◌, ◌-◌}
 use Rattle.message_server.specs.Pieces.{pending_bytes}
-use Rattle.frame_server.specs.Taking.{TakesCount}
+use Rattle.frame_server.specs.private.Taking.{TakesCount}
 use Rattle.frame_server.proofs.taking.pass_over.Given as goal
 
 abbrev pub invariant-loop-left : goal.invariant-loop-left

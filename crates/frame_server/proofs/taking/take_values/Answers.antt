@@ -1,7 +1,7 @@
 use Rattle.std.proofs.Common.{◌*◌, ◌∙◌, ap, refl, take, length, arith, length-append}
 use Rattle.message_server.proofs.Streams.{OnErr-any}
 use Rattle.message_server.specs.Pieces.{pending_bytes, IsBelow}
-use Rattle.frame_server.specs.Taking.{values_of}
+use Rattle.frame_server.specs.private.Taking.{values_of}
 use Rattle.frame_server.proofs.Frames.{length-values_of}
 use Rattle.frame_server.proofs.Parts.{TakesValues-none, TakesValues-wait, TakesValues-move}
 use Rattle.message_server.proofs.Takings.{FailsIn-on, FailsIn-ends}

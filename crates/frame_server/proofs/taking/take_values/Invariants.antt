@@ -1,7 +1,7 @@
 -- The first values were taken, and there is room for all.
 use Rattle.std.proofs.Common.{◌≡◌, ◌≤◌, ◌-◌, length, vec_capacity}
 use Rattle.message_server.specs.Pieces.{pending_bytes}
-use Rattle.frame_server.specs.Taking.{TakesValues}
+use Rattle.frame_server.specs.private.Taking.{TakesValues}
 use Rattle.frame_server.proofs.taking.take_values.Given as goal
 
 abbrev pub invariant-loop-buffer : goal.invariant-loop-buffer

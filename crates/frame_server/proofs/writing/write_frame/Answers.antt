@@ -4,7 +4,7 @@ use Rattle.std.specs.List.{flat_map}
 use Rattle.expr_reader.specs.Contents.{Contents}
 use Rattle.message_server.specs.Pieces.{AppendsFront}
 use Rattle.message_server.proofs.Streams.{OnErr-any}
-use Rattle.frame_server.specs.Answering.{bytes_in, values_in}
+use Rattle.frame_server.specs.private.Answering.{bytes_in, values_in}
 use Rattle.frame_server.specs.Frame.{value_bytes}
 use Rattle.frame_server.proofs.Answering.{AppendsFront-more, AppendsFront-behind, OnErr-follows}
 use Rattle.frame_server.proofs.writing.write_frame.Goals as goal

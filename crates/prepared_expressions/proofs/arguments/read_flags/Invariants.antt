@@ -1,6 +1,6 @@
 -- The flags so far, before those of the rest, are those of all numbers.
 use Rattle.std.proofs.Common.{◌≡◌, length}
-use Rattle.prepared_expressions.specs.Made.{flags_in}
+use Rattle.prepared_expressions.specs.private.Made.{flags_in}
 use Rattle.prepared_expressions.proofs.Lists.{after}
 use Rattle.prepared_expressions.proofs.arguments.read_flags.Given as goal
 

@@ -1,6 +1,6 @@
 -- The pairs so far, before those of the rest, are those of all numbers.
 use Rattle.std.proofs.Common.{◌≡◌, length}
-use Rattle.prepared_expressions.specs.Made.{pairs_in}
+use Rattle.prepared_expressions.specs.private.Made.{pairs_in}
 use Rattle.prepared_expressions.proofs.Lists.{after}
 use Rattle.prepared_expressions.proofs.arguments.read_pairs.Given as goal
 

@@ -1,6 +1,6 @@
 -- The tensors so far, before those of the other arrays, are those of all arrays.
 use Rattle.std.proofs.Common.{◌≡◌, drop}
-use Rattle.prepared_expressions.specs.Dealing.{after, all_from}
+use Rattle.prepared_expressions.specs.private.Dealing.{after, all_from}
 use Rattle.expr_reader.specs.Arrays.{arrays_under}
 use Rattle.prepared_expressions.proofs.inputs.read_tensors.Given as goal
 

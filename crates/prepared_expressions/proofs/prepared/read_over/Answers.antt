@@ -2,7 +2,7 @@ use Rattle.std.proofs.Common.{◌≡◌, [], length, Ok, inl, inr, ap, sym, ◌�
 use Rattle.std.proofs.lemmas.Result.{err_from_is_err_and}
 use Rattle.tensor_terms.specs.Term.{has_inputs}
 use Rattle.tensor_terms.specs.Tree.{term_of}
-use Rattle.prepared_expressions.specs.Made.{of_none}
+use Rattle.prepared_expressions.specs.private.Made.{of_none}
 use Rattle.prepared_expressions.specs.Prepared.{values_of_all, dealt}
 use Rattle.expr_reader.specs.Arrays.{arrays_under}
 use Rattle.prepared_expressions.specs.Recorded.{recorded}

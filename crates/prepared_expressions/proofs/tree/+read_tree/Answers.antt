@@ -4,7 +4,7 @@ use Rattle.tensor_terms.specs.Term.{Unary, Binary, input, unary, binary, ternary
 use Rattle.tensor_terms.specs.Tree.{term_of}
 use Rattle.prepared_expressions.specs.declared.kind.Kind.TheVariants.{One}
 use Rattle.prepared_expressions.specs.declared.refusal.Refusal.TheVariants.{NoRecord}
-use Rattle.prepared_expressions.specs.Made.{unary_from, binary_from, of_none, input_from}
+use Rattle.prepared_expressions.specs.private.Made.{unary_from, binary_from, of_none, input_from}
 use Rattle.prepared_expressions.specs.Recorded.{recorded}
 use Rattle.prepared_expressions.proofs.Trees.{told-input, told-one, told-two, told-three, height_of-pos, told-none, only-memory, made-input, made-one, made-two, made-three}
 use Rattle.prepared_expressions.proofs.Trees.{recorded-one, recorded-two, recorded-three, Fit-headed}

@@ -1,6 +1,6 @@
 -- The chunks before c, and room for all.
 use Rattle.std.proofs.Common.{◌≡◌, vec_len, vec_capacity}
-use Rattle.tensor_kernels.specs.Cells.{AreChunks}
+use Rattle.tensor_kernels.specs.private.Cells.{AreChunks}
 use Rattle.tensor_kernels.proofs.tiling.panels_of.Given as goal
 
 abbrev pub invariant-loop-c : goal.invariant-loop-c

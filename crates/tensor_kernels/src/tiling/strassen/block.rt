@@ -26,8 +26,8 @@ pub(crate) struct Block<'a> {
 }
 
 impl Block<'_> {
-    ghost use Rattle.tensor_kernels.specs.Strassen.{IsBlock, IsPutInBlock, IsPutInColumn};
-    ghost use Rattle.tensor_kernels.specs.Strassen.{quadrant_value, IsPutInPanel};
+    ghost use Rattle.tensor_kernels.specs.private.Strassen.{IsBlock, IsPutInBlock, IsPutInColumn};
+    ghost use Rattle.tensor_kernels.specs.private.Strassen.{quadrant_value, IsPutInPanel};
 
     /// Writes the sums of the products to places of the columns, from one on. All else stays.
     pub(crate) fn put(&self, from: usize, out: &mut [i64])

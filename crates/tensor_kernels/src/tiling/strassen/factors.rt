@@ -4,8 +4,8 @@
 ghost use Rattle.std.specs.Prelude.{◌≡◌, ℕ, ◌+ℤ◌, ◌-ℤ◌, ◌<◌, length, IfOk};
 ghost use Rattle.tensor_shape.specs.Wrap.{wrap};
 ghost use Rattle.tensor_values.specs.Values.{value_in};
-ghost use Rattle.tensor_kernels.specs.Quartering.{half_size};
-ghost use Rattle.tensor_kernels.specs.Strassen.{IsFactor};
+ghost use Rattle.tensor_kernels.specs.private.Quartering.{half_size};
+ghost use Rattle.tensor_kernels.specs.private.Strassen.{IsFactor};
 
 use crate::panels::Panels;
 use crate::panels::pair_sums::pair_sums;
@@ -26,7 +26,7 @@ pub(crate) struct Factors {
 }
 
 impl Factors {
-    ghost use Rattle.tensor_kernels.specs.Strassen.{AreFirstFactors, AreSecondFactors};
+    ghost use Rattle.tensor_kernels.specs.private.Strassen.{AreFirstFactors, AreSecondFactors};
 
     /// Those that the first operand gives.
     pub(crate) fn of_first(alloc: Global, rows: &Quarters) -> Result<Factors, AllocError>

@@ -13,7 +13,7 @@ pub(crate) struct Half {
 }
 
 impl Half {
-    ghost use Rattle.tensor_kernels.specs.Quartering.{half_size};
+    ghost use Rattle.tensor_kernels.specs.private.Quartering.{half_size};
 
     /// How many cells a quarter has.
     pub(crate) fn size(self) -> usize

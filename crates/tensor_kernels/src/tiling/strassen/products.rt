@@ -4,7 +4,7 @@
 ghost use Rattle.std.specs.Prelude.{◌≡◌, ℕ, ◌*◌, ◌+ℤ◌, ◌<◌, ◌≤◌, length, IfOk};
 ghost use Rattle.tensor_shape.specs.Wrap.{wrap};
 ghost use Rattle.tensor_kernels.specs.Chunks.{before};
-ghost use Rattle.tensor_kernels.specs.Strassen.{IsPanels, product_sum};
+ghost use Rattle.tensor_kernels.specs.private.Strassen.{IsPanels, product_sum};
 ghost use Rattle.tensor_values.specs.Values.{value_in};
 
 use crate::panels::Panels;
@@ -27,7 +27,7 @@ pub(crate) struct Products {
 }
 
 impl Products {
-    ghost use Rattle.tensor_kernels.specs.Strassen.{AreAdded, AreLong, ArePanels};
+    ghost use Rattle.tensor_kernels.specs.private.Strassen.{AreAdded, AreLong, ArePanels};
 
     /// Room for those of so many columns.
     pub(crate) fn of(alloc: Global, n: usize) -> Result<Products, AllocError>

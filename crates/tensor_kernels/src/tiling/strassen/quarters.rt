@@ -3,7 +3,7 @@
 
 ghost use Rattle.std.specs.Prelude.{◌≡◌, ℕ, ◌*◌, ◌+◌, ◌<◌, ◌≤◌, length, IfOk};
 ghost use Rattle.tensor_values.specs.Values.{value_in};
-ghost use Rattle.tensor_kernels.specs.Quartering.{half_size, HasChunk};
+ghost use Rattle.tensor_kernels.specs.private.Quartering.{half_size, HasChunk};
 
 use crate::panels::chunks::chunk_of;
 use crate::panels::packing::{packed, padded};
@@ -31,7 +31,7 @@ pub(crate) struct Quarters {
 }
 
 impl Quarters {
-    ghost use Rattle.tensor_kernels.specs.Strassen.{cell};
+    ghost use Rattle.tensor_kernels.specs.private.Strassen.{cell};
 
     /// The values of these rows in chunk c of their products and in the next one, up to whole halves.
     /// Takes a cell for each, and a number for each row.

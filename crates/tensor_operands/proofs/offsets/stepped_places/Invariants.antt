@@ -1,7 +1,7 @@
 -- The places of the axes from the k-th on.
 use Rattle.std.proofs.Common.{◌≡◌, ℕ, ◌<◌, ◌≤◌, drop, length, slice_index}
 use Rattle.tensor_shape.specs.Index.{size_of, index_of}
-use Rattle.tensor_operands.specs.Stepped.{stepped}
+use Rattle.tensor_operands.specs.private.Stepped.{stepped}
 use Rattle.tensor_operands.proofs.offsets.stepped_places.Given as goal
 
 abbrev pub invariant-loop-k : goal.invariant-loop-k

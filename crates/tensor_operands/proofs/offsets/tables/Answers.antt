@@ -1,5 +1,5 @@
 use Rattle.std.proofs.Common.{◌≡◌, length, sym, subst, true, arith}
-use Rattle.tensor_operands.specs.Offsets.{HasTables}
+use Rattle.tensor_operands.specs.private.Offsets.{HasTables}
 use Rattle.tensor_terms.specs.Reduction.{are_axes}
 use Rattle.tensor_terms.specs.Woven.{others}
 use Rattle.tensor_operands.proofs.Operands.{kept-others, has_tables}

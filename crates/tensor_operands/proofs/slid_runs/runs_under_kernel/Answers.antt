@@ -4,7 +4,7 @@ use Rattle.tensor_shape.specs.Index.{size_of, strides_from, index_of}
 use Rattle.tensor_shape.proofs.Sizes.{size_of-le-bulk_of}
 use Rattle.tensor_terms.specs.Movement.{shuffled_dims}
 use Rattle.tensor_values.specs.Values.{value_in}
-use Rattle.tensor_operands.specs.Stepped.{stepped, run_axes, run_width}
+use Rattle.tensor_operands.specs.private.Stepped.{stepped, run_axes, run_width}
 use Rattle.tensor_terms.proofs.Dropped.{length-axes}
 use Rattle.tensor_terms.proofs.OtherAxes.{get_or-are_axes}
 use Rattle.tensor_terms.proofs.SlidIndex.{known, length-result}

@@ -1,5 +1,5 @@
 use Rattle.std.proofs.Common.{◌≡◌, arith}
-use Rattle.tensor_ops.specs.Meaning.{meaning, count_of}
+use Rattle.tensor_ops.specs.private.Meaning.{meaning, count_of}
 use Rattle.tensor_walks.proofs.SplicedParts.{first-within, second-within, add-first, add-second}
 use Rattle.tensor_ops.proofs.placed.+add_values.Goals as goal
 

@@ -1,7 +1,7 @@
 -- How deep the operands are, and the values so far.
 use Rattle.std.proofs.Common.{◌≡◌, ◌+◌, ◌-◌, ◌*◌, ◌≤◌, ◌++◌, map}
 use Rattle.std.specs.List.{range_with_len}
-use Rattle.tensor_ops.specs.Meaning.{meaning, depth_of}
+use Rattle.tensor_ops.specs.private.Meaning.{meaning, depth_of}
 use Rattle.tensor_values.specs.Splicing.{spliced}
 use Rattle.tensor_ops.proofs.placed.+add_values.Given as goal
 

@@ -11,7 +11,7 @@ use Rattle.std.specs.Cow.{cow_slice_items}
 use Rattle.std.specs.Prelude.{replicate}
 use Rattle.tensor_walks.specs.Chain.{chained}
 use Rattle.tensor_walks.specs.Loops.{either_way, selected}
-use Rattle.tensor_ops.specs.Meaning.{meaning, count_of, depth_of}
+use Rattle.tensor_ops.specs.private.Meaning.{meaning, count_of, depth_of}
 use Rattle.tensor_walks.specs.Places.{places_of}
 use Rattle.tensor_values.specs.Scalars.{applied}
 use Rattle.tensor_values.specs.Splicing.{firsts_before, seconds_before, spliced}

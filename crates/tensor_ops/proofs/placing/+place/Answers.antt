@@ -2,7 +2,7 @@ use Rattle.std.proofs.Common.{[], IsOk, ap, subst, sym, ◌∙◌}
 use Rattle.std.specs.Result.{result_unwrap_or}
 use Rattle.tensor_shape.specs.Legal.{highest_rank}
 use Rattle.tensor_terms.specs.Contents.{value_at}
-use Rattle.tensor_ops.specs.Placing.{Gives}
+use Rattle.tensor_ops.specs.private.Placing.{Gives}
 use Rattle.tensor_terms.specs.Result.{dims_of, binary_dims}
 use Rattle.tensor_terms.specs.Tensors.{tensors_in}
 use Rattle.tensor_terms.specs.Tree.{term_of, unary_at, binary_at}

@@ -1,6 +1,6 @@
 use Rattle.std.proofs.Common.{ℕ, List, ◌++◌, take, subst, arith}
 use Rattle.std.proofs.lemmas.List.{take-append-le, length-take-le}
-use Rattle.tensor_runner.specs.Kept.{IsKept}
+use Rattle.tensor_runner.specs.private.Kept.{IsKept}
 use Rattle.tensor_runner.proofs.reading.read_some.Goals as goal
 
 pub returns-clause-taken : goal.returns-clause-taken

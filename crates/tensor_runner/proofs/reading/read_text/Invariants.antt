@@ -1,7 +1,7 @@
 -- Each turn took some bytes, and of all that was taken this is kept.
 use Rattle.std.proofs.Common.{◌≡◌, ◌≤◌, ◌<◌, ◌+◌}
-use Rattle.tensor_runner.specs.Kept.{kept_len}
-use Rattle.tensor_runner.specs.Pieces.{HasTaken}
+use Rattle.tensor_runner.specs.private.Kept.{kept_len}
+use Rattle.tensor_runner.specs.private.Pieces.{HasTaken}
 use Rattle.tensor_runner.specs.Run.{most_reads}
 use Rattle.tensor_runner.proofs.reading.read_text.Given as goal
 

@@ -1,7 +1,7 @@
 use Rattle.std.proofs.Common.{refl, subst, ◌∙◌, Bool}
 use Rattle.message_server.proofs.Serving.{Serves-start, Serves-owes, Serves-stops}
 use Rattle.tensor_runner.specs.Limited.{lines_within}
-use Rattle.tensor_runner.specs.Server.{IsNothing, HasNothing, by_feeds}
+use Rattle.tensor_runner.specs.private.Server.{IsNothing, HasNothing, by_feeds}
 use Rattle.tensor_runner.proofs.Serving.{laws, Turn-of, Turn-end, Turn-cut, Turn-last, Turn-more}
 use Rattle.tensor_runner.proofs.server.answer_lines_logged.Goals as goal
 

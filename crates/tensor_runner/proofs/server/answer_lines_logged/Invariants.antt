@@ -3,7 +3,7 @@ use Rattle.std.proofs.Common.{◌≡◌}
 use Rattle.message_server.specs.Pieces.{pending_bytes}
 use Rattle.message_server.specs.Server.{Serves}
 use Rattle.tensor_runner.specs.Limited.{lines_within}
-use Rattle.tensor_runner.specs.Server.{by_feeds}
+use Rattle.tensor_runner.specs.private.Server.{by_feeds}
 use Rattle.tensor_runner.proofs.server.answer_lines_logged.Given as goal
 
 abbrev pub invariant-loop-turn : goal.invariant-loop-turn

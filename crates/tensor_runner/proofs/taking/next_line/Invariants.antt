@@ -1,7 +1,7 @@
 -- A line of which some bytes were taken, and nothing is written meanwhile.
 use Rattle.std.proofs.Common.{◌≡◌}
 use Rattle.message_server.specs.Pieces.{pending_bytes}
-use Rattle.tensor_runner.specs.Taking.{InLine}
+use Rattle.tensor_runner.specs.private.Taking.{InLine}
 use Rattle.tensor_runner.proofs.taking.next_line.Given as goal
 
 abbrev pub invariant-loop-turn : goal.invariant-loop-turn

@@ -1,6 +1,6 @@
 use Rattle.std.proofs.Common.{sym}
 use Rattle.expr_reader.specs.Table.{operations_1, operations_added}
-use Rattle.expr_reader.specs.Version.{operation_under}
+use Rattle.expr_reader.specs.private.Version.{operation_under}
 use Rattle.expr_reader.proofs.Operations.{operation_named-append, option_map-or}
 use Rattle.expr_reader.proofs.version.Version.operation.Goals as goal
 

@@ -1,6 +1,6 @@
 use Rattle.std.proofs.Common.{ap, arith, length, ℕ, ℤ, List, Option}
 use Rattle.expr_reader.specs.Contents.{Contents}
-use Rattle.frame_server.specs.Answering.{values_in}
+use Rattle.frame_server.specs.private.Answering.{values_in}
 use Rattle.frame_server.proofs.Answering.{length-bytes_in}
 use Rattle.frame_server.proofs.frame.AnswerFrame.len.Goals as goal
 

@@ -2,7 +2,7 @@
 use Rattle.std.proofs.Common.{◌≡◌, ℕ, ◌+◌, ◌<◌, map, to_z}
 use Rattle.std.specs.Int.{w64}
 use Rattle.tensor_shape.specs.Wrap.{wrap}
-use Rattle.tensor_kernels.specs.Halves.{AreWords, joined}
+use Rattle.tensor_kernels.specs.private.Halves.{AreWords, joined}
 use Rattle.tensor_kernels.specs.Panels.{AreLanes}
 use Rattle.tensor_kernels.specs.Products.{list_product}
 use Rattle.tensor_kernels.proofs.dots.sixteens.wide_sixteen.Given as goal

@@ -1,6 +1,6 @@
 use Rattle.std.proofs.Common.{◌≡◌, ◌*◌, ◌≤◌, length, sym, subst, ap, ◌∙◌, le_of_eq}
 use Rattle.std.specs.Int.{div_ceil}
-use Rattle.tensor_kernels.specs.Pairs.{ArePairSums}
+use Rattle.tensor_kernels.specs.private.Pairs.{ArePairSums}
 use Rattle.tensor_kernels.proofs.PackedRows.{are_small-cells}
 use Rattle.tensor_kernels.proofs.panels.Panels.of.Goals.{then-small, else-small+in_ok-sums}
 use Rattle.tensor_kernels.proofs.panels.Panels.of.Goals as goal

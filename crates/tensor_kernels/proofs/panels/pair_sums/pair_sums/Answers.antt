@@ -3,7 +3,7 @@ use Rattle.std.proofs.Common.{ap, sym, subst, ◌∙◌, arith, pos, below_more}
 use Rattle.std.proofs.lemmas.List.{get_or_append_left, get_or_push, length_push}
 use Rattle.tensor_shape.specs.Wrap.{wrap}
 use Rattle.tensor_values.specs.Values.{value_in}
-use Rattle.tensor_kernels.specs.Pairs.{own_pairs, ArePairSums}
+use Rattle.tensor_kernels.specs.private.Pairs.{own_pairs, ArePairSums}
 use Rattle.tensor_kernels.specs.Panels.{cell_of}
 use Rattle.tensor_kernels.proofs.ListWrites.{stored}
 use Rattle.tensor_kernels.proofs.PanelPlaces.{panel_place-inside, row-place, pairs-row}

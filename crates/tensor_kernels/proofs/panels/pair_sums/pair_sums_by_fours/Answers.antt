@@ -2,7 +2,7 @@ use Rattle.std.proofs.Common.{◌≡◌, ◌+◌, ◌*◌, ◌/◌, ◌<◌, pos
 use Rattle.std.proofs.Common.{length-take}
 use Rattle.std.proofs.lemmas.List.{get_or-take}
 use Rattle.tensor_shape.specs.Wrap.{wrap}
-use Rattle.tensor_kernels.specs.Pairs.{own_pairs, lane, ArePairSums}
+use Rattle.tensor_kernels.specs.private.Pairs.{own_pairs, lane, ArePairSums}
 use Rattle.tensor_kernels.proofs.PanelPlaces.{row-place, pairs-row, place-of-four, four-inside}
 use Rattle.tensor_kernels.proofs.PanelPlaces.{sums-of-four-more, fours-whole}
 use Rattle.tensor_kernels.proofs.panels.pair_sums.pair_sums_by_fours.Goals as goal

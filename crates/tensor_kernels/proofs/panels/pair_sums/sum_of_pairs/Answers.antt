@@ -1,7 +1,7 @@
 use Rattle.std.proofs.Common.{◌≡◌, ◌+◌, ◌*◌, ◌+ℤ◌, ◌*ℤ◌, ℕ, ℤ, sym, ◌∙◌, arith}
 use Rattle.std.proofs.lemmas.Int.{to_z-of_z}
 use Rattle.tensor_shape.specs.Wrap.{wrap}
-use Rattle.tensor_kernels.specs.Pairs.{lane}
+use Rattle.tensor_kernels.specs.private.Pairs.{lane}
 use Rattle.tensor_kernels.proofs.ListWrites.{stored}
 use Rattle.tensor_kernels.proofs.ProductSums.{wrap-next}
 use Rattle.tensor_kernels.proofs.panels.pair_sums.sum_of_pairs.Goals as goal

@@ -2,7 +2,7 @@ use Rattle.std.proofs.Common.{◌≡◌, ◌+◌, ◌*◌, ◌/◌, ◌%◌, ◌
 use Rattle.std.proofs.Math.Nat.{mul-add-mod_self_right}
 use Rattle.tensor_shape.specs.Wrap.{wrap}
 use Rattle.tensor_kernels.specs.Chunks.{before}
-use Rattle.tensor_kernels.specs.Strassen.{sum_at}
+use Rattle.tensor_kernels.specs.private.Strassen.{sum_at}
 use Rattle.tensor_kernels.specs.Tiling.{gathered_total, group_total}
 use Rattle.tensor_values.specs.Values.{value_in}
 use Rattle.tensor_kernels.proofs.ChunkSums.{before-later}

@@ -1,5 +1,5 @@
 use Rattle.std.proofs.Common.{◌*◌, ◌/◌, ◌<◌, length, sym, ap, subst, ◌∙◌, arith}
-use Rattle.tensor_kernels.specs.PairedBands.{AreOfColumns}
+use Rattle.tensor_kernels.specs.private.PairedBands.{AreOfColumns}
 use Rattle.tensor_kernels.proofs.Columns.{columns-few, place-columns}
 use Rattle.tensor_kernels.proofs.tiling.Tiled.add_group.Goals as goal
 

@@ -7,11 +7,11 @@ use Rattle.std.proofs.lemmas.Nat.{div-add-mod', div_below, mod_below}
 use Rattle.std.specs.Cow.{cow_slice_items}
 use Rattle.tensor_shape.specs.Wrap.{wrap}
 use Rattle.tensor_kernels.specs.Chunks.{before}
-use Rattle.tensor_kernels.specs.PairedBands.{IsOfColumns, HasColumns}
+use Rattle.tensor_kernels.specs.private.PairedBands.{IsOfColumns, HasColumns}
 use Rattle.tensor_kernels.specs.Panels.{cell_of}
 use Rattle.tensor_kernels.specs.Products.{sum_to}
 use Rattle.tensor_kernels.specs.Rows.{row_count, row_value}
-use Rattle.tensor_kernels.specs.Strassen.{AreFirstFactors, AreAdded, product_sum, quadrant_value, sum_at}
+use Rattle.tensor_kernels.specs.private.Strassen.{AreFirstFactors, AreAdded, product_sum, quadrant_value, sum_at}
 use Rattle.tensor_kernels.specs.Tiling.{product_at, pair_total, gathered_total}
 use Rattle.tensor_values.specs.Values.{value_in}
 use Rattle.tensor_kernels.specs.declared.tiling.Tiled.{Tiled}

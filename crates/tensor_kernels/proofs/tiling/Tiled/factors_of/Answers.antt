@@ -1,5 +1,5 @@
 use Rattle.std.proofs.Common.{◌+◌, sym, ◌∙◌, arith}
-use Rattle.tensor_kernels.specs.PairedBands.{IsOfColumns}
+use Rattle.tensor_kernels.specs.private.PairedBands.{IsOfColumns}
 use Rattle.tensor_kernels.proofs.Parts.{each-next}
 use Rattle.tensor_kernels.proofs.tiling.Tiled.factors_of.Goals as goal
 

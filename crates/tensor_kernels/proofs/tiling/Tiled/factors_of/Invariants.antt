@@ -1,6 +1,6 @@
 -- The factors of the pairs before i, and room for all.
 use Rattle.std.proofs.Common.{◌≡◌, vec_len, vec_capacity}
-use Rattle.tensor_kernels.specs.PairedBands.{AreOfColumns}
+use Rattle.tensor_kernels.specs.private.PairedBands.{AreOfColumns}
 use Rattle.tensor_kernels.proofs.tiling.Tiled.factors_of.Given as goal
 
 abbrev pub invariant-loop-i : goal.invariant-loop-i

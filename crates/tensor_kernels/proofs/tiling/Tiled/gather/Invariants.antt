@@ -1,7 +1,7 @@
 -- The products of the pairs before i are added up.
 use Rattle.std.proofs.Common.{◌*◌}
-use Rattle.tensor_kernels.specs.PairedBands.{AreGathered}
-use Rattle.tensor_kernels.specs.Strassen.{AreLong}
+use Rattle.tensor_kernels.specs.private.PairedBands.{AreGathered}
+use Rattle.tensor_kernels.specs.private.Strassen.{AreLong}
 use Rattle.tensor_kernels.proofs.tiling.Tiled.gather.Given as goal
 
 abbrev pub invariant-loop-i : goal.invariant-loop-i

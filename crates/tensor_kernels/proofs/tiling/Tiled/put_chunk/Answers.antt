@@ -4,7 +4,7 @@ use Rattle.std.proofs.Common.{slice_index}
 use Rattle.std.proofs.Math.Nat.{mul-add-mod_self_right, mul-add-div_right}
 use Rattle.std.specs.Int.{div_ceil}
 use Rattle.std.specs.Cow.{cow_slice_items}
-use Rattle.tensor_kernels.specs.Cells.{height_of, AreReady, HoldsRows}
+use Rattle.tensor_kernels.specs.private.Cells.{height_of, AreReady, HoldsRows}
 use Rattle.tensor_kernels.specs.Chunks.{before, chunk, chunk_start}
 use Rattle.tensor_shape.specs.Wrap.{wrap}
 use Rattle.tensor_kernels.specs.Panels.{AreInside, cell_of}

@@ -1,6 +1,6 @@
 use Rattle.std.proofs.Common.{◌≡◌, ◌+◌, ◌*◌, ◌%◌, ◌<◌, ◌^◌, ap, sym, subst, ◌∙◌}
 use Rattle.tensor_values.specs.Values.{value_in}
-use Rattle.tensor_kernels.specs.Halves.{low_half, high_half, word_in}
+use Rattle.tensor_kernels.specs.private.Halves.{low_half, high_half, word_in}
 use Rattle.tensor_kernels.proofs.SimdLanes.{lanes-bits, value_in-lanes}
 use Rattle.tensor_kernels.proofs.HalfWords.{at-crossed-low, at-crossed-high, length-crossed, once}
 use Rattle.tensor_kernels.proofs.HalfWords.{remainder_below, by-halves}

@@ -2,7 +2,7 @@ use Rattle.std.proofs.Common.{◌+◌, ◌*◌, ◌%◌, ◌^◌, pos, ◌+ℤ�
 use Rattle.std.specs.Int.{w64}
 use Rattle.tensor_values.specs.Values.{value_in}
 use Rattle.tensor_shape.specs.Wrap.{wrap}
-use Rattle.tensor_kernels.specs.Halves.{low_half, high_half, word_in, joined}
+use Rattle.tensor_kernels.specs.private.Halves.{low_half, high_half, word_in, joined}
 use Rattle.tensor_kernels.proofs.HalfProducts.{halves-next}
 use Rattle.tensor_kernels.proofs.SimdLanes.{lanes-bits, value_in-lanes}
 use Rattle.tensor_kernels.proofs.HalfLanes.{joined-bits}

@@ -1,7 +1,7 @@
 use Rattle.std.proofs.Common.{◌+◌, ◌*◌, ◌<◌, map, to_z, of_z, ◌∙◌, arith, length, length-set}
 use Rattle.std.specs.Int.{w64}
 use Rattle.tensor_values.specs.Values.{value_in}
-use Rattle.tensor_kernels.specs.Halves.{word_in, joined}
+use Rattle.tensor_kernels.specs.private.Halves.{word_in, joined}
 use Rattle.tensor_kernels.proofs.ListWrites.{stored-next, kept-next}
 use Rattle.tensor_kernels.proofs.SimdLanes.{lanes-bits}
 use Rattle.tensor_kernels.proofs.HalfLanes.{joined-bits, joined-stored}

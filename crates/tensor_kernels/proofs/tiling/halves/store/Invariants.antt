@@ -1,7 +1,7 @@
 -- The first r lanes are stored, and the columns before stay.
 use Rattle.std.proofs.Common.{◌≡◌, ℕ, length, ◌+◌, ◌*◌, ◌<◌}
 use Rattle.tensor_values.specs.Values.{value_in}
-use Rattle.tensor_kernels.specs.Halves.{joined}
+use Rattle.tensor_kernels.specs.private.Halves.{joined}
 use Rattle.tensor_kernels.proofs.tiling.halves.store.Given as goal
 
 abbrev pub invariant-loop-r : goal.invariant-loop-r

@@ -2,7 +2,7 @@ use Rattle.std.proofs.Common.{◌≡◌, ℕ, ◌+◌, ◌*◌, ◌+ℤ◌, map,
 use Rattle.std.specs.Int.{w64}
 use Rattle.tensor_values.specs.Values.{value_in}
 use Rattle.tensor_shape.specs.Wrap.{wrap}
-use Rattle.tensor_kernels.specs.Pairs.{lane, own_pairs, pairs_dot, without_own}
+use Rattle.tensor_kernels.specs.private.Pairs.{lane, own_pairs, pairs_dot, without_own}
 use Rattle.tensor_kernels.specs.Products.{dot}
 use Rattle.tensor_kernels.proofs.LaneSums.{by_fours_here}
 use Rattle.tensor_kernels.proofs.PairLanes.{next_pair, none_joined, none_words}

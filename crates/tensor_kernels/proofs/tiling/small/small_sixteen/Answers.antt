@@ -2,7 +2,7 @@ use Rattle.std.proofs.Common.{◌≡◌, ℕ, ◌+◌, ◌*◌, ℤ, ◌*ℤ◌,
 use Rattle.std.specs.Int.{w64}
 use Rattle.tensor_values.specs.Values.{value_in}
 use Rattle.tensor_shape.specs.Wrap.{wrap}
-use Rattle.tensor_kernels.specs.Pairs.{lane}
+use Rattle.tensor_kernels.specs.private.Pairs.{lane}
 use Rattle.tensor_kernels.specs.Products.{dot}
 use Rattle.tensor_kernels.proofs.LaneSums.{same-factors, next_lane, by_fours_here}
 use Rattle.tensor_kernels.proofs.SimdLanes.{lanes-bits}

@@ -2,8 +2,8 @@
 use Rattle.std.proofs.Common.{◌≡◌, ℕ, length, ◌+◌, ◌<◌}
 use Rattle.tensor_values.specs.Values.{value_in}
 use Rattle.tensor_shape.specs.Wrap.{wrap}
-use Rattle.tensor_kernels.specs.Cells.{height_of}
-use Rattle.tensor_kernels.specs.Pairs.{lane}
+use Rattle.tensor_kernels.specs.private.Cells.{height_of}
+use Rattle.tensor_kernels.specs.private.Pairs.{lane}
 use Rattle.tensor_kernels.specs.Products.{dot}
 use Rattle.tensor_kernels.proofs.tiling.tile.with_last.Given as goal
 

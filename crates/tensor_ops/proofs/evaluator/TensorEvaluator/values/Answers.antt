@@ -1,6 +1,6 @@
 use Rattle.std.proofs.Common.{◌≡◌, ◌-◌, IfOk, subst, arith}
 use Rattle.tensor_ops.specs.Evaluator.{term_evaluated, inputs_evaluated}
-use Rattle.tensor_ops.specs.Root.{root_value}
+use Rattle.tensor_ops.specs.private.Root.{root_value}
 use Rattle.tensor_ops.proofs.Evaluated.{map-values_from}
 use Rattle.tensor_ops.proofs.evaluator.TensorEvaluator.values.Goals as goal
 

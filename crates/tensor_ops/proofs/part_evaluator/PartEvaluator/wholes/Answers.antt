@@ -1,6 +1,6 @@
 use Rattle.std.proofs.Common.{◌≡◌, ◌+◌, ◌-◌, map, IfOk, ap, subst, ◌∙◌, arith}
 use Rattle.std.specs.List.{range_with_len}
-use Rattle.tensor_ops.specs.InRuns.{run_part, run_whole}
+use Rattle.tensor_ops.specs.private.InRuns.{run_part, run_whole}
 use Rattle.tensor_ops.specs.PartEvaluator.{term_in_parts, inputs_in_parts}
 use Rattle.tensor_ops.specs.Parts.{inner_size, whole_value}
 use Rattle.tensor_values.proofs.Runs.{map-shifted}

@@ -2,7 +2,7 @@ use Rattle.std.proofs.Common.{◌≡◌, ℕ, List, length, IsOk, refl, ap, sym,
 use Rattle.std.specs.List.{range_with_len}
 use Rattle.tensor_shape.specs.Legal.{highest_rank}
 use Rattle.tensor_terms.specs.Movement.{moved, moved_dims}
-use Rattle.tensor_ops.specs.Placing.{meaning_at}
+use Rattle.tensor_ops.specs.private.Placing.{meaning_at}
 use Rattle.tensor_terms.specs.Term.{shuffle}
 use Rattle.tensor_terms.proofs.Dropped.{axes_first}
 use Rattle.tensor_ops.proofs.PartValues.{in-order, dims-in-order}

@@ -2,8 +2,8 @@ mod Led
 use Rattle.std.proofs.Common.{◌≡◌, ◌+◌, ◌∙◌, IfOk, ap, sym, subst, arith}
 use Rattle.std.proofs.lemmas.Result.{IfOk-weaker}
 use Rattle.tensor_shape.specs.Legal.{most_elements}
-use Rattle.tensor_ops.specs.Meaning.{meaning, count_of, depth_of}
-use Rattle.tensor_ops.specs.Settling.{Follows, meaning_along}
+use Rattle.tensor_ops.specs.private.Meaning.{meaning, count_of, depth_of}
+use Rattle.tensor_ops.specs.private.Settling.{Follows, meaning_along}
 use Rattle.tensor_values.specs.Splicing.{spliced, HaveTurns}
 use Rattle.tensor_walks.specs.Walk.{walk_size}
 use Rattle.tensor_values.proofs.InTurns.{turns-some}

@@ -1,4 +1,4 @@
-use Rattle.tensor_ops.specs.Meaning.{depth_of}
+use Rattle.tensor_ops.specs.private.Meaning.{depth_of}
 use Rattle.tensor_ops.proofs.placed.Placed.+settled.Given as goal
 
 abbrev pub decreases-settled : goal.decreases-settled

@@ -1,7 +1,7 @@
 -- The values before the place.
 use Rattle.std.proofs.Common.{◌≡◌, ℕ, ◌+◌, ◌-◌, ◌<◌, ◌≤◌, length}
 use Rattle.tensor_values.specs.Values.{value_in}
-use Rattle.tensor_ops.specs.Meaning.{meaning}
+use Rattle.tensor_ops.specs.private.Meaning.{meaning}
 use Rattle.tensor_ops.proofs.placed.Placed.fill.Given as goal
 
 abbrev pub invariant-loop-place : goal.invariant-loop-place

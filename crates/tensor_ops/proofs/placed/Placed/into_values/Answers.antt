@@ -2,7 +2,7 @@ use Rattle.std.proofs.Common.{length}
 use Rattle.std.specs.Cow.{cow_slice_items}
 use Rattle.std.proofs.lemmas.Result.{IfOk-weaker}
 use Rattle.tensor_values.specs.Values.{value_in}
-use Rattle.tensor_ops.specs.Placing.{meaning_at}
+use Rattle.tensor_ops.specs.private.Placing.{meaning_at}
 use Rattle.tensor_ops.proofs.Worked.{values-given}
 use Rattle.tensor_ops.proofs.placed.Placed.into_values.Goals as goal
 

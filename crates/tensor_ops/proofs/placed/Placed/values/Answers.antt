@@ -1,6 +1,6 @@
 use Rattle.std.proofs.Common.{map, ap, arith}
 use Rattle.std.specs.List.{range_with_len}
-use Rattle.tensor_ops.specs.Meaning.{meaning}
+use Rattle.tensor_ops.specs.private.Meaning.{meaning}
 use Rattle.tensor_values.proofs.Runs.{chunk-more}
 use Rattle.tensor_ops.proofs.placed.Placed.values.Goals as goal
 

@@ -1,7 +1,7 @@
 use Rattle.std.proofs.Common.{◌≡◌, ◌-◌, refl, arith}
 use Rattle.tensor_shape.specs.Index.{size_of}
-use Rattle.tensor_ops.specs.Meaning.{meaning, count_of}
-use Rattle.tensor_ops.specs.Placing.{meaning_at}
+use Rattle.tensor_ops.specs.private.Meaning.{meaning, count_of}
+use Rattle.tensor_ops.specs.private.Placing.{meaning_at}
 use Rattle.tensor_ops.specs.declared.placed.Placed.TheVariants.{Lent, Kept}
 use Rattle.tensor_ops.proofs.Worked.{values-own, values-list, values-worked}
 use Rattle.tensor_ops.proofs.placed.Placed.worked_out.Goals as goal

@@ -3,7 +3,7 @@ use Rattle.std.specs.List.{range_with_len}
 use Rattle.std.proofs.lemmas.List.FromFn.{length-range_with_len, get_or-range_with_len}
 use Rattle.tensor_walks.specs.Chain.{chained}
 use Rattle.tensor_walks.specs.Loops.{either_way, selected}
-use Rattle.tensor_ops.specs.Meaning.{meaning}
+use Rattle.tensor_ops.specs.private.Meaning.{meaning}
 use Rattle.tensor_ops.proofs.Filled.{run-long, run-read}
 use Rattle.tensor_ops.proofs.placed.filling.+fill_piece.Goals as goal
 

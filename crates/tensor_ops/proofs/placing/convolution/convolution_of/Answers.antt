@@ -2,7 +2,7 @@ use Rattle.std.proofs.Common.{◌≡◌, ◌<◌, length, subst, sym, ◌∙◌}
 use Rattle.std.specs.Cow.{cow_slice_items}
 use Rattle.tensor_kernels.specs.Contracting.{contraction_count, contraction_value}
 use Rattle.tensor_values.specs.Values.{value_in}
-use Rattle.tensor_ops.specs.Placing.{meaning_at}
+use Rattle.tensor_ops.specs.private.Placing.{meaning_at}
 use Rattle.tensor_kernels.specs.Rows.{row_count, row_length, row_value}
 use Rattle.tensor_kernels.specs.SlidRuns.{slid_count, slid_length, slid_value}
 use Rattle.tensor_operands.proofs.ConvolvedRows.{rows_dot-convolved}

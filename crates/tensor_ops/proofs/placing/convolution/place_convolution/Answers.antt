@@ -1,7 +1,7 @@
 use Rattle.std.proofs.Common.{◌-◌, refl, arith}
 use Rattle.tensor_terms.specs.Convolution.{convolved}
 use Rattle.tensor_kernels.specs.Contracting.{contraction_count, contraction_value}
-use Rattle.tensor_ops.specs.Placing.{meaning_at}
+use Rattle.tensor_ops.specs.private.Placing.{meaning_at}
 use Rattle.tensor_ops.specs.declared.placed.Placed.TheVariants.{Kept}
 use Rattle.tensor_ops.proofs.Worked.{values-worked, gives-worked}
 use Rattle.tensor_ops.proofs.placing.convolution.place_convolution.Goals as goal

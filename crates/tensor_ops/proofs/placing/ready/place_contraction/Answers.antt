@@ -3,7 +3,7 @@ use Rattle.tensor_kernels.specs.Contracting.{contraction_count, contraction_valu
 use Rattle.tensor_operands.proofs.Outcomes.{IfOk-both}
 use Rattle.tensor_terms.specs.Contraction.{contracted}
 use Rattle.tensor_terms.proofs.SameValues.{Agree}
-use Rattle.tensor_ops.specs.Placing.{contraction_at, meaning_at}
+use Rattle.tensor_ops.specs.private.Placing.{contraction_at, meaning_at}
 use Rattle.tensor_ops.proofs.Placings.{gives-other}
 use Rattle.tensor_ops.proofs.Worked.{values-agree}
 use Rattle.tensor_ops.proofs.placing.ready.place_contraction.Goals as goal

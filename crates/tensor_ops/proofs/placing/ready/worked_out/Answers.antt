@@ -1,7 +1,7 @@
 use Rattle.std.proofs.Common.{◌-◌, refl, ap, sym, arith}
 use Rattle.tensor_kernels.specs.Contracting.{contraction_count, contraction_value}
 use Rattle.tensor_shape.proofs.Places.{place-index_of}
-use Rattle.tensor_ops.specs.Placing.{contraction_at}
+use Rattle.tensor_ops.specs.private.Placing.{contraction_at}
 use Rattle.tensor_ops.specs.declared.placed.Placed.TheVariants.{Kept}
 use Rattle.tensor_ops.proofs.Worked.{values-worked, gives-worked}
 use Rattle.tensor_ops.proofs.placing.ready.worked_out.Goals as goal

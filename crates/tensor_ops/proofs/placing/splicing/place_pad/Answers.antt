@@ -3,7 +3,7 @@ use Rattle.tensor_shape.specs.Index.{IsIndexOf}
 use Rattle.tensor_shape.specs.Legal.{IsLegal}
 use Rattle.tensor_shape.proofs.Places.{length-IsIndexOf}
 use Rattle.tensor_terms.specs.Padding.{padded_dims, padded}
-use Rattle.tensor_ops.specs.Placing.{Gives, meaning_at}
+use Rattle.tensor_ops.specs.private.Placing.{Gives, meaning_at}
 use Rattle.tensor_terms.specs.Shaped.{Shaped}
 use Rattle.tensor_terms.proofs.Pads.{pad-known, first_pads, first_pads-all, padded_dims-none, padded-none}
 use Rattle.tensor_ops.proofs.Placings.{gives-itself, gives-other}

@@ -1,7 +1,7 @@
 -- What is padded along the first so many axes.
 use Rattle.std.proofs.Common.{◌≡◌}
 use Rattle.tensor_terms.specs.Padding.{padded_dims, padded}
-use Rattle.tensor_ops.specs.Placing.{Gives, meaning_at}
+use Rattle.tensor_ops.specs.private.Placing.{Gives, meaning_at}
 use Rattle.tensor_terms.proofs.Pads.{first_pads}
 use Rattle.tensor_ops.proofs.placing.splicing.place_pad.Given as goal
 

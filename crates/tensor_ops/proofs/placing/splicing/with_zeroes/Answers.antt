@@ -1,5 +1,5 @@
 use Rattle.std.proofs.Common.{◌≡◌, ℕ, List, ◌+◌, get_or, set, refl, arith}
-use Rattle.tensor_ops.specs.Placing.{meaning_at}
+use Rattle.tensor_ops.specs.private.Placing.{meaning_at}
 use Rattle.std.proofs.lemmas.Result.{IfOk-weaker}
 use Rattle.tensor_ops.proofs.Placings.{gives-other}
 use Rattle.tensor_operands.proofs.Outcomes.{IfOk-both}

@@ -5,7 +5,7 @@ use Rattle.std.proofs.lemmas.Int.{to_z-of_z}
 use Rattle.std.proofs.lemmas.List.FromFn.{map-range_with_len_more}
 use mir.Val.{SFits, to_z, of_z}
 use Rattle.tensor_ops.specs.Combining.{combination}
-use Rattle.tensor_reduce.specs.Combined.{combined_by}
+use Rattle.tensor_reduce.specs.private.Combined.{combined_by}
 use Rattle.tensor_reduce.proofs.running.combined.combined_values.Goals as goal
 
 pub loop-value-preserved : goal.loop-value-preserved

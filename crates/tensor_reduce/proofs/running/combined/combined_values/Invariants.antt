@@ -1,7 +1,7 @@
 -- The values so far.
 use Rattle.std.proofs.Common.{◌≡◌, ◌≤◌, map, vec_len, vec_capacity}
 use Rattle.std.specs.List.{range_with_len}
-use Rattle.tensor_reduce.specs.Combined.{combined_by}
+use Rattle.tensor_reduce.specs.private.Combined.{combined_by}
 use Rattle.tensor_reduce.proofs.running.combined.combined_values.Given as goal
 
 abbrev pub invariant-loop-value : goal.invariant-loop-value

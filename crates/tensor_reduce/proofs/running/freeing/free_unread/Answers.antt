@@ -1,6 +1,6 @@
 use Rattle.std.proofs.Common.{◌≡◌, ◌+◌, ◌-◌, ◌<◌, ℕ, length, false, sym, ◌∙◌, arith}
 use Rattle.std.proofs.lemmas.List.{length-set}
-use Rattle.tensor_reduce.specs.Readers.{are_reading}
+use Rattle.tensor_reduce.specs.private.Readers.{are_reading}
 use Rattle.tensor_reduce.proofs.Freeing.{AreHeld-set}
 use Rattle.tensor_reduce.proofs.running.freeing.free_unread.Goals as goal
 use Rattle.tensor_reduce.proofs.running.freeing.free_unread.Goals.{then-not-is_empty+else-number-ge-NUMBERS+else-are_reading, else-not-is_empty}

@@ -1,7 +1,7 @@
 -- What the steps left read is held as before.
 use Rattle.std.proofs.Common.{◌≡◌, ◌++◌, List, length, vec_capacity}
 use Rattle.tensor_ops.specs.Contents.{Contents}
-use Rattle.tensor_reduce.specs.Held.{AreHeld}
+use Rattle.tensor_reduce.specs.private.Held.{AreHeld}
 use Rattle.tensor_reduce.proofs.running.freeing.free_unread.Given as goal
 
 abbrev pub invariant-loop-behind : goal.invariant-loop-behind

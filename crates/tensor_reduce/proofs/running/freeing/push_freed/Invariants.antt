@@ -1,6 +1,6 @@
 -- So many tensors stand behind the others.
 use Rattle.std.proofs.Common.{◌≡◌, ◌+◌, ◌≤◌, length, vec_capacity}
-use Rattle.tensor_reduce.specs.Held.{HasMore}
+use Rattle.tensor_reduce.specs.private.Held.{HasMore}
 use Rattle.tensor_reduce.proofs.running.freeing.push_freed.Given as goal
 
 abbrev pub invariant-loop : goal.invariant-loop

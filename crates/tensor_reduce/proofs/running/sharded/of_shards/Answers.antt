@@ -3,7 +3,7 @@ use Rattle.std.proofs.lemmas.List.FromFn.{length-map-range_with_len}
 use Rattle.tensor_ops.specs.Index.{size_of}
 use Rattle.tensor_ops.specs.PartEvaluator.{term_in_parts, inputs_in_parts}
 use Rattle.tensor_ops.specs.Tree.{term_of}
-use Rattle.tensor_reduce.specs.Combined.{value_shard, combined_by}
+use Rattle.tensor_reduce.specs.private.Combined.{value_shard, combined_by}
 use Rattle.tensor_reduce.specs.Shards.{shards_in}
 use Rattle.tensor_reduce.proofs.ShardedTensors.{tensor_of-cut}
 use Rattle.tensor_reduce.proofs.running.sharded.of_shards.Goals as goal

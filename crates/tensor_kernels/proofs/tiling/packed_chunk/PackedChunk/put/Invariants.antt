@@ -1,6 +1,6 @@
 -- The rows of the panels before s are written, all others are as they were.
 use Rattle.std.proofs.Common.{◌≡◌, ℕ, ◌+◌, ◌<◌, ◌≤◌, length}
-use Rattle.tensor_kernels.specs.PackedChunks.{panel_at, put_value}
+use Rattle.tensor_kernels.specs.private.PackedChunks.{panel_at, put_value}
 use Rattle.tensor_values.specs.Values.{value_in}
 use Rattle.tensor_kernels.proofs.tiling.packed_chunk.PackedChunk.put.Given as goal
 

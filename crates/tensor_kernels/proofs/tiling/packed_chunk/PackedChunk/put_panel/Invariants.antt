@@ -1,6 +1,6 @@
 -- The panel's rows of the columns before j are written, all else is as it was.
 use Rattle.std.proofs.Common.{◌≡◌, ℕ, ◌+◌, ◌/◌, ◌<◌, ◌≤◌, length}
-use Rattle.tensor_kernels.specs.PackedChunks.{IsPutInPanel}
+use Rattle.tensor_kernels.specs.private.PackedChunks.{IsPutInPanel}
 use Rattle.tensor_values.specs.Values.{value_in}
 use Rattle.tensor_kernels.proofs.tiling.packed_chunk.PackedChunk.put_panel.Given as goal
 

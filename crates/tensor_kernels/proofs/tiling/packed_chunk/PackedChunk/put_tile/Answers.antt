@@ -4,10 +4,10 @@ use Rattle.std.proofs.lemmas.Int.{int_wrap-add_right}
 use Rattle.std.proofs.lemmas.Nat.{div-add-mod', mod_below}
 use Rattle.std.specs.Int.{w64}
 use Rattle.tensor_shape.specs.Wrap.{wrap}
-use Rattle.tensor_kernels.specs.Cells.{height_of}
+use Rattle.tensor_kernels.specs.private.Cells.{height_of}
 use Rattle.tensor_kernels.specs.Chunks.{before}
-use Rattle.tensor_kernels.specs.PackedChunks.{tile_sum, IsPutInTile}
-use Rattle.tensor_kernels.specs.Tiles.{IsPut}
+use Rattle.tensor_kernels.specs.private.PackedChunks.{tile_sum, IsPutInTile}
+use Rattle.tensor_kernels.specs.private.Tiles.{IsPut}
 use Rattle.tensor_values.specs.Values.{value_in}
 use Rattle.tensor_kernels.specs.declared.tiling.packed_chunk.PackedChunk.{PackedChunk}
 use Rattle.tensor_kernels.specs.declared.tiling.placing.Tile.{Tile}

@@ -6,8 +6,8 @@ use Rattle.std.proofs.Math.Nat.{mul-le-mul_right}
 use Rattle.std.specs.Int.{div_ceil}
 use Rattle.std.proofs.lemmas.Nat.{div-mul-add, mod-mul-add}
 use Rattle.tensor_shape.specs.Wrap.{wrap}
-use Rattle.tensor_kernels.specs.Cells.{height_of, AreReady}
-use Rattle.tensor_kernels.specs.Pairs.{lane}
+use Rattle.tensor_kernels.specs.private.Cells.{height_of, AreReady}
+use Rattle.tensor_kernels.specs.private.Pairs.{lane}
 use Rattle.tensor_kernels.specs.Panels.{cell_of, panel_place}
 use Rattle.tensor_kernels.specs.Products.{dot}
 use Rattle.tensor_values.specs.Values.{value_in}

@@ -1,7 +1,7 @@
 use Rattle.std.proofs.Common.{◌≡◌, ◌+◌, ◌-◌, ◌<◌, max, min, ap, ◌∙◌, arith}
 use Rattle.std.proofs.lemmas.Bool.Decides.{nat_tests}
-use Rattle.tensor_kernels.specs.Cells.{height_of}
-use Rattle.tensor_kernels.specs.Tiles.{start_of, end_of}
+use Rattle.tensor_kernels.specs.private.Cells.{height_of}
+use Rattle.tensor_kernels.specs.private.Tiles.{start_of, end_of}
 use Rattle.tensor_kernels.proofs.TilePlaces.{is_in_tile}
 use Rattle.tensor_kernels.proofs.tiling.placing.Tile.meets.Goals as goal
 

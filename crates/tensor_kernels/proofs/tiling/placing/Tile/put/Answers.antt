@@ -6,9 +6,9 @@ use Rattle.std.proofs.lemmas.Bool.{cases_lt}
 use Rattle.std.proofs.lemmas.List.{get_or-drop, get_or-take, length-take-le}
 use borrow.Rule.Slice.PartMut.{put_mid}
 use Rattle.tensor_shape.specs.Wrap.{wrap}
-use Rattle.tensor_kernels.specs.Cells.{height_of}
+use Rattle.tensor_kernels.specs.private.Cells.{height_of}
 use Rattle.tensor_kernels.specs.Chunks.{before}
-use Rattle.tensor_kernels.specs.Tiles.{IsPut, start_of, end_of}
+use Rattle.tensor_kernels.specs.private.Tiles.{IsPut, start_of, end_of}
 use Rattle.tensor_values.specs.Values.{value_in}
 use Rattle.tensor_kernels.specs.declared.tiling.placing.Tile.{Tile}
 use Rattle.tensor_kernels.proofs.Heights.{height-some}

@@ -3,7 +3,7 @@ use Rattle.std.proofs.Common.{◌≡◌, ℕ, ◌*◌, ◌+ℤ◌, ◌<◌, ◌�
 use Rattle.tensor_shape.specs.Wrap.{wrap}
 use Rattle.tensor_kernels.specs.Chunks.{before}
 use Rattle.tensor_values.specs.Values.{value_in}
-use Rattle.tensor_kernels.specs.Strassen.{product_sum}
+use Rattle.tensor_kernels.specs.private.Strassen.{product_sum}
 use Rattle.tensor_kernels.proofs.tiling.strassen.products.add_product.Given as goal
 
 abbrev pub invariant-loop-j : goal.invariant-loop-j

@@ -10,7 +10,7 @@ use Rattle.tensor_values.specs.Combining.{unit}
 use Rattle.tensor_values.specs.Values.{value_in}
 use Rattle.tensor_walks.specs.Folds.{folded}
 use Rattle.tensor_walks.proofs.Folding.{folded-ext}
-use Rattle.tensor_ops.specs.ContractedRuns.{contracted_value}
+use Rattle.tensor_ops.specs.private.ContractedRuns.{contracted_value}
 use Rattle.tensor_ops.proofs.PartValues.{piece-value}
 use Rattle.tensor_ops.proofs.part_evaluator.contracted_runs.ContractedRuns.combined.Goals as goal
 

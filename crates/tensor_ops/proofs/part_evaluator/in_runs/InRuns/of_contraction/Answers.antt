@@ -3,9 +3,9 @@ use Rattle.std.proofs.lemmas.Result.{IfOk-weaker}
 use Rattle.tensor_kernels.specs.Contracting.{contraction_value}
 use Rattle.tensor_terms.specs.Woven.{among}
 use Rattle.tensor_terms.proofs.OtherAxes.{are_axes-among}
-use Rattle.tensor_ops.specs.InRuns.{GivesReduced}
-use Rattle.tensor_ops.specs.Placing.{contraction_at, meaning_at}
-use Rattle.tensor_ops.specs.Runs.{LieInRuns}
+use Rattle.tensor_ops.specs.private.InRuns.{GivesReduced}
+use Rattle.tensor_ops.specs.private.Placing.{contraction_at, meaning_at}
+use Rattle.tensor_ops.specs.private.Runs.{LieInRuns}
 use Rattle.tensor_ops.proofs.Placings.{gives-index}
 use Rattle.tensor_ops.proofs.ReducedRuns.{gives-along, reduced-same}
 use Rattle.tensor_ops.specs.declared.part_evaluator.in_runs.InRuns.TheVariants.{Contracted}

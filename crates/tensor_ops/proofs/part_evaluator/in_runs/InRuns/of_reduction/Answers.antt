@@ -13,7 +13,7 @@ use Rattle.tensor_terms.specs.Value.{value}
 use Rattle.tensor_terms.proofs.SameValues.{Agree}
 use Rattle.tensor_terms.proofs.Shapes.{with_two-over}
 use Rattle.tensor_terms.proofs.Terms.{reduced-known}
-use Rattle.tensor_ops.specs.Placing.{contraction_at, meaning_at}
+use Rattle.tensor_ops.specs.private.Placing.{contraction_at, meaning_at}
 use Rattle.tensor_ops.proofs.Placings.{gives-index}
 use Rattle.tensor_ops.proofs.ReducedRuns.{gives-reduced}
 use Rattle.tensor_ops.proofs.Worked.{values-other, values-agree, agree-terms}

@@ -1,9 +1,9 @@
 use Rattle.std.proofs.Common.{◌≡◌, ℕ, List, length, refl, ap, subst, ◌∙◌}
 use Rattle.tensor_terms.specs.Woven.{among}
 use Rattle.tensor_terms.proofs.OtherAxes.{are_axes-among}
-use Rattle.tensor_ops.specs.Meaning.{meaning}
-use Rattle.tensor_ops.specs.Placing.{meaning_at}
-use Rattle.tensor_ops.specs.Runs.{LieInRuns}
+use Rattle.tensor_ops.specs.private.Meaning.{meaning}
+use Rattle.tensor_ops.specs.private.Placing.{meaning_at}
+use Rattle.tensor_ops.specs.private.Runs.{LieInRuns}
 use Rattle.tensor_ops.proofs.ReducedRuns.{gives-along}
 use Rattle.tensor_ops.specs.declared.part_evaluator.in_runs.InRuns.TheVariants.{Combined}
 use Rattle.tensor_ops.proofs.part_evaluator.in_runs.InRuns.of_values.Goals as goal

@@ -2,7 +2,7 @@ use Rattle.std.proofs.Common.{◌≡◌, ◌-◌, [], rules, ap, ◌∙◌, arit
 use Rattle.std.proofs.lemmas.Int.{to_z-of_z}
 use Rattle.std.specs.Int.{w64}
 use mir.Val.{SFits}
-use Rattle.tensor_ops.specs.InRuns.{run_part, run_whole}
+use Rattle.tensor_ops.specs.private.InRuns.{run_part, run_whole}
 use Rattle.tensor_values.proofs.Runs.{run-more}
 use Rattle.tensor_ops.proofs.part_evaluator.in_runs.InRuns.one_by_one.Goals as goal
 

@@ -1,7 +1,7 @@
 -- What the places before gave.
 use Rattle.std.proofs.Common.{◌≡◌, ◌-◌, map}
 use Rattle.std.specs.List.{range_with_len}
-use Rattle.tensor_ops.specs.InRuns.{run_whole}
+use Rattle.tensor_ops.specs.private.InRuns.{run_whole}
 use Rattle.tensor_ops.proofs.part_evaluator.in_runs.InRuns.one_by_one.Given as goal
 
 abbrev pub invariant-loop-place : goal.invariant-loop-place

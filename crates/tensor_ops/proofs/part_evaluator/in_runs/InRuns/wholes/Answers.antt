@@ -1,10 +1,10 @@
 use Rattle.std.proofs.Common.{◌≡◌, ◌-◌, map, IfOk, ap, sym, subst, ◌∙◌}
 use Rattle.std.specs.List.{range_with_len}
 use Rattle.tensor_kernels.specs.Contracting.{contraction_value}
-use Rattle.tensor_ops.specs.ContractedRuns.{contracted_combined}
-use Rattle.tensor_ops.specs.InRuns.{run_whole}
-use Rattle.tensor_ops.specs.Meaning.{meaning}
-use Rattle.tensor_ops.specs.ValueRuns.{run_combined}
+use Rattle.tensor_ops.specs.private.ContractedRuns.{contracted_combined}
+use Rattle.tensor_ops.specs.private.InRuns.{run_whole}
+use Rattle.tensor_ops.specs.private.Meaning.{meaning}
+use Rattle.tensor_ops.specs.private.ValueRuns.{run_combined}
 use Rattle.tensor_ops.proofs.CombinedRuns.{whole-runs}
 use Rattle.tensor_ops.proofs.part_evaluator.in_runs.InRuns.wholes.Goals as goal
 

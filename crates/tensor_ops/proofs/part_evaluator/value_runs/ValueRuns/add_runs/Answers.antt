@@ -3,7 +3,7 @@ use Rattle.std.specs.Cow.{cow_slice_items}
 use Rattle.std.specs.List.{range_with_len}
 use Rattle.std.proofs.lemmas.List.FromFn.{length-map-range_with_len}
 use Rattle.tensor_walks.specs.Folds.{run_folded}
-use Rattle.tensor_ops.specs.Meaning.{meaning}
+use Rattle.tensor_ops.specs.private.Meaning.{meaning}
 use Rattle.tensor_values.specs.Values.{value_in}
 use Rattle.tensor_ops.proofs.CombinedRuns.{long-runs, runs-piece}
 use Rattle.tensor_ops.proofs.part_evaluator.value_runs.ValueRuns.add_runs.Goals as goal

@@ -1,7 +1,7 @@
 use Rattle.std.proofs.Common.{◌≡◌, ◌*◌, ℕ, List, ap, sym, ◌∙◌, arith}
 use Rattle.tensor_shape.specs.Index.{size_of}
-use Rattle.tensor_ops.specs.Meaning.{meaning}
-use Rattle.tensor_ops.specs.Placing.{meaning_at}
+use Rattle.tensor_ops.specs.private.Meaning.{meaning}
+use Rattle.tensor_ops.specs.private.Placing.{meaning_at}
 use Rattle.tensor_terms.specs.Woven.{dims_at, other_dims}
 use Rattle.tensor_ops.proofs.PartValues.{fronted-size, lie-in-runs}
 use Rattle.tensor_ops.proofs.Placings.{gives-after}

@@ -7,7 +7,7 @@ use mir.Val.{SFits, to_z, of_z}
 use Rattle.tensor_walks.specs.Folds.{folded}
 use Rattle.tensor_values.specs.Values.{value_in}
 use Rattle.tensor_values.specs.Combining.{unit}
-use Rattle.tensor_ops.specs.ValueRuns.{run_value}
+use Rattle.tensor_ops.specs.private.ValueRuns.{run_value}
 use Rattle.tensor_ops.proofs.PartValues.{folded-piece}
 use Rattle.tensor_ops.proofs.part_evaluator.value_runs.ValueRuns.combined.Goals as goal
 

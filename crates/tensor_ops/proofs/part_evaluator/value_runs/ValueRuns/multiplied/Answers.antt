@@ -8,7 +8,7 @@ use mir.Val.{SFits, to_z, of_z}
 use Rattle.tensor_shape.specs.Wrap.{wrap}
 use Rattle.tensor_values.specs.Values.{value_in}
 use Rattle.tensor_kernels.specs.Products.{sum_to}
-use Rattle.tensor_ops.specs.ValueRuns.{run_value}
+use Rattle.tensor_ops.specs.private.ValueRuns.{run_value}
 use Rattle.tensor_ops.proofs.PartValues.{sum-piece}
 use Rattle.tensor_ops.proofs.part_evaluator.value_runs.ValueRuns.multiplied.Goals as goal
 

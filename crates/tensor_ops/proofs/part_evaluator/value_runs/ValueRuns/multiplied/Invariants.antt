@@ -2,7 +2,7 @@
 use Rattle.std.proofs.Common.{◌≡◌, ◌+◌, ◌-◌, ◌*ℤ◌, ◌≤◌}
 use Rattle.tensor_shape.specs.Wrap.{wrap}
 use Rattle.tensor_kernels.specs.Products.{sum_to}
-use Rattle.tensor_ops.specs.ValueRuns.{run_value}
+use Rattle.tensor_ops.specs.private.ValueRuns.{run_value}
 use Rattle.tensor_ops.proofs.part_evaluator.value_runs.ValueRuns.multiplied.Given as goal
 
 abbrev pub invariant-loop-from : goal.invariant-loop-from

@@ -1,8 +1,8 @@
 use Rattle.std.proofs.Common.{◌≡◌, ◌+◌, ◌-◌, ◌*◌, ℕ, map, ap, ◌∙◌, arith}
 use Rattle.std.specs.List.{range_with_len}
 use Rattle.std.proofs.lemmas.Result.{IfOk-weaker}
-use Rattle.tensor_ops.specs.Meaning.{meaning}
-use Rattle.tensor_ops.specs.ValueRuns.{run_value}
+use Rattle.tensor_ops.specs.private.Meaning.{meaning}
+use Rattle.tensor_ops.specs.private.ValueRuns.{run_value}
 use Rattle.tensor_values.proofs.Runs.{map-shifted}
 use Rattle.tensor_ops.proofs.part_evaluator.value_runs.ValueRuns.piece.Goals as goal
 

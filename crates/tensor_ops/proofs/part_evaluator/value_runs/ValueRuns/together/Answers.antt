@@ -1,6 +1,6 @@
 use Rattle.std.proofs.Common.{map, ap, arith}
 use Rattle.std.specs.List.{range_with_len}
-use Rattle.tensor_ops.specs.ValueRuns.{run_combined}
+use Rattle.tensor_ops.specs.private.ValueRuns.{run_combined}
 use Rattle.tensor_values.proofs.Runs.{chunk-more}
 use Rattle.tensor_ops.proofs.part_evaluator.value_runs.ValueRuns.together.Goals as goal
 

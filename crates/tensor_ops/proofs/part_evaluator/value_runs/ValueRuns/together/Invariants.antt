@@ -1,7 +1,7 @@
 -- What the runs before gave, and the room.
 use Rattle.std.proofs.Common.{◌≡◌, ◌+◌, ◌-◌, ◌≤◌, map, vec_len, vec_capacity}
 use Rattle.std.specs.List.{range_with_len}
-use Rattle.tensor_ops.specs.ValueRuns.{run_combined}
+use Rattle.tensor_ops.specs.private.ValueRuns.{run_combined}
 use Rattle.tensor_ops.proofs.part_evaluator.value_runs.ValueRuns.together.Given as goal
 
 abbrev pub invariant-loop-run : goal.invariant-loop-run

@@ -4,7 +4,7 @@ use Rattle.std.specs.List.{range_with_len}
 use Rattle.std.proofs.lemmas.Int.{to_z-of_z}
 use Rattle.std.proofs.lemmas.List.FromFn.{map-range_with_len_more}
 use mir.Val.{SFits, to_z, of_z}
-use Rattle.tensor_reduce.specs.Combined.{shard_at_place}
+use Rattle.tensor_reduce.specs.private.Combined.{shard_at_place}
 use Rattle.tensor_reduce.proofs.running.shard_kernel.ShardKernel.each.Goals as goal
 
 pub loop-place-preserved : goal.loop-place-preserved

@@ -1,7 +1,7 @@
 -- What the shards so far give.
 use Rattle.std.proofs.Common.{◌≡◌, ◌-◌, ◌≤◌, map, vec_len, vec_capacity}
 use Rattle.std.specs.List.{range_with_len}
-use Rattle.tensor_reduce.specs.Combined.{shard_at_place}
+use Rattle.tensor_reduce.specs.private.Combined.{shard_at_place}
 use Rattle.tensor_reduce.proofs.running.shard_kernel.ShardKernel.each.Given as goal
 
 abbrev pub invariant-loop-place : goal.invariant-loop-place

@@ -2,7 +2,7 @@ use Rattle.std.proofs.Common.{◌≡◌, ◌-◌, length, map, IfOk, sym, subst,
 use Rattle.std.specs.List.{range_with_len}
 use Rattle.tensor_ops.specs.PartEvaluator.{term_in_parts, inputs_in_parts}
 use Rattle.tensor_ops.specs.Parts.{whole_value}
-use Rattle.tensor_reduce.specs.Combined.{shard_at_place}
+use Rattle.tensor_reduce.specs.private.Combined.{shard_at_place}
 use Rattle.tensor_reduce.specs.Shards.{shards_in}
 use Rattle.tensor_reduce.proofs.ShardedTensors.{value_shard-one}
 use Rattle.tensor_reduce.proofs.Sharding.{map-ext}

@@ -1,5 +1,5 @@
 use Rattle.std.proofs.Common.{rules, ◌≡◌, ◌+◌, length, refl, false, subst, ◌∙◌}
-use Rattle.tensor_reduce.specs.Readers.{are_reading}
+use Rattle.tensor_reduce.specs.private.Readers.{are_reading}
 use Rattle.tensor_reduce.proofs.NextSteps.{three-steps, later-steps, next-number}
 use Rattle.tensor_reduce.proofs.schedule.next.Next.with_both_fused.Goals as goal
 

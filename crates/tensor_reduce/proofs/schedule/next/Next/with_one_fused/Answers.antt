@@ -1,5 +1,5 @@
 use Rattle.std.proofs.Common.{rules, ◌≡◌, ◌+◌, length, false, subst, sym, ◌∙◌}
-use Rattle.tensor_reduce.specs.Readers.{are_reading}
+use Rattle.tensor_reduce.specs.private.Readers.{are_reading}
 use Rattle.tensor_reduce.proofs.NextSteps.{two-steps, later-steps, next-number}
 use Rattle.tensor_reduce.proofs.schedule.next.Next.with_one_fused.Goals as goal
 

@@ -1,6 +1,6 @@
 -- The quickest of the numbers so far.
 use Rattle.std.proofs.Common.{◌≡◌, ◌≤◌}
-use Rattle.tensor_reduce.specs.Worth.{time_on, IsQuickest}
+use Rattle.tensor_reduce.specs.private.Worth.{time_on, IsQuickest}
 use Rattle.tensor_reduce.proofs.schedule.worth.Load.workers.Given as goal
 
 abbrev pub invariant-loop-fewer : goal.invariant-loop-fewer

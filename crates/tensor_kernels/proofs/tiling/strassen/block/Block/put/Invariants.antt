@@ -1,6 +1,6 @@
 -- The block's rows of the columns before j are written, all else is as it was.
 use Rattle.std.proofs.Common.{◌≡◌, ℕ, ◌+◌, ◌/◌, ◌<◌, ◌≤◌, length}
-use Rattle.tensor_kernels.specs.Strassen.{IsPutInBlock}
+use Rattle.tensor_kernels.specs.private.Strassen.{IsPutInBlock}
 use Rattle.tensor_values.specs.Values.{value_in}
 use Rattle.tensor_kernels.proofs.tiling.strassen.block.Block.put.Given as goal
 

@@ -5,8 +5,8 @@ use Rattle.std.proofs.lemmas.Nat.{div-add-mod', mod_below}
 use Rattle.std.specs.Int.{w64}
 use Rattle.tensor_shape.specs.Wrap.{wrap}
 use Rattle.tensor_kernels.specs.Chunks.{before}
-use Rattle.tensor_kernels.specs.Strassen.{block_sum, quadrant_value, IsPutInPanel}
-use Rattle.tensor_kernels.specs.Tiles.{IsPut}
+use Rattle.tensor_kernels.specs.private.Strassen.{block_sum, quadrant_value, IsPutInPanel}
+use Rattle.tensor_kernels.specs.private.Tiles.{IsPut}
 use Rattle.tensor_values.specs.Values.{value_in}
 use Rattle.tensor_kernels.specs.declared.panels.height.Height.TheVariants.{Sixteen}
 use Rattle.tensor_kernels.specs.declared.tiling.placing.Tile.{Tile}

@@ -1,7 +1,7 @@
 use Rattle.std.proofs.Common.{◌≡◌, ℕ, zero, suc, ℤ, ◌+ℤ◌, ◌-ℤ◌, refl, ◌∙◌, arith}
 use Rattle.tensor_shape.specs.Wrap.{wrap}
 use Rattle.tensor_values.specs.Values.{value_in}
-use Rattle.tensor_kernels.specs.Strassen.{quadrant_value}
+use Rattle.tensor_kernels.specs.private.Strassen.{quadrant_value}
 use Rattle.tensor_kernels.specs.declared.tiling.strassen.products.Products.{Products}
 use Rattle.tensor_kernels.proofs.Congruence.{wrap-three}
 use Rattle.tensor_kernels.proofs.tiling.strassen.block.Block.sums.Goals as goal

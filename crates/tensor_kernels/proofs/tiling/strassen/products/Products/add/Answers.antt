@@ -4,7 +4,7 @@ use Rattle.std.specs.Prelude.{Vec}
 use Rattle.std.specs.Vec.{with_items}
 use Rattle.tensor_shape.specs.Wrap.{wrap}
 use Rattle.tensor_kernels.specs.Chunks.{before}
-use Rattle.tensor_kernels.specs.Strassen.{IsProductAdded, product_sum}
+use Rattle.tensor_kernels.specs.private.Strassen.{IsProductAdded, product_sum}
 use Rattle.tensor_values.specs.Values.{value_in}
 use Rattle.tensor_kernels.specs.declared.panels.Panels.{Panels}
 use Rattle.tensor_kernels.proofs.tiling.strassen.products.Products.add.Goals as goal

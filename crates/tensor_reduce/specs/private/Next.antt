@@ -1,10 +1,10 @@
 -- What is worked out next of the steps left.
 use Rattle.std.specs.Prelude.{◌≡◌, ℕ, ◌+◌, ◌<◌, ◌^◌, List, ◌∷◌, drop, false}
 use Rattle.tensor_ops.specs.Term.{Term}
-use Rattle.tensor_reduce.specs.Fusing.{fused_with}
+use Rattle.tensor_reduce.specs.private.Fusing.{fused_with}
 use Rattle.tensor_reduce.specs.Plan.{term_of_step, dims_of_step}
-use Rattle.tensor_reduce.specs.Readers.{reads, are_reading}
-use Rattle.tensor_reduce.specs.Schedules.{IsScheduleFor, IsFusingFor}
+use Rattle.tensor_reduce.specs.private.Readers.{reads, are_reading}
+use Rattle.tensor_reduce.specs.private.Schedules.{IsScheduleFor, IsFusingFor}
 use Rattle.tensor_reduce.specs.declared.schedule.Schedule.{Schedule}
 use Rattle.tensor_reduce.specs.declared.schedule.next.Next.{Next}
 use Rattle.tensor_reduce.specs.declared.schedule.next.Next.TheVariants.{Alone, Fused, BothFused}

@@ -4,7 +4,7 @@ use Rattle.tensor_shape.specs.Index.{size_of, IsIndexOf, place, index_of}
 use Rattle.tensor_shape.specs.Legal.{most_elements}
 use Rattle.tensor_kernels.specs.Contracting.{contraction_value}
 use Rattle.tensor_operands.specs.Axes.{are_along, by_steps}
-use Rattle.tensor_ops.specs.Meaning.{meaning, count_of, IsSound}
+use Rattle.tensor_ops.specs.private.Meaning.{meaning, count_of, IsSound}
 use Rattle.tensor_kernels.specs.declared.contraction.Contraction.{Contraction}
 use Rattle.tensor_ops.specs.declared.placed.Placed.{Placed}
 use Rattle.tensor_walks.specs.declared.walk.Axis.{Axis}

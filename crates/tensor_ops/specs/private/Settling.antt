@@ -1,6 +1,6 @@
 -- Placed expressions whose walks have gone down to what is read by places.
 use Rattle.std.specs.Prelude.{◌≡◌, ℕ, ℤ, ◌<◌, List}
-use Rattle.tensor_ops.specs.Meaning.{meaning, count_of, IsSound}
+use Rattle.tensor_ops.specs.private.Meaning.{meaning, count_of, IsSound}
 use Rattle.tensor_walks.specs.Walk.{reached}
 use Rattle.tensor_ops.specs.declared.placed.Placed.{Placed}
 use Rattle.tensor_walks.specs.declared.walk.Axis.{Axis}

@@ -6,11 +6,11 @@ use Rattle.std.specs.Prelude.{List, length, false}
 use Rattle.tensor_shape.specs.Legal.{most_elements}
 use Rattle.tensor_shape.specs.Wrap.{wrap}
 use Rattle.tensor_values.specs.Values.{value_in}
-use Rattle.tensor_kernels.specs.Cells.{AreReady}
+use Rattle.tensor_kernels.specs.private.Cells.{AreReady}
 use Rattle.tensor_kernels.specs.Chunks.{before}
 use Rattle.tensor_kernels.specs.Panels.{cell_of}
 use Rattle.tensor_kernels.specs.Products.{dot}
-use Rattle.tensor_kernels.specs.Quartering.{half_size}
+use Rattle.tensor_kernels.specs.private.Quartering.{half_size}
 use Rattle.tensor_kernels.specs.declared.panels.Panels.{Panels}
 use Rattle.tensor_kernels.specs.declared.tiling.strassen.block.Block.{Block}
 use Rattle.tensor_kernels.specs.declared.tiling.strassen.factors.Factors.{Factors}

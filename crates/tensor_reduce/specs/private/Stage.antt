@@ -2,12 +2,12 @@
 -- values are combined as those of the next come.
 use Rattle.std.specs.Prelude.{◌≡◌, ℕ, ◌+◌, ◌<◌, ◌^◌, List, ◌∷◌, drop, true, false}
 use Rattle.tensor_ops.specs.Term.{Term}
-use Rattle.tensor_reduce.specs.Fusing.{fused_with}
-use Rattle.tensor_reduce.specs.Next.{IsNextOf, fused_in, next_term, next_dims, next_schedule}
-use Rattle.tensor_reduce.specs.Next.{last_number}
+use Rattle.tensor_reduce.specs.private.Fusing.{fused_with}
+use Rattle.tensor_reduce.specs.private.Next.{IsNextOf, fused_in, next_term, next_dims, next_schedule}
+use Rattle.tensor_reduce.specs.private.Next.{last_number}
 use Rattle.tensor_reduce.specs.Plan.{term_of_step, dims_of_step}
-use Rattle.tensor_reduce.specs.Readers.{is_over, are_reading}
-use Rattle.tensor_reduce.specs.Schedules.{IsFusingFor}
+use Rattle.tensor_reduce.specs.private.Readers.{is_over, are_reading}
+use Rattle.tensor_reduce.specs.private.Schedules.{IsFusingFor}
 use Rattle.tensor_reduce.specs.declared.schedule.Schedule.{Schedule}
 use Rattle.tensor_reduce.specs.declared.schedule.stage.Stage.{Stage}
 use Rattle.tensor_reduce.specs.declared.schedule.stage.Stage.TheVariants.{Plain, Reduced}

@@ -6,7 +6,7 @@ use Rattle.std.specs.Cow.{cow_slice_items}
 use Rattle.std.specs.Int.{div_ceil}
 use mir.ValLaws.{SFits-prop}
 use Rattle.tensor_kernels.specs.Chunks.{chunk}
-use Rattle.tensor_kernels.specs.Pairs.{ArePairSums}
+use Rattle.tensor_kernels.specs.private.Pairs.{ArePairSums}
 use Rattle.tensor_kernels.specs.Panels.{AreCells, AreSmall}
 use Rattle.tensor_kernels.specs.Rows.{row_count}
 use Rattle.tensor_kernels.specs.declared.panels.Panels.{Panels}

@@ -5,7 +5,7 @@ use Rattle.std.specs.List.{flat_map}
 use Rattle.std.specs.Io.KnownBytes.{IsAtEnd}
 use Rattle.message_server.specs.History.{History}
 use Rattle.message_server.specs.Pieces.{Takes}
-use Rattle.tensor_runner.specs.Kept.{IsKept}
+use Rattle.tensor_runner.specs.private.Kept.{IsKept}
 use Rattle.tensor_runner.specs.declared.kept.KeptText.{KeptText}
 use Rattle.tensor_runner.specs.declared.kept.NextLine.{NextLine}
 

@@ -3,7 +3,7 @@ use Rattle.std.specs.Prelude.{◌≡◌, ◌≢◌, ℕ, ℤ, ◌+ℤ◌, ◌*�
 use Rattle.std.specs.Int.{div_ceil}
 use Rattle.tensor_shape.specs.Legal.{most_elements}
 use Rattle.tensor_shape.specs.Wrap.{wrap}
-use Rattle.tensor_kernels.specs.Cells.{height_of, AreReady}
+use Rattle.tensor_kernels.specs.private.Cells.{height_of, AreReady}
 use Rattle.tensor_kernels.specs.Chunks.{before}
 use Rattle.tensor_kernels.specs.Panels.{cell_of}
 use Rattle.tensor_kernels.specs.Products.{dot}

@@ -1,8 +1,8 @@
 -- Runs of a placed expression's values.
 use Rattle.std.specs.Prelude.{ℕ, ℤ}
 use Rattle.tensor_walks.specs.Folds.{run_folded}
-use Rattle.tensor_ops.specs.Meaning.{meaning}
-use Rattle.tensor_ops.specs.Runs.{value_in_run}
+use Rattle.tensor_ops.specs.private.Meaning.{meaning}
+use Rattle.tensor_ops.specs.private.Runs.{value_in_run}
 use Rattle.tensor_values.specs.declared.reducer.Reducer.{Reducer}
 use Rattle.tensor_ops.specs.declared.part_evaluator.value_runs.ValueRuns.{ValueRuns}
 

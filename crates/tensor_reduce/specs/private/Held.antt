@@ -2,7 +2,7 @@
 use Rattle.std.specs.Prelude.{◌≡◌, ℕ, List, ◌++◌, length, true}
 use Rattle.tensor_ops.specs.Contents.{Contents, input_of}
 use Rattle.tensor_reduce.specs.Plan.{terms_in, worked_out, last_tensor, AreReady}
-use Rattle.tensor_reduce.specs.Readers.{are_reading}
+use Rattle.tensor_reduce.specs.private.Readers.{are_reading}
 use Rattle.tensor_reduce.specs.declared.step.Step.{Step}
 
 -- tensors held in place of those that were worked out: each that the steps left to do read is there

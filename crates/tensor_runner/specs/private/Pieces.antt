@@ -1,7 +1,7 @@
 -- Pieces that are read and written, for the private clauses of the engine.
 use Rattle.std.specs.Prelude.{◌≡◌, ◌≤◌, ◌+◌, ℕ, List, ◌++◌, length, Option}
 use Rattle.std.specs.Io.KnownBytes.{Consumes, IsAtEnd}
-use Rattle.tensor_runner.specs.Kept.{IsKept, kept_len}
+use Rattle.tensor_runner.specs.private.Kept.{IsKept, kept_len}
 use Rattle.tensor_runner.specs.Run.{most_reads, IsLeft}
 use Rattle.tensor_runner.specs.declared.kept.KeptText.{KeptText}
 

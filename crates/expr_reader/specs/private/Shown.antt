@@ -2,7 +2,7 @@
 use Rattle.std.specs.Prelude.{◌≡◌, ℕ, List, length}
 use Rattle.serde_json.specs.View.{view}
 use Rattle.expr_reader.specs.Fields as data_of
-use Rattle.expr_reader.specs.Numbers.{number_in}
+use Rattle.expr_reader.specs.private.Numbers.{number_in}
 use Rattle.expr_reader.specs.Tensors.{Named, given, number_of}
 use Rattle.expr_reader.specs.declared.fields.Fields.{Fields}
 use Rattle.expr_reader.specs.declared.named.NamedInputs.{NamedInputs}

@@ -1,8 +1,8 @@
 -- One line more, for the private clauses of the server.
 use Rattle.std.specs.Prelude.{◌≡◌, ◌<◌, ◌++◌, Bool, true, false, ◌∷◌}
 use Rattle.message_server.specs.Server.{Parting}
-use Rattle.tensor_runner.specs.Kept.{kept_len}
-use Rattle.tensor_runner.specs.Taking.{HasNoFeed, with_feeds}
+use Rattle.tensor_runner.specs.private.Kept.{kept_len}
+use Rattle.tensor_runner.specs.private.Taking.{HasNoFeed, with_feeds}
 use Rattle.tensor_runner.specs.declared.kept.NextLine.{NextLine}
 
 -- no line feed ended it, and it has no byte

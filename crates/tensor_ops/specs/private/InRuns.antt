@@ -6,14 +6,14 @@ use Rattle.tensor_shape.specs.Index.{size_of, index_of}
 use Rattle.tensor_shape.specs.Wrap.{wrap}
 use Rattle.tensor_terms.specs.Contents.{Contents}
 use Rattle.tensor_walks.specs.Folds.{folded}
-use Rattle.tensor_ops.specs.ContractedRuns.{contracted_value}
+use Rattle.tensor_ops.specs.private.ContractedRuns.{contracted_value}
 use Rattle.tensor_ops.specs.Parts.{reduced_part, inner_size, part_value}
 use Rattle.tensor_kernels.specs.Products.{sum_to}
 use Rattle.tensor_values.specs.Combining.{unit}
 use Rattle.tensor_terms.specs.Result.{shape_of}
 use Rattle.tensor_terms.specs.Term.{Term}
 use Rattle.tensor_terms.specs.Woven.{among, dims_at, other_dims}
-use Rattle.tensor_ops.specs.ValueRuns.{run_value}
+use Rattle.tensor_ops.specs.private.ValueRuns.{run_value}
 use Rattle.tensor_values.specs.declared.reducer.Reducer.{Reducer}
 use Rattle.tensor_ops.specs.declared.part_evaluator.in_runs.InRuns.{InRuns}
 use Rattle.tensor_ops.specs.declared.part_evaluator.in_runs.InRuns.TheVariants.{Combined}
