@@ -1,6 +1,6 @@
 //! Reads the options of a program that answers many requests.
 
-ghost use Rattle.std.specs.Prelude.{◌≡◌, [], true, false, Some, IfSome};
+ghost use Rattle.std.specs.Prelude.{◌≡◌, [], ◌∷◌, map, codes, true, false, Some, IfSome};
 ghost use Rattle.tensor_runner.specs.Limited.{no_limits};
 ghost use Rattle.tensor_runner.specs.Options.{Sets};
 
@@ -32,8 +32,10 @@ pub struct ServeOptions {
 /// What the words behind a program's name ask for, or none where they aren't its options. No words ask
 /// for answers without limits and without a log.
 pub fn command_of(words: &[&str]) -> Option<Command>
-    ensures { words.now ≡ []
+    ensures none { words.now ≡ []
         → result ≡ Some (Command.Serve (record { limits = no_limits; log = false })) }
+    ensures log { map (λ word. word.now) words.now ≡ codes "--log" ∷ []
+        → result ≡ Some (Command.Serve (record { limits = no_limits; log = true })) }
 {
     match *words {
         ["--help"] => Some(Command::Help),
@@ -53,7 +55,9 @@ pub fn command_of(words: &[&str]) -> Option<Command>
 /// The options that words set: `--log` alone, and of limits an option and its number each. Of the same
 /// option the last one stands.
 fn options_of(options: ServeOptions, words: &[&str]) -> Option<ServeOptions>
-    ensures { words.now ≡ [] → result ≡ Some options }
+    ensures none { words.now ≡ [] → result ≡ Some options }
+    ensures log { map (λ word. word.now) words.now ≡ codes "--log" ∷ []
+        → result ≡ Some (record { limits = options.limits; log = true }) }
 {
     match *words {
         [] => Some(options),
