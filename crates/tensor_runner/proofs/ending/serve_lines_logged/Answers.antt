@@ -1,10 +1,10 @@
-use Rattle.tensor_runner.proofs.Serving.{ends_within}
+use Rattle.message_server.proofs.Serving.{ends}
 use Rattle.tensor_runner.proofs.ending.serve_lines_logged.Goals as goal
 
 pub returns : goal.returns
 returns g c =
     let e = c.answer_lines_logged.ensures in
     record {
-      ended = ends_within c.args.service.limits c.answer_lines_logged.result c.ending_of.result _ _ _ _ _ _ _ _ c.ending_of.ensures e.answered e.broken_off
-          e.cut_short e.read_fault e.write_fault e.no_failure;
+      ended = ends c.answer_lines_logged.result c.ending_of.result _ _ _ _ _ _ _ _ _ _ c.ending_of.ensures e.answered e.broken_off e.cut_short e.read_fault
+          e.write_fault e.no_failure;
     }
