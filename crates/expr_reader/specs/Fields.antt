@@ -63,6 +63,11 @@ fields_of d =
     if has_members 5 d then
     with_member d (codes "version") (λ version. with_member d (codes "workers") (λ workers.
     with_member d (codes "block") (λ block. with_member d (codes "inputs") (λ inputs.
-    option_map (λ expr. record { version = version; workers = workers; block = block;
-    inputs = inputs; expr = expr }) (get (codes "expr") d)))))
+    option_map (λ expr. record {
+      version = version;
+      workers = workers;
+      block = block;
+      inputs = inputs;
+      expr = expr;
+    }) (get (codes "expr") d)))))
     else None

@@ -42,8 +42,13 @@ module _ (named : Naming) where
       (λ block.
       and_then (below (field (codes "inputs")) (named p.rank f.inputs)) (λ inputs.
       and_then (below (field (codes "expr")) (within_limit 0 (node_at p inputs 0 f.expr))) (λ tree.
-      Ok (record { workers = workers; block = block; inputs = inputs.tensors; rank = p.rank;
-      term = tree.term }))))))
+      Ok (record {
+        workers = workers;
+        block = block;
+        inputs = inputs.tensors;
+        rank = p.rank;
+        term = tree.term;
+      }))))))
 
   -- what data asks for: it has to have the five fields
   abbrev pub data_asked : Data → Result Asked Located
