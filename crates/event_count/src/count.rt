@@ -52,7 +52,7 @@ impl<K: Kind, A: Allocator> Count<K, A> {
     ghost use Rattle.event_count.specs.Seats.{IsIdle, HasNoLook};
     ghost use Rattle.event_count.specs.Rows.Ending.{EndsRows};
 
-    // A count of these sizes, and its seats by number.
+    /// A count of these sizes, and its seats by number.
     pub(crate) fn with_sizes(
         alloc: A,
         sizes: &RowSizes,
@@ -86,7 +86,7 @@ impl<K: Kind, A: Allocator> Count<K, A> {
         Ok((count, seats))
     }
 
-    // The last word, given a list of all seats, which are taken out.
+    /// The last word, given a list of all seats, which are taken out.
     pub(crate) fn close_with<B: Allocator>(self, seats: &mut Vec<Seat, B>) -> u64
         requires ours { All (IsSeatOf self) seats.old.items }
         requires all { vec_len seats.old ≡ seats_of self }

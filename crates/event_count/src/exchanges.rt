@@ -28,8 +28,8 @@ impl<K: Kind, A: Allocator> Count<K, A> {
     ghost use Rattle.event_count.specs.Seats.{card_of, looked_of, row_sizes_of, count_id, IsSeatOf};
     ghost use Rattle.event_count.specs.Tries.{Meets, MeetsAll};
 
-    // One exchange of the state word, which wants a looked word and offers another in its place.
-    // It answers whether it found the one that it wants.
+    /// One exchange of the state word, which wants a looked word and offers another in its place.
+    /// It answers whether it found the one that it wants.
     fn exchange<G: Gains>(
         &self,
         seat: &mut atomic_table::Seat<(), View>,
@@ -55,7 +55,7 @@ impl<K: Kind, A: Allocator> Count<K, A> {
         found == wanted
     }
 
-    // A pre-waiter takes a signal.
+    /// A pre-waiter takes a signal.
     pub(crate) fn consume(&self, seat: &mut Seat, word: u64, offered: u64) -> bool
         requires of { IsSeatOf self.now seat.old }
         requires passed { MayCommit K.rowed (row_sizes_of self.now) (card_of seat.old) }
@@ -75,7 +75,7 @@ impl<K: Kind, A: Allocator> Count<K, A> {
         true
     }
 
-    // Stores what the seat will have below it.
+    /// Stores what the seat will have below it.
     pub(crate) fn store_next(&self, seat: &mut Seat, next: u64)
         requires of { IsSeatOf self.now seat.old }
         requires pre { (card_of seat.old).phase ≡ Pre }
@@ -91,7 +91,7 @@ impl<K: Kind, A: Allocator> Count<K, A> {
             .store::<Stores>(&mut seat.seat, place, next);
     }
 
-    // A pre-waiter goes onto the stack.
+    /// A pre-waiter goes onto the stack.
     pub(crate) fn push(&self, seat: &mut Seat, word: u64, offered: u64) -> bool
         requires of { IsSeatOf self.now seat.old }
         requires passed { MayCommit K.rowed (row_sizes_of self.now) (card_of seat.old) }
@@ -116,7 +116,7 @@ impl<K: Kind, A: Allocator> Count<K, A> {
         true
     }
 
-    // A pre-waiter leaves.
+    /// A pre-waiter leaves.
     pub(crate) fn leave(&self, seat: &mut Seat, word: u64, offered: u64) -> bool
         requires of { IsSeatOf self.now seat.old }
         requires pre { (card_of seat.old).phase ≡ Pre }
@@ -133,7 +133,7 @@ impl<K: Kind, A: Allocator> Count<K, A> {
         true
     }
 
-    // A pre-waiter gets a signal.
+    /// A pre-waiter gets a signal.
     pub(crate) fn signal(&self, seat: &mut Seat, word: u64, offered: u64) -> bool
         requires of { IsSeatOf self.now seat.old }
         requires running { (card_of seat.old).phase ≡ Running }
@@ -148,7 +148,7 @@ impl<K: Kind, A: Allocator> Count<K, A> {
         self.exchange::<Signals>(&mut seat.seat, word, offered)
     }
 
-    // The looked top is popped.
+    /// The looked top is popped.
     pub(crate) fn pop(&self, seat: &mut Seat, word: u64, next: u64, offered: u64) -> bool
         requires of { IsSeatOf self.now seat.old }
         requires running { (card_of seat.old).phase ≡ Running }
@@ -172,7 +172,7 @@ impl<K: Kind, A: Allocator> Count<K, A> {
         true
     }
 
-    // The stack is taken.
+    /// The stack is taken.
     pub(crate) fn take_all(&self, seat: &mut Seat, word: u64, offered: u64) -> bool
         requires of { IsSeatOf self.now seat.old }
         requires running { (card_of seat.old).phase ≡ Running }

@@ -8,7 +8,7 @@ use crate::view::View;
 use atomic_table::Shared;
 use std::alloc::Allocator;
 
-// A keeper that has no card takes in the seats, the last first.
+/// A keeper that has no card takes in the seats, the last first.
 pub(crate) fn gather<B: Allocator>(
     shared: &Shared<(), View, RowSizes, Law>,
     keeper: &mut atomic_table::Seat<(), View>,

@@ -31,7 +31,7 @@ impl<K: Kind, A: Allocator> Count<K, A> {
         word
     }
 
-    // Loads the next word of the looked top, where there is one.
+    /// Loads the next word of the looked top, where there is one.
     fn load_top(&self, seat: &mut Seat, word: u64)
         requires of { IsSeatOf self.now seat.old }
         requires looked { (card_of seat.old).looked ≡ word }
@@ -51,7 +51,7 @@ impl<K: Kind, A: Allocator> Count<K, A> {
         }
     }
 
-    // Loads the state word. A step that pops nobody needs no more.
+    /// Loads the state word. A step that pops nobody needs no more.
     pub(crate) fn load_state(&self, seat: &mut Seat) -> u64
         requires of { IsSeatOf self.now seat.old }
         ensures of { IsSeatOf self.now seat.new }
@@ -67,7 +67,7 @@ impl<K: Kind, A: Allocator> Count<K, A> {
         word
     }
 
-    // Loads the next word of the looked top.
+    /// Loads the next word of the looked top.
     fn load_next(&self, seat: &mut Seat, word: u64)
         requires of { IsSeatOf self.now seat.old }
         requires looked { (card_of seat.old).looked ≡ word }

@@ -47,7 +47,7 @@ impl LockedSeat {
         }
     }
 
-    // The number of a waiter.
+    /// The number of a waiter.
     fn waiter(&self) -> u16
         requires { self.now.number < most_waiters }
         ensures { result ≡ self.now.number }
@@ -56,7 +56,7 @@ impl LockedSeat {
     }
 }
 
-// The seats from 0 on.
+/// The seats from 0 on.
 fn seats<A: Allocator>(alloc: A, count: u32) -> Result<Vec<LockedSeat, A>, AllocError>
     ensures numbers { IfOk result (λ seats.
         map (λ seat. seat.number) seats.items ≡ range_with_len 0 count) }
@@ -70,7 +70,7 @@ fn seats<A: Allocator>(alloc: A, count: u32) -> Result<Vec<LockedSeat, A>, Alloc
 }
 
 impl<A: Allocator> LockedCount<A> {
-    // A count of the World's seats, which begins with that World.
+    /// A count of the World's seats, which begins with that World.
     fn beginning_with(world: SteppedWorld<A>) -> LockedCount<A>
         requires { world.world ≡ first_world world.sizes }
         ensures { result.sizes ≡ world.sizes }
@@ -82,7 +82,7 @@ impl<A: Allocator> LockedCount<A> {
         }
     }
 
-    // Commits in the World that the lock holds. A seat that was pushed sleeps.
+    /// Commits in the World that the lock holds. A seat that was pushed sleeps.
     fn commit<'a, R: Wait>(
         &'a self,
         rt: &R,
@@ -98,7 +98,7 @@ impl<A: Allocator> LockedCount<A> {
         }
     }
 
-    // A stacked seat sleeps until it has taken its token.
+    /// A stacked seat sleeps until it has taken its token.
     fn take_token<'a, R: Wait>(
         &'a self,
         rt: &R,

@@ -21,7 +21,7 @@ const OPENING: Fields = Fields {
     epoch: 0,
 };
 
-// The seat of the keeper's first card, which has this number.
+/// The seat of the keeper's first card, which has this number.
 pub(crate) fn deal(
     shared: &Shared<(), View, RowSizes, Law>,
     keeper: &mut atomic_table::Seat<(), View>,
@@ -54,14 +54,14 @@ pub(crate) fn deal(
     }
 }
 
-// How many seats a count of these sizes has.
+/// How many seats a count of these sizes has.
 fn seat_count(sizes: &RowSizes) -> u32
     ensures { result ≡ sizes.now.waiters + sizes.now.notifiers }
 {
     u32::from(sizes.waiters) + u32::from(sizes.notifiers)
 }
 
-// An empty list with room for all seats.
+/// An empty list with room for all seats.
 pub(crate) fn room_for_seats<A: Allocator + Clone>(
     alloc: &A,
     sizes: &RowSizes,
@@ -73,7 +73,7 @@ pub(crate) fn room_for_seats<A: Allocator + Clone>(
     Vec::with_capacity(alloc.clone()?, seat_count(sizes) as usize)
 }
 
-// The seats of all the keeper's cards, by number, into an empty list that has room for them.
+/// The seats of all the keeper's cards, by number, into an empty list that has room for them.
 pub(crate) fn deal_all<A: Allocator>(
     shared: &Shared<(), View, RowSizes, Law>,
     keeper: &mut atomic_table::Seat<(), View>,
@@ -96,7 +96,7 @@ pub(crate) fn deal_all<A: Allocator>(
     }
 }
 
-// The words of a table in which nobody waits.
+/// The words of a table in which nobody waits.
 pub(crate) fn opening_words<A: Allocator + Clone>(
     alloc: &A,
     sizes: &RowSizes,

@@ -12,7 +12,7 @@ use crate::rule::{MOST_CREDITS, MOST_WAITERS, RowSizes};
 use crate::seat::Seat;
 use std::alloc::Allocator;
 
-// The credits of all seats together.
+/// The credits of all seats together.
 fn all_credits(sizes: &RowSizes) -> u64
     ensures { result ≡ credits_for sizes.now }
 {
@@ -69,7 +69,7 @@ impl<A: Allocator> Count<Rowed, A> {
         self.close_with(&mut seats)
     }
 
-    // How many lines there are for waiters and rows.
+    /// How many lines there are for waiters and rows.
     pub(crate) fn lines(&self) -> usize
         ensures sum { result ≡ (row_sizes_of self.now).waiters + (row_sizes_of self.now).rows }
         ensures few { result ≤ 131070 }

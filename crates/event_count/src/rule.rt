@@ -28,22 +28,22 @@ pub const BANK: usize = 1;
 /// The place of the state word, which has a line too.
 pub const STATE: usize = LINE;
 
-// The place of a waiter's next word: its line begins with it.
+/// The place of a waiter's next word: its line begins with it.
 pub(crate) fn next_word_of(seat: u32) -> usize
     ensures { result ≡ next_place seat }
 {
     LINE * (2 + seat as usize)
 }
 
-// The place of its parker word, beside it.
+/// The place of its parker word, beside it.
 pub(crate) fn parker_word_of(seat: u32) -> usize
     ensures { result ≡ parker_place seat }
 {
     next_word_of(seat) + 1
 }
 
-// The place of a row's length. The rows' lines lie behind the waiters', from the last one down, and
-// the length lies where a waiter's line has no word, so that it is told from one by its place alone.
+/// The place of a row's length. The rows' lines lie behind the waiters', from the last one down, and
+/// the length lies where a waiter's line has no word, so that it is told from one by its place alone.
 pub(crate) fn row_word_of(lines: usize, row: u16) -> usize
     requires few { lines ≤ 131070 }
     requires row { row ≤ lines }

@@ -59,7 +59,7 @@ impl<A: Allocator> SteppedWorld<A> {
         }
     }
 
-    // False: one of the two steps was not possible.
+    /// False: one of the two steps was not possible.
     fn take_commit(&mut self, seat: u16) -> bool
         ensures steps { TakesSteps self.old.world (commit_of seat) result self.new.world }
         ensures known { IsTrue result → seat < length self.new.world.phases }
@@ -88,7 +88,7 @@ impl<A: Allocator> SteppedWorld<A> {
         }
     }
 
-    // Unparks all seats that the actor owes.
+    /// Unparks all seats that the actor owes.
     fn unpark_all(&mut self, actor: u32)
         ensures world { self.new.world ≡ settled self.old.world actor }
         ensures sizes { self.new.sizes ≡ self.old.sizes }

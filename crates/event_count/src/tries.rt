@@ -57,7 +57,7 @@ impl<K: Kind, A: Allocator> Count<K, A> {
         self.commit_at(seat, word)
     }
 
-    // The same against a loaded word.
+    /// The same against a loaded word.
     pub(crate) fn commit_at(&self, seat: &mut Seat, word: u64) -> TryCommit
         requires of { IsSeatOf self.now seat.old }
         requires passed { MayCommit K.rowed (row_sizes_of self.now) (card_of seat.old) }
@@ -111,7 +111,7 @@ impl<K: Kind, A: Allocator> Count<K, A> {
         self.cancel_at(seat, word)
     }
 
-    // The same against a loaded word.
+    /// The same against a loaded word.
     pub(crate) fn cancel_at(&self, seat: &mut Seat, word: u64) -> TryCancel
         requires of { IsSeatOf self.now seat.old }
         requires pre { (card_of seat.old).phase ≡ Pre }
@@ -183,7 +183,7 @@ impl<K: Kind, A: Allocator> Count<K, A> {
         self.notify_all_at(seat, word)
     }
 
-    // The same against a loaded word.
+    /// The same against a loaded word.
     pub(crate) fn notify_all_at(&self, seat: &mut Seat, word: u64) -> TryNotifyAll
         requires of { IsSeatOf self.now seat.old }
         requires running { (card_of seat.old).phase ≡ Running }

@@ -45,7 +45,7 @@ impl<K: Kind, A: Allocator> Count<K, A> {
         Some(other)
     }
 
-    // The seat behind the first one owed.
+    /// The seat behind the first one owed.
     fn load_after(&self, seat: &mut Seat, other: u16) -> Option<u16>
         requires of { IsSeatOf self.now seat.old }
         requires used { looked_of seat.old ≡ None }
@@ -65,7 +65,7 @@ impl<K: Kind, A: Allocator> Count<K, A> {
         }
     }
 
-    // The first seat owed gets its token, where this one is behind it.
+    /// The first seat owed gets its token, where this one is behind it.
     fn unpark(&self, seat: &mut Seat, other: u16, after: Option<u16>)
         requires of { IsSeatOf self.now seat.old }
         requires used { looked_of seat.old ≡ None }

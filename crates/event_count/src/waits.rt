@@ -53,7 +53,7 @@ impl<K: Kind, A: Allocator> Count<K, A> {
         unreachable!()
     }
 
-    // A stacked seat sleeps until it has taken its token.
+    /// A stacked seat sleeps until it has taken its token.
     fn take_token<R: Wait>(&self, rt: &R, seat: &mut Seat)
         requires of { IsSeatOf self.now seat.old }
         requires stacked { (card_of seat.old).phase ≡ Stacked }
@@ -70,8 +70,8 @@ impl<K: Kind, A: Allocator> Count<K, A> {
         }
     }
 
-    // One round of a cancel: a load of the state word, and a try against it. It answers whether the
-    // seat has cancelled. False: the try was contended.
+    /// One round of a cancel: a load of the state word, and a try against it. It answers whether the
+    /// seat has cancelled. False: the try was contended.
     #[inline(always)]
     pub(crate) fn cancel_once(&self, seat: &mut Seat) -> bool
         requires of { IsSeatOf self.now seat.old }
@@ -113,8 +113,8 @@ impl<K: Kind, A: Allocator> Count<K, A> {
         }
     }
 
-    // One round of a notification: a look, a try against it, and the unpark of a seat that the try
-    // popped. It answers whether the seat has notified. False: the try was contended.
+    /// One round of a notification: a look, a try against it, and the unpark of a seat that the try
+    /// popped. It answers whether the seat has notified. False: the try was contended.
     #[inline(always)]
     pub(crate) fn notify_once(&self, seat: &mut Seat) -> bool
         requires of { IsSeatOf self.now seat.old }
@@ -198,7 +198,7 @@ impl<K: Kind, A: Allocator> Count<K, A> {
         }
     }
 
-    // Unparks all seats that are owed.
+    /// Unparks all seats that are owed.
     fn unpark_all<R: Wait>(&self, rt: &R, seat: &mut Seat)
         requires of { IsSeatOf self.now seat.old }
         ensures of { IsSeatOf self.now seat.new }

@@ -1,4 +1,5 @@
-// The word after each step of an event count.
+//! The word after each step of an event count.
+
 ghost use Rattle.std.specs.Prelude.{◌≡◌, ◌≢◌, ℕ, ◌+◌, ◌<◌, ◌≤◌, ◌^◌};
 ghost use Rattle.event_word.specs.Fields.{fields_of};
 ghost use Rattle.event_word.specs.Word.{nobody, prewaited, cancelled, popped, IsCommit, IsNotify};

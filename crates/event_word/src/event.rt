@@ -1,3 +1,5 @@
+//! The events of the model, each one step of a worker or a notifier.
+
 /// One step of the event model. Actors are numbered: workers first, then notifiers. A worker is
 /// also a seat, by the same number.
 #[derive(Clone, Copy, Debug, PartialEq, Eq)]

@@ -1,4 +1,5 @@
-// Facts about the event model alone. Each function does nothing, and its contract is the fact.
+//! Facts about the event model alone. Each function does nothing, and its contract is the fact.
+
 ghost use Rattle.event_word.specs.Balance.{RunsBalance};
 ghost use Rattle.event_word.specs.Frame.{EventsLeaveAlone};
 ghost use Rattle.event_word.specs.Played.{PlaysAreRuns};

@@ -1,3 +1,5 @@
+//! The phases of a worker.
+
 /// Where a worker stands in its waiting.
 #[derive(Clone, Copy, Debug, PartialEq, Eq)]
 pub enum Phase {

@@ -89,7 +89,7 @@ impl Meeting {
         )
     }
 
-    // A leaf begins, and looks for the others.
+    /// A leaf begins, and looks for the others.
     fn meet(&self) {
         self.begun.fetch_add(1, Ordering::SeqCst);
         for _ in 0..LOOKS {

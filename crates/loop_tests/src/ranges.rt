@@ -63,7 +63,7 @@ fn expect_places<RT: Threads + Wait + Abort + Sync>(
     Ok(())
 }
 
-// Asserts that a kernel has these items from a place on, and so has one that is lent.
+/// Asserts that a kernel has these items from a place on, and so has one that is lent.
 fn expect_items<R: Abort>(
     rt: &R,
     alloc: Global,
@@ -79,7 +79,7 @@ fn expect_items<R: Abort>(
     Ok(())
 }
 
-// The items of a range, by the kernel alone.
+/// The items of a range, by the kernel alone.
 fn filled<K: Kernel>(
     kernel: &K,
     alloc: Global,
@@ -168,7 +168,7 @@ const REFUSED: [((u64, u64), u64); 5] = [
 
 const NO_MEMORY: Option<ForFault> = Some(ForFault::NoMemory);
 
-// The call returns, though leaves are missing.
+/// The call returns, though leaves are missing.
 #[test]
 fn a_leaf_without_memory(rt: HostRuntime) -> Result<(), Fail> {
     for workers in [1, 2, 64] {
@@ -180,8 +180,8 @@ fn a_leaf_without_memory(rt: HostRuntime) -> Result<(), Fail> {
     Ok(())
 }
 
-// The call returns though a leaf ends without its items, since that leaf gives its notice too. The
-// last block has one place.
+/// The call returns though a leaf ends without its items, since that leaf gives its notice too. The
+/// last block has one place.
 #[test]
 fn each_leaf_without_memory_in_turn(rt: HostRuntime) -> Result<(), Fail> {
     for workers in [1, 2] {
@@ -196,9 +196,9 @@ fn each_leaf_without_memory_in_turn(rt: HostRuntime) -> Result<(), Fail> {
 /// So many leaves and as many workers, and how often they meet.
 const MEETINGS: [(u32, u32); 2] = [(2, 1_000), (16, 100)];
 
-// All leaves run at one time, and each once. So no worker ended before the last leaf was taken, as
-// one does that finds nothing to do in a pool that is closing: where the caller doesn't wait for the
-// leaves some do, at one meeting in twenty or so, and so at some of these.
+/// All leaves run at one time, and each once. So no worker ended before the last leaf was taken, as
+/// one does that finds nothing to do in a pool that is closing: where the caller doesn't wait for the
+/// leaves some do, at one meeting in twenty or so, and so at some of these.
 #[test]
 fn all_leaves_meet(rt: HostRuntime) -> Result<(), Fail> {
     for (workers, times) in MEETINGS {

@@ -59,7 +59,7 @@ impl Answer {
         }
     }
 
-    // Two waiters and a notifier have three seats, and are closed at this word.
+    /// Two waiters and a notifier have three seats, and are closed at this word.
     fn of_count(counted: Result<(usize, u64), CountFault>) -> Answer {
         match counted {
             Ok(seats_and_word) => Answer::right_where(seats_and_word == (3, 0x3FFF)),
@@ -68,7 +68,7 @@ impl Answer {
         }
     }
 
-    // The same, of a count with rows.
+    /// The same, of a count with rows.
     fn of_row_count(counted: Result<(usize, u64), RowFault>) -> Answer {
         match counted {
             Ok(seats_and_word) => Answer::right_where(seats_and_word == (3, 0x3FFF)),
@@ -124,7 +124,7 @@ pub(crate) fn make<R: Wait>(rt: &R, call: Call, heap: &Heap) -> Answer {
     }
 }
 
-// The share that is handed out has all notices.
+/// The share that is handed out has all notices.
 fn barrier(heap: &Heap, notices: u64) -> Answer {
     match Barrier::new(heap, notices) {
         Ok((_barrier, _waiter, share)) => Answer::right_where(share.notices() == notices),
@@ -133,25 +133,25 @@ fn barrier(heap: &Heap, notices: u64) -> Answer {
     }
 }
 
-// The share that is handed out has one notice.
+/// The share that is handed out has one notice.
 fn notification(heap: &Heap) -> Result<bool, AllocError> {
     let (_notification, _waiter, share) = Notification::new(heap)?;
     Ok(share.notices() == 1)
 }
 
-// How many seats a new count has, and the word that it is closed at.
+/// How many seats a new count has, and the word that it is closed at.
 fn count(heap: &Heap, waiters: u16) -> Result<(usize, u64), CountFault> {
     let (count, seats) = EventCount::new(heap, waiters, 1)?;
     Ok((seats.len(), count.close(seats)))
 }
 
-// The same, of a count whose seats have their last epoch.
+/// The same, of a count whose seats have their last epoch.
 fn count_at_the_last(heap: &Heap, waiters: u16) -> Result<(usize, u64), CountFault> {
     let (count, seats) = EventCount::new_at(heap, waiters, 1, 4_194_303)?;
     Ok((seats.len(), count.close(seats)))
 }
 
-// The same, of what a pool waits at. One waits at the least.
+/// The same, of what a pool waits at. One waits at the least.
 fn point<'h, P: WaitPoint<&'h Heap>>(
     heap: &'h Heap,
     waiters: u16,
@@ -160,7 +160,7 @@ fn point<'h, P: WaitPoint<&'h Heap>>(
     Ok((seats.len(), point.shut(seats)))
 }
 
-// The same, of a count with three rows. One waits at the least.
+/// The same, of a count with three rows. One waits at the least.
 fn row_count(heap: &Heap, waiters: u16) -> Result<(usize, u64), RowFault> {
     let sizes = RowSizes {
         waiters: waiters.max(1),
@@ -173,7 +173,7 @@ fn row_count(heap: &Heap, waiters: u16) -> Result<(usize, u64), RowFault> {
     Ok((seats.len(), count.close(seats)))
 }
 
-// A World with a row plays six events, which leave one signal.
+/// A World with a row plays six events, which leave one signal.
 fn world(heap: &Heap) -> Result<bool, AllocError> {
     let mut world = World::new(heap, 2, 1, 1)?;
     let events = [
@@ -188,7 +188,7 @@ fn world(heap: &Heap) -> Result<bool, AllocError> {
     Ok((taken, world.signals()) == (6, 1))
 }
 
-// A row takes 1,024 jobs, with no more memory.
+/// A row takes 1,024 jobs, with no more memory.
 fn row(heap: &Heap) -> Result<bool, AllocError> {
     let mut row = Deque::new(heap)?;
     for job in 0..1030u64 {
@@ -197,7 +197,7 @@ fn row(heap: &Heap) -> Result<bool, AllocError> {
     Ok(row.len() == 1024)
 }
 
-// Two rows have three seats, and give back the job that is put in, with no more memory.
+/// Two rows have three seats, and give back the job that is put in, with no more memory.
 fn two_rows<'h, R: Wait, Q: Rows<u64, &'h Heap>>(
     rt: &R,
     heap: &'h Heap,
@@ -209,8 +209,8 @@ fn two_rows<'h, R: Wait, Q: Rows<u64, &'h Heap>>(
     Ok(count == 3 && put.is_ok() && left.as_slice() == [7].as_slice())
 }
 
-// Rows for two workers and their point have three seats each. Who waits gives up where there is a
-// job, which is taken back at the end, all with no more memory.
+/// Rows for two workers and their point have three seats each. Who waits gives up where there is a
+/// job, which is taken back at the end, all with no more memory.
 fn one_count<R: Wait>(rt: &R, heap: &Heap) -> Result<bool, AllocError> {
     let made = on_one_count::<u64, &Heap>(&heap, 2)?;
     let (rows, mut row_seats) = (made.rows, made.row_seats);
@@ -225,7 +225,7 @@ fn one_count<R: Wait>(rt: &R, heap: &Heap) -> Result<bool, AllocError> {
     Ok(is_right && taken == Some(7))
 }
 
-// Rows that are too many.
+/// Rows that are too many.
 fn too_many_rows<'h, Q: Rows<u64, &'h Heap>>(heap: &'h Heap) -> Result<bool, RowsFault> {
     let (_rows, _seats) = Q::open(heap, 257, 1)?;
     Ok(false)

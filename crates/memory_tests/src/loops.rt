@@ -19,7 +19,7 @@ const BLOCK: u64 = 4;
 /// So that there are two.
 const HALF: u64 = 11;
 
-// Half the number of each place, worked out by so many workers.
+/// Half the number of each place, worked out by so many workers.
 fn halves<RT, A>(rt: &RT, alloc: A, workers: u32, block: u64) -> Result<Vec<u64, A>, ForFault>
 where
     RT: Threads + Wait + Sync,
@@ -32,7 +32,7 @@ where
     parallel_for(rt, alloc, &setup, &Halves, PLACES, block)
 }
 
-// The items are those of the kernel.
+/// The items are those of the kernel.
 fn expect_halves<R: Abort>(rt: &R, workers: u32, items: &[u64]) {
     assert_eq!(rt; items.len() as u64, PLACES, "{workers} workers");
     for (place, item) in (0..PLACES).zip(items.iter()) {
@@ -40,8 +40,8 @@ fn expect_halves<R: Abort>(rt: &R, workers: u32, items: &[u64]) {
     }
 }
 
-// Two workers take one list of outs or two, so only of one is it sure that more suffices too. Of 64
-// as many are started as there are blocks.
+/// Two workers take one list of outs or two, so only of one is it sure that more suffices too. Of 64
+/// as many are started as there are blocks.
 #[test]
 fn each_allocation_of_a_range(rt: HostRuntime) -> Result<(), Fail> {
     for (workers, block) in [(1, BLOCK), (2, BLOCK), (64, HALF)] {
@@ -69,7 +69,7 @@ fn each_allocation_of_a_range(rt: HostRuntime) -> Result<(), Fail> {
     Ok(())
 }
 
-// A block that is as long as the range is worked out by the caller, in one allocation.
+/// A block that is as long as the range is worked out by the caller, in one allocation.
 #[test]
 fn each_allocation_of_one_block(rt: HostRuntime) -> Result<(), Fail> {
     let none = Sparing::new(rt.alloc(), 0);

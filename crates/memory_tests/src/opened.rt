@@ -71,7 +71,7 @@ where
     }
 }
 
-// The root is scheduled by the body.
+/// The root is scheduled by the body.
 fn scheduled<W, R, L, RT, J, A>(
     rt: &RT,
     alloc: A,
@@ -109,7 +109,7 @@ where
     )
 }
 
-// The pool is opened for the root.
+/// The pool is opened for the root.
 fn planted<RT, A>(
     rt: &RT,
     alloc: A,
@@ -135,7 +135,7 @@ where
     )
 }
 
-// The same, over one count.
+/// The same, over one count.
 fn counted<RT, A>(
     rt: &RT,
     alloc: A,

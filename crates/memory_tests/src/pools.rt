@@ -58,7 +58,7 @@ struct Ran {
     outs: Vec<u64>,
 }
 
-// A pool in which each step finds memory.
+/// A pool in which each step finds memory.
 fn pool_of(entry: Entry, workers: u32) -> Opened {
     Opened {
         entry,
@@ -67,7 +67,7 @@ fn pool_of(entry: Entry, workers: u32) -> Opened {
     }
 }
 
-// What a pool leaves that gets so many allocations.
+/// What a pool leaves that gets so many allocations.
 fn run_with<RT: Threads + Wait + Sync>(
     rt: &RT,
     alloc: Global,
@@ -111,8 +111,8 @@ fn run_with<RT: Threads + Wait + Sync>(
     Ok(ran)
 }
 
-// Each job has left its place once or was refused, and none was handed back. One that was refused
-// was abandoned, once, or found no memory in a step.
+/// Each job has left its place once or was refused, and none was handed back. One that was refused
+/// was abandoned, once, or found no memory in a step.
 fn expect_all_ended<R: Abort>(rt: &R, pool: Opened, ran: &Ran) {
     let ended = (ran.fault, ran.calls, ran.left, ran.lists as u64);
     assert_eq!(rt; ended, (None, 1, 0, u64::from(pool.workers) + 1));
@@ -128,7 +128,7 @@ fn expect_all_ended<R: Abort>(rt: &R, pool: Opened, ran: &Ran) {
     assert!(rt; each_once && each_below, "{pool:?}");
 }
 
-// Where a pool isn't opened, nothing is called and no step taken.
+/// Where a pool isn't opened, nothing is called and no step taken.
 #[test]
 fn each_allocation_of_an_opening(rt: HostRuntime) -> Result<(), Fail> {
     for (entry, workers, takes) in OPENINGS {
@@ -143,8 +143,8 @@ fn each_allocation_of_an_opening(rt: HostRuntime) -> Result<(), Fail> {
     Ok(())
 }
 
-// Without one more the root finds no room for its out, and takes no step; with ample memory all jobs
-// find room.
+/// Without one more the root finds no room for its out, and takes no step; with ample memory all jobs
+/// find room.
 #[test]
 fn no_allocation_after_an_opening_and_ample(rt: HostRuntime) -> Result<(), Fail> {
     for (entry, workers, takes) in OPENINGS {
@@ -160,9 +160,9 @@ fn no_allocation_after_an_opening_and_ample(rt: HostRuntime) -> Result<(), Fail>
     Ok(())
 }
 
-// Whoever runs the jobs, those that find no room for an out are refused: at one allocation there is
-// room for some, and at the most for all. One worker runs the jobs by their places, so those that
-// find room are the first.
+/// Whoever runs the jobs, those that find no room for an out are refused: at one allocation there is
+/// room for some, and at the most for all. One worker runs the jobs by their places, so those that
+/// find room are the first.
 #[test]
 fn each_allocation_after_an_opening(rt: HostRuntime) -> Result<(), Fail> {
     for (entry, workers, takes) in OPENINGS {
@@ -186,7 +186,7 @@ fn each_allocation_after_an_opening(rt: HostRuntime) -> Result<(), Fail> {
     Ok(())
 }
 
-// Each job in turn finds no memory in its last step, where it finds room for its out.
+/// Each job in turn finds no memory in its last step, where it finds room for its out.
 #[test]
 fn each_allocation_where_a_step_finds_no_memory(rt: HostRuntime) -> Result<(), Fail> {
     for (entry, workers, takes) in OPENINGS {

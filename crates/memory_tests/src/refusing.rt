@@ -27,7 +27,7 @@ impl<B: Allocator> Drop for Sparing<B> {
     }
 }
 
-// Whether one more allocation is let through. Each that is takes one off, in one step.
+/// Whether one more allocation is let through. Each that is takes one off, in one step.
 fn lets_through(left: &AtomicU64) -> bool {
     left.fetch_update(Ordering::SeqCst, Ordering::SeqCst, |count| {
         count.checked_sub(1)
@@ -50,7 +50,7 @@ unsafe impl<B: Allocator> Allocator for Sparing<B> {
     }
 }
 
-// How many of so many allocations are let through, while another thread asks for as many.
+/// How many of so many allocations are let through, while another thread asks for as many.
 fn count_let_through(heap: &Sparing<Global>, ready: &AtomicU64, tries: u64) -> usize {
     ready.fetch_add(1, Ordering::SeqCst);
     for _ in 0..LOOKS {

@@ -123,7 +123,7 @@ where
     Ok(ended)
 }
 
-// The tasks of some tags.
+/// The tasks of some tags.
 fn tasks(
     alloc: Global,
     runs: &Arc<AtomicU64>,
@@ -137,7 +137,7 @@ fn tasks(
     Ok(jobs)
 }
 
-// What a pool that gets so many allocations leaves of boxed tasks.
+/// What a pool that gets so many allocations leaves of boxed tasks.
 fn run_tasks<RT: Threads + Wait + Sync>(
     rt: &RT,
     alloc: Global,
@@ -152,7 +152,7 @@ fn run_tasks<RT: Threads + Wait + Sync>(
     ended_of(alloc, closed, runs.load(Ordering::SeqCst), None)
 }
 
-// The jobs of some places, which split off none.
+/// The jobs of some places, which split off none.
 fn singles(alloc: Global, places: (u64, u64)) -> Result<Vec<Splits>, AllocError> {
     let mut jobs = Vec::new(alloc);
     for place in places.0..places.1 {
@@ -161,7 +161,7 @@ fn singles(alloc: Global, places: (u64, u64)) -> Result<Vec<Splits>, AllocError>
     Ok(jobs)
 }
 
-// The same of jobs that count how they end.
+/// The same of jobs that count how they end.
 fn run_singles<RT: Threads + Wait + Sync>(
     rt: &RT,
     alloc: Global,
@@ -176,8 +176,8 @@ fn run_singles<RT: Threads + Wait + Sync>(
     ended_of(alloc, closed, ends.steps(), Some(ends.abandons()))
 }
 
-// Each job ran once and has an out, or is left where the pool was cancelled, or was refused: then it
-// was abandoned, and no other was.
+/// Each job ran once and has an out, or is left where the pool was cancelled, or was refused: then it
+/// was abandoned, and no other was.
 fn expect_each_once<R: Abort>(rt: &R, pool: Limited, ended: &Ended) {
     let jobs = (ended.places.len() as u64).checked_add(ended.refused);
     let abandons = ended.abandons.unwrap_or(ended.refused);
@@ -204,8 +204,8 @@ const POOLS: [(u32, u32, u64, Taken); 9] = [
     (1, 1, 8, Taken::AtTheEnd),
 ];
 
-// From the first number of allocations on that opens the pool, each job ends in one way. With the
-// most of them none is refused.
+/// From the first number of allocations on that opens the pool, each job ends in one way. With the
+/// most of them none is refused.
 #[test]
 fn each_allocation_of_jobs_and_a_cancel(rt: HostRuntime) -> Result<(), Fail> {
     for (workers, starts, first, taken) in POOLS {

@@ -73,7 +73,7 @@ where
     Ok(fill_leaves(rt, &alloc, setup, kernel, n, block)?)
 }
 
-// The items of several leaves, by no more workers than there are leaves.
+/// The items of several leaves, by no more workers than there are leaves.
 fn fill_leaves<RT, K, A>(
     rt: &RT,
     alloc: &A,
@@ -103,7 +103,7 @@ where
     fill_counted(rt, alloc, &fewer, kernel, n, block)
 }
 
-// The items of several leaves, which are counted by a barrier of their own.
+/// The items of several leaves, which are counted by a barrier of their own.
 fn fill_counted<RT, K, A>(
     rt: &RT,
     alloc: &A,
@@ -161,7 +161,7 @@ impl<A: Allocator> CountedRange<A> {
     }
 }
 
-// The items of the range, whose leaves are jobs of a pool.
+/// The items of the range, whose leaves are jobs of a pool.
 fn fill_range<D, RT, K, A>(
     rt: &RT,
     alloc: &A,
@@ -193,7 +193,7 @@ where
     collect(alloc, &ctx.kernel, n, block, pieces)
 }
 
-// The pieces of all leaves of a range. The caller sleeps until they have run.
+/// The pieces of all leaves of a range. The caller sleeps until they have run.
 fn run_leaves<D, RT, K, A>(
     rt: &RT,
     alloc: &A,

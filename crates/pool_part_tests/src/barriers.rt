@@ -53,7 +53,7 @@ const THREADED: [(Split, u64); 2] = [
     ),
 ];
 
-// A barrier, its waiter, and its notices in two shares.
+/// A barrier, its waiter, and its notices in two shares.
 fn dealt<R: Abort>(rt: &R, alloc: Global, split: Split) -> (Barrier, Waiter, Share, Share)
     ensures first { IsShareOf result.0 result.2 }
     ensures second { IsShareOf result.0 result.3 }
@@ -69,7 +69,7 @@ fn dealt<R: Abort>(rt: &R, alloc: Global, split: Split) -> (Barrier, Waiter, Sha
     (barrier, waiter, first, second)
 }
 
-// Gives all notices of a share, and tells how many there were.
+/// Gives all notices of a share, and tells how many there were.
 fn give_all(barrier: &Barrier, mut share: Share) -> u64
     requires { IsShareOf barrier.now share }
 {
@@ -81,7 +81,7 @@ fn give_all(barrier: &Barrier, mut share: Share) -> u64
     given
 }
 
-// Gives all notices of a share, a while later.
+/// Gives all notices of a share, a while later.
 fn give_late(clock: &impl Clock, pause: u64, barrier: &Barrier, share: Share) -> u64
     requires { IsShareOf barrier.now share }
 {
@@ -119,7 +119,7 @@ fn a_notification_that_was_notified(rt: HostRuntime) {
     notification.wait(&rt, &mut waiter);
 }
 
-// Whether two threads were started, the notices of whose shares end the wait.
+/// Whether two threads were started, the notices of whose shares end the wait.
 fn waits_for_two<R: Threads + Wait + Clock + Abort + Sync>(
     rt: &R,
     alloc: Global,

@@ -76,7 +76,7 @@ const DRAWS: u32 = 100_000;
 
 const PHASE: u32 = 5_000;
 
-// Whether the row of slots of this owner has room for so many jobs.
+/// Whether the row of slots of this owner has room for so many jobs.
 fn fill_slots(rows: &SlotRows<u32>, owner: &mut SlotSeat<u32>, jobs: u32) -> bool
     requires of { table_of owner.old ≡ rows_id rows.now }
     requires row { row_count_of rows.now ≡ 1 }
@@ -91,7 +91,7 @@ fn fill_slots(rows: &SlotRows<u32>, owner: &mut SlotSeat<u32>, jobs: u32) -> boo
     has_room
 }
 
-// Whether rows of slots answer the owner of the one row as the call says.
+/// Whether rows of slots answer the owner of the one row as the call says.
 fn slots_answer<R: Wait>(
     rt: &R,
     rows: &SlotRows<u32>,
@@ -114,7 +114,7 @@ fn slots_answer<R: Wait>(
     }
 }
 
-// The owner of the one row makes the calls of a story.
+/// The owner of the one row makes the calls of a story.
 fn make_calls<R: Wait + Abort>(
     rt: &R,
     rows: &SlotRows<u32>,
@@ -133,7 +133,7 @@ fn make_calls<R: Wait + Abort>(
     }
 }
 
-// Makes the calls of a story on a row of slots, and closes it.
+/// Makes the calls of a story on a row of slots, and closes it.
 fn tell_slots<R: Wait + Abort>(rt: &R, alloc: Global, story: &Story) {
     let Ok((rows, mut seats)) = SlotRows::<u32>::open(alloc, 1, 0) else {
         panic!(rt; "no rows")
@@ -147,8 +147,8 @@ fn tell_slots<R: Wait + Abort>(rt: &R, alloc: Global, story: &Story) {
     );
 }
 
-// The call that a word picks, at a place where jobs are rather put in or rather taken out. It is to
-// be answered as the row of one thread answers it.
+/// The call that a word picks, at a place where jobs are rather put in or rather taken out. It is to
+/// be answered as the row of one thread answers it.
 fn call_of(row: &mut Deque<u32>, word: u32, fills: bool) -> Call {
     match word % 8 {
         0 => Call::PushFront(word, row.push_front(word)),
@@ -164,7 +164,7 @@ fn call_of(row: &mut Deque<u32>, word: u32, fills: bool) -> Call {
     }
 }
 
-// The owner of the one row makes calls that are drawn.
+/// The owner of the one row makes calls that are drawn.
 fn make_drawn<R: Wait + Abort>(
     rt: &R,
     row: &mut Deque<u32>,
@@ -184,7 +184,7 @@ fn make_drawn<R: Wait + Abort>(
     }
 }
 
-// Makes drawn calls on a row of one thread and on a row of slots, and closes that.
+/// Makes drawn calls on a row of one thread and on a row of slots, and closes that.
 fn tell_drawn<R: Wait + Abort>(rt: &R, alloc: Global) {
     let Ok(mut row) = Deque::new(alloc) else {
         panic!(rt; "no row")

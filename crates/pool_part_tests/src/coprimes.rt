@@ -21,7 +21,7 @@ fn lists_the_coprimes(rt: HostRuntime) {
     }
 }
 
-// As many as a full pool has rows.
+/// As many as a full pool has rows.
 #[test]
 fn lists_the_coprimes_of_a_full_pool(rt: HostRuntime) {
     let Ok(coprimes) = Coprimes::new(rt.alloc(), 256) else {

@@ -9,7 +9,7 @@ const SIZES: [(u16, u16, Option<CountFault>); 3] = [
     (16_383, 1, Some(CountFault::TooManyWaiters)),
 ];
 
-// The seats are numbered from 0 on, and such a count ends at one word.
+/// The seats are numbered from 0 on, and such a count ends at one word.
 #[test]
 fn counts_are_made_and_closed(rt: HostRuntime) {
     for (waiters, notifiers, fault) in SIZES {

@@ -13,8 +13,8 @@ use waking_rows::RowPoint;
 /// How often the word goes to and fro.
 const TURNS: u64 = 100_000;
 
-// A point of two waiters and three notifiers is opened and shut, and one of too many waiters isn't
-// opened.
+/// A point of two waiters and three notifiers is opened and shut, and one of too many waiters isn't
+/// opened.
 fn opens_and_shuts<P: WaitPoint<Global>, R: Abort>(rt: &R, alloc: Global) {
     let Ok((point, seats)) = P::open(alloc, 2, 3) else {
         panic!(rt; "no point")
@@ -26,7 +26,7 @@ fn opens_and_shuts<P: WaitPoint<Global>, R: Abort>(rt: &R, alloc: Global) {
     assert!(rt; many == 5 && word == 0x3FFF && is_refused);
 }
 
-// A point of one waiter and one notifier, with their seats.
+/// A point of one waiter and one notifier, with their seats.
 fn pair<P: WaitPoint<Global>, R: Abort>(rt: &R, alloc: Global) -> (P, P::Seat, P::Seat)
     ensures waiters { P.waiter_count result.0 ≡ 1 }
     ensures seats { P.seat_count result.0 ≡ 2 }
@@ -49,7 +49,7 @@ fn pair<P: WaitPoint<Global>, R: Abort>(rt: &R, alloc: Global) -> (P, P::Seat, P
     (point, waiter, notifier)
 }
 
-// Signals that are there before the sleep.
+/// Signals that are there before the sleep.
 fn consumes_signals<P: WaitPoint<Global>, R: Wait + Abort>(rt: &R, alloc: Global) {
     let (point, mut waiter, mut notifier) = pair::<P, R>(rt, alloc);
     point.enter(rt, &mut waiter);
@@ -66,7 +66,7 @@ fn consumes_signals<P: WaitPoint<Global>, R: Wait + Abort>(rt: &R, alloc: Global
     assert!(rt; both && word == 0x3FFF);
 }
 
-// Hands the word over, and sleeps until it is back.
+/// Hands the word over, and sleeps until it is back.
 fn lead<P: WaitPoint<Global>, R: Wait + Abort>(
     rt: &R,
     there: &P,
@@ -92,7 +92,7 @@ fn lead<P: WaitPoint<Global>, R: Wait + Abort>(
     }
 }
 
-// Sleeps until the word comes, and hands it back. It has entered before.
+/// Sleeps until the word comes, and hands it back. It has entered before.
 fn follow<P: WaitPoint<Global>, R: Wait + Abort>(
     rt: &R,
     here: &P,
@@ -119,7 +119,7 @@ fn follow<P: WaitPoint<Global>, R: Wait + Abort>(
     here.leave(rt, waiter);
 }
 
-// Each turn of either side is one sleep, which one wake of the other ends.
+/// Each turn of either side is one sleep, which one wake of the other ends.
 fn goes_to_and_fro<P: WaitPoint<Global> + Sync, R: Threads + Wait + Abort + Sync>(
     rt: &R,
     alloc: Global,
@@ -153,7 +153,7 @@ where
     assert!(rt; word.load(Ordering::SeqCst) == 2 * TURNS);
 }
 
-// Tries a kind of point.
+/// Tries a kind of point.
 fn expect_point<P: WaitPoint<Global> + Sync, R: Threads + Wait + Abort + Sync>(
     rt: &R,
     alloc: Global,

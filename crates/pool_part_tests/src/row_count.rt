@@ -32,7 +32,7 @@ struct Party {
     tickets: Vec<Ticket>,
 }
 
-// A count on which nothing was done.
+/// A count on which nothing was done.
 fn open<R: Abort>(rt: &R, alloc: Global, sizes: Sizes) -> (Table, Party)
     ensures sizes { result.0.sizes ≡ sizes }
     ensures actors { All (λ a. IsSeatOf result.0.count a.seat) result.1.actors.items }
@@ -67,8 +67,8 @@ fn open<R: Abort>(rt: &R, alloc: Global, sizes: Sizes) -> (Table, Party)
     )
 }
 
-// Takes an event that the World has just taken, and stops where the count refuses it or shows
-// something else than the World then.
+/// Takes an event that the World has just taken, and stops where the count refuses it or shows
+/// something else than the World then.
 fn take<R: Abort>(
     rt: &R,
     table: &Table,
@@ -101,7 +101,7 @@ fn take<R: Abort>(
     expect_shown(rt, table, party, world);
 }
 
-// Whether the seat takes a step that takes an event of a count alone. What rests on a look has one.
+/// Whether the seat takes a step that takes an event of a count alone. What rests on a look has one.
 fn takes_step(table: &Table, actor: &mut Actor, event: Event, step: Step) -> bool
     requires of { IsSeatOf table.now.count actor.old.seat }
     ensures of { IsSeatOf table.now.count actor.new.seat }
@@ -115,7 +115,7 @@ fn takes_step(table: &Table, actor: &mut Actor, event: Event, step: Step) -> boo
     actor.takes(table, step)
 }
 
-// Whether the seat takes an event on a row or on the stop word. A worker ends by no call.
+/// Whether the seat takes an event on a row or on the stop word. A worker ends by no call.
 fn takes_row<R: Abort>(
     rt: &R,
     table: &Table,
@@ -149,7 +149,7 @@ fn takes_row<R: Abort>(
     }
 }
 
-// The oldest ticket of a row.
+/// The oldest ticket of a row.
 fn ticket_of(table: &Table, tickets: &mut Vec<Ticket>, row: u16) -> Option<Ticket>
     requires tickets { All (IsTicketAt table.now.count) tickets.old.items }
     ensures tickets { All (IsTicketAt table.now.count) tickets.new.items }
@@ -163,7 +163,7 @@ fn ticket_of(table: &Table, tickets: &mut Vec<Ticket>, row: u16) -> Option<Ticke
     None
 }
 
-// Whether an actor finds something that keeps it from this event.
+/// Whether an actor finds something that keeps it from this event.
 fn refuses<R: Abort>(rt: &R, table: &Table, party: &mut Party, event: Event) -> bool
     requires actors { All (λ a. IsSeatOf table.now.count a.seat) party.old.actors.items }
     ensures actors { All (λ a. IsSeatOf table.now.count a.seat) party.new.actors.items }
@@ -180,7 +180,7 @@ fn refuses<R: Abort>(rt: &R, table: &Table, party: &mut Party, event: Event) -> 
     }
 }
 
-// Whether an actor's seat takes a step that is no event.
+/// Whether an actor's seat takes a step that is no event.
 fn takes<R: Abort>(rt: &R, table: &Table, party: &mut Party, actor: u32, step: Step) -> bool
     requires actors { All (λ a. IsSeatOf table.now.count a.seat) party.old.actors.items }
     ensures actors { All (λ a. IsSeatOf table.now.count a.seat) party.new.actors.items }
@@ -192,7 +192,7 @@ fn takes<R: Abort>(rt: &R, table: &Table, party: &mut Party, actor: u32, step: S
     party.actors[place].takes(table, step)
 }
 
-// Stops where the words and the seats aren't those that the World shows.
+/// Stops where the words and the seats aren't those that the World shows.
 fn expect_shown<R: Abort>(rt: &R, table: &Table, party: &mut Party, world: &World)
     requires watcher { IsSeatOf table.now.count party.old.watcher.seat }
     requires workers { length world.now.phases ≡ table.now.sizes.workers }
@@ -224,7 +224,7 @@ fn expect_shown<R: Abort>(rt: &R, table: &Table, party: &mut Party, world: &Worl
     expect_rows(rt, table, watcher, world);
 }
 
-// Each seat's phase, and whether it owes an unpark. How many jobs all of them may still publish.
+/// Each seat's phase, and whether it owes an unpark. How many jobs all of them may still publish.
 fn expect_seats<R: Abort>(rt: &R, actors: &Vec<Actor>, sizes: Sizes, world: &World) -> u64
     requires workers { length world.now.phases ≡ sizes.workers }
     requires owed { length world.now.owed ≡ sizes.workers + sizes.notifiers }
@@ -246,8 +246,8 @@ fn expect_seats<R: Abort>(rt: &R, actors: &Vec<Actor>, sizes: Sizes, world: &Wor
     credits
 }
 
-// The lengths and the stop word, as a pre-waiter finds them. It gives up then, and so leaves the
-// state word as it was.
+/// The lengths and the stop word, as a pre-waiter finds them. It gives up then, and so leaves the
+/// state word as it was.
 fn expect_rows<R: Abort>(rt: &R, table: &Table, watcher: &mut Actor, world: &World)
     requires of { IsSeatOf table.now.count watcher.old.seat }
     requires lengths { length world.now.lengths ≡ table.now.sizes.rows }

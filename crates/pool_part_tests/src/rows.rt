@@ -112,7 +112,7 @@ const OPENINGS: [(u16, u16, Option<RowsFault>); 3] = [
     (257, 1, Some(RowsFault::TooManyRows)),
 ];
 
-// Whether the seat, which may own one of the two rows, is answered as the call says.
+/// Whether the seat, which may own one of the two rows, is answered as the call says.
 fn answers<Q: Rows<u32, Global>, R: Wait>(
     rt: &R,
     rows: &Q,
@@ -136,7 +136,7 @@ fn answers<Q: Rows<u32, Global>, R: Wait>(
     }
 }
 
-// Makes the calls in turn, and stops where one is answered otherwise.
+/// Makes the calls in turn, and stops where one is answered otherwise.
 fn make_calls<Q: Rows<u32, Global>, R: Wait + Abort>(
     rt: &R,
     rows: &Q,
@@ -157,7 +157,7 @@ fn make_calls<Q: Rows<u32, Global>, R: Wait + Abort>(
     }
 }
 
-// Puts so many jobs in row 0, which it takes.
+/// Puts so many jobs in row 0, which it takes.
 fn fill<Q: Rows<u32, Global>, R: Wait + Abort>(rt: &R, rows: &Q, seat: &mut Q::Seat, jobs: u32)
     requires ours { Q.rows_of seat.old ≡ Q.identity_of rows.now }
     requires rows { Q.row_count rows.now ≡ 2 }
@@ -168,7 +168,7 @@ fn fill<Q: Rows<u32, Global>, R: Wait + Abort>(rt: &R, rows: &Q, seat: &mut Q::S
     }
 }
 
-// Whether these jobs are left. Rows of slots hand them out in any order.
+/// Whether these jobs are left. Rows of slots hand them out in any order.
 fn are_left(left: &[u32], told: &[u32], in_order: bool) -> bool {
     if in_order {
         return left == told;
@@ -180,7 +180,7 @@ fn are_left(left: &[u32], told: &[u32], in_order: bool) -> bool {
     are_told
 }
 
-// Tells a story, and stops where it goes otherwise.
+/// Tells a story, and stops where it goes otherwise.
 fn tell<Q: Rows<u32, Global>, R: Wait + Abort>(
     rt: &R,
     alloc: Global,
@@ -212,7 +212,7 @@ fn tell<Q: Rows<u32, Global>, R: Wait + Abort>(
     }
 }
 
-// Rows of each size are refused for what is told, or else have their seats, and no job.
+/// Rows of each size are refused for what is told, or else have their seats, and no job.
 fn expect_openings<Q: Rows<u32, Global>, R: Abort>(rt: &R, alloc: Global) {
     for (rows, outsiders, fault) in OPENINGS {
         let is_right = match Q::open(alloc, rows, outsiders) {

@@ -1,3 +1,5 @@
+//! How large a World and its tables are.
+
 /// How many of each a World and its tables have.
 #[derive(Clone, Copy)]
 pub(crate) struct Sizes {

@@ -48,14 +48,14 @@ const EVENTS: [Event; 32] = [
     Event::End { seat: 1 },
 ];
 
-// The flag at a place.
+/// The flag at a place.
 fn flag(place: u32) -> u64 {
     1_u64.checked_shl(place).unwrap_or(0)
 }
 
-// What no reader of a World tells, after these events, as flags: of each worker, while it is a
-// pre-waiter, whether it has passed the stop flag, and whether it has passed the row; of each actor
-// whether it is to notify.
+/// What no reader of a World tells, after these events, as flags: of each worker, while it is a
+/// pre-waiter, whether it has passed the stop flag, and whether it has passed the row; of each actor
+/// whether it is to notify.
 fn unread_after(events: &[Event]) -> u64 {
     let mut flags: u64 = 0;
     for event in events {
@@ -78,12 +78,12 @@ fn unread_after(events: &[Event]) -> u64 {
     flags
 }
 
-// A number to which a digit below a base is added: other digits give another number.
+/// A number to which a digit below a base is added: other digits give another number.
 fn and(sum: u64, digit: u64, base: u64) -> u64 {
     sum.wrapping_mul(base).wrapping_add(digit)
 }
 
-// The same with a list of at most two seats, or with what is at two places.
+/// The same with a list of at most two seats, or with what is at two places.
 fn and_seats(sum: u64, first: Option<u16>, second: Option<u16>) -> u64 {
     let mut sum = sum;
     for seat in [first, second] {
@@ -96,7 +96,7 @@ fn and_seats(sum: u64, first: Option<u16>, second: Option<u16>) -> u64 {
     sum
 }
 
-// What tells a World from others.
+/// What tells a World from others.
 fn key_of(world: &World, unread: u64) -> u64
     requires workers { length world.now.phases ≡ 2 }
     requires actors { length world.now.owed ≡ 3 }
@@ -129,7 +129,7 @@ struct Reached {
     ways: Vec<Vec<Event>>,
 }
 
-// Adds the World after these events, if the last of them is possible and the World is new.
+/// Adds the World after these events, if the last of them is possible and the World is new.
 fn add<R: Abort>(rt: &R, alloc: Global, reached: &mut Reached, way: Vec<Event>) {
     let Ok(mut world) = World::new(alloc, 2, 1, 1) else {
         panic!(rt; "no World")
@@ -146,7 +146,7 @@ fn add<R: Abort>(rt: &R, alloc: Global, reached: &mut Reached, way: Vec<Event>) 
     }
 }
 
-// The way with one event more.
+/// The way with one event more.
 fn longer<R: Abort>(rt: &R, alloc: Global, way: &[Event], event: Event) -> Vec<Event> {
     let Ok(mut events) = Vec::with_capacity(alloc, way.len() + 1) else {
         panic!(rt; "no memory")
@@ -156,7 +156,7 @@ fn longer<R: Abort>(rt: &R, alloc: Global, way: &[Event], event: Event) -> Vec<E
     events
 }
 
-// How many Worlds there are. From each that was reached each event is tried.
+/// How many Worlds there are. From each that was reached each event is tried.
 fn search<R: Abort>(rt: &R, alloc: Global) -> usize {
     let mut reached = Reached {
         keys: Vec::new(alloc),
@@ -173,7 +173,7 @@ fn search<R: Abort>(rt: &R, alloc: Global) -> usize {
     reached.keys.len()
 }
 
-// So many were found by a search of another make, too.
+/// So many were found by a search of another make, too.
 #[test]
 fn as_many_small_worlds_are_reached(rt: HostRuntime) {
     assert_eq!(rt; search(&rt, rt.alloc()), 2810);

@@ -84,7 +84,7 @@ pub(crate) fn takes<R: Wait>(
     }
 }
 
-// The same of a seat that runs and owes nobody.
+/// The same of a seat that runs and owes nobody.
 fn take_running<R: Wait>(
     rt: &R,
     count: &EventCount,
@@ -116,7 +116,7 @@ fn take_running<R: Wait>(
     }
 }
 
-// The same of a pre-waiter.
+/// The same of a pre-waiter.
 fn take_waiting<R: Wait>(rt: &R, count: &EventCount, seat: &mut Seat, step: Step) -> bool
     requires of { IsSeatOf count.now seat.old }
     requires pre { (card_of seat.old).phase ≡ Pre }
@@ -134,7 +134,7 @@ fn take_waiting<R: Wait>(rt: &R, count: &EventCount, seat: &mut Seat, step: Step
     }
 }
 
-// Takes the steps in turn, each by the seat at its number.
+/// Takes the steps in turn, each by the seat at its number.
 fn take_each<R: Wait + Abort>(
     rt: &R,
     count: &EventCount,

@@ -61,7 +61,7 @@ const RUNS: [Run; 3] = [
     },
 ];
 
-// Stops where a seat says something else of itself, or owes an unpark.
+/// Stops where a seat says something else of itself, or owes an unpark.
 fn expect_seat<R: Abort>(rt: &R, seat: &Seat, number: u32, phase: Phase, looked: bool)
     ensures number { (card_of seat.now).number ≡ number }
     ensures phase { (card_of seat.now).phase ≡ phase }
@@ -72,7 +72,7 @@ fn expect_seat<R: Abort>(rt: &R, seat: &Seat, number: u32, phase: Phase, looked:
     assert_eq!(rt; found, (number, phase, looked, false));
 }
 
-// Takes an item, if there is one.
+/// Takes an item, if there is one.
 fn take_item<R: Wait>(rt: &R, items: &AtomicU64) -> bool {
     for _ in rt.forever() {
         let left = items.load(Ordering::SeqCst);
@@ -87,7 +87,7 @@ fn take_item<R: Wait>(rt: &R, items: &AtomicU64) -> bool {
     unreachable!()
 }
 
-// Waits until there is what is wanted.
+/// Waits until there is what is wanted.
 fn wait_once<R: Wait + Abort>(
     rt: &R,
     count: &EventCount,
@@ -123,7 +123,7 @@ fn wait_once<R: Wait + Abort>(
     }
 }
 
-// Waits in each turn.
+/// Waits in each turn.
 fn wait_often<R: Wait + Abort>(
     rt: &R,
     count: &EventCount,
@@ -142,7 +142,7 @@ fn wait_often<R: Wait + Abort>(
     }
 }
 
-// Notifies one or all, and tells whether that counts: a waiter without a condition has to be there.
+/// Notifies one or all, and tells whether that counts: a waiter without a condition has to be there.
 fn notify_once<R: Wait + Abort>(
     rt: &R,
     count: &EventCount,
@@ -184,7 +184,7 @@ fn notify_once<R: Wait + Abort>(
     told
 }
 
-// Notifies until so many notifications have counted.
+/// Notifies until so many notifications have counted.
 fn notify_often<R: Wait + Abort>(
     rt: &R,
     count: &EventCount,
@@ -208,7 +208,7 @@ fn notify_often<R: Wait + Abort>(
     }
 }
 
-// Waiters and notifiers, each on a thread of its own.
+/// Waiters and notifiers, each on a thread of its own.
 fn wait_and_notify<R: Threads + Wait + Abort + Sync>(
     rt: &R,
     count: &EventCount,
@@ -244,7 +244,7 @@ fn wait_and_notify<R: Threads + Wait + Abort + Sync>(
     );
 }
 
-// Waits and notifies at a new count: how many items are left, or rounds there were.
+/// Waits and notifies at a new count: how many items are left, or rounds there were.
 fn made_by<R: Threads + Wait + Abort + Sync>(rt: &R, alloc: Global, run: &Run) -> u64 {
     let Ok((count, mut seats)) = EventCount::new(alloc, run.waiters, run.notifiers) else {
         panic!(rt; "no count")

@@ -53,7 +53,7 @@ const COURSES: [Course; 6] = [
     },
 ];
 
-// Whether a walk tells these rows, before each how many are left, and then none any more.
+/// Whether a walk tells these rows, before each how many are left, and then none any more.
 fn goes<R: Abort>(rt: &R, alloc: Global, course: &Course) -> bool {
     let Course {
         word,

@@ -115,7 +115,7 @@ const WORDS: [(&str, u64, Step); 15] = [
     ),
 ];
 
-// Whether the step may be taken, and makes of the word what it says.
+/// Whether the step may be taken, and makes of the word what it says.
 fn is_right(word: u64, step: Step) -> bool {
     let fields = unpack(word);
     match step {

@@ -265,7 +265,7 @@ const RUNS: [Run; 10] = [
     },
 ];
 
-// How many of the events are possible, so many times over.
+/// How many of the events are possible, so many times over.
 fn played(world: &mut World, times: u32, events: &[Event]) -> u64
     ensures { SameSizes world.old world.new }
 {
@@ -276,7 +276,7 @@ fn played(world: &mut World, times: u32, events: &[Event]) -> u64
     taken
 }
 
-// Whether the World answers as it is to.
+/// Whether the World answers as it is to.
 fn answers(world: &mut World, sizes: Sizes, ask: Ask) -> bool
     requires workers { length world.old.phases ≡ sizes.workers }
     requires actors { length world.old.owed ≡ sizes.workers + sizes.notifiers }
@@ -300,7 +300,7 @@ fn answers(world: &mut World, sizes: Sizes, ask: Ask) -> bool
     }
 }
 
-// Asks a World in turn, and stops where it answers otherwise.
+/// Asks a World in turn, and stops where it answers otherwise.
 fn ask_each<R: Abort>(rt: &R, alloc: Global, run: &Run) {
     let sizes = run.sizes;
     assert!(rt; sizes.workers > 0 && sizes.workers <= 16_382);

@@ -33,8 +33,8 @@ where
     }
 }
 
-// Schedules the first jobs; where there are jobs for a pool that is cancelled, cancels it and
-// schedules them; and lets the workers go that are held.
+/// Schedules the first jobs; where there are jobs for a pool that is cancelled, cancels it and
+/// schedules them; and lets the workers go that are held.
 fn schedule_both<RT, J, W, R, L>(
     rt: &RT,
     caller: &mut Caller<'_, J, Global, W, R, L>,

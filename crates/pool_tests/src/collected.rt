@@ -21,7 +21,7 @@ use worker_pool::{
     with_pool,
 };
 
-// Runs two jobs, and says what the account says of them.
+/// Runs two jobs, and says what the account says of them.
 fn run_both<W, R, L, RT, J>(
     rt: &RT,
     alloc: Global,
@@ -62,7 +62,7 @@ where
     )
 }
 
-// The same. Jobs that don't fork are each collected once, or left, where none was refused.
+/// The same. Jobs that don't fork are each collected once, or left, where none was refused.
 fn collect_both<W, R, L, RT, J>(
     rt: &RT,
     alloc: Global,
@@ -91,8 +91,8 @@ where
     Ok(closed)
 }
 
-// Runs one job over one count. One that doesn't fork is collected once, or left, where it was not
-// refused.
+/// Runs one job over one count. One that doesn't fork is collected once, or left, where it was not
+/// refused.
 fn collect_root<L, RT, J>(
     rt: &RT,
     alloc: Global,

@@ -73,7 +73,7 @@ const POOLS: [(Kind, u32, u64, u32); 8] = [
     (Kind::OwnRows, 1, 8, 1),
 ];
 
-// Who ran once has an out, and who is left never ran. The answers alone don't tell a second run.
+/// Who ran once has an out, and who is left never ran. The answers alone don't tell a second run.
 #[test]
 fn each_task_counts_one_run(rt: HostRuntime) -> Result<(), Fail> {
     let alloc = rt.alloc();

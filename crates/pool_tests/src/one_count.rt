@@ -12,7 +12,7 @@ use waking_rows::{OnOneCount, RowPoint, RowWaiter, WakingRows, WakingSeat, on_on
 /// How many credits a seat of rows for two workers begins with.
 const CREDITS: u32 = 174_762;
 
-// One seat puts so many jobs in at the back of a row, each of which another takes out.
+/// One seat puts so many jobs in at the back of a row, each of which another takes out.
 fn pass_on<R: Wait + Abort>(
     rt: &R,
     rows: &WakingRows<u32>,
@@ -35,8 +35,8 @@ fn pass_on<R: Wait + Abort>(
     }
 }
 
-// Nobody sleeps over a row with a job, nor once all were woken. A seat that puts in three times as
-// many jobs as it has credits is never refused, since those of who takes the jobs flow back.
+/// Nobody sleeps over a row with a job, nor once all were woken. A seat that puts in three times as
+/// many jobs as it has credits is never refused, since those of who takes the jobs flow back.
 #[test]
 fn jobs_are_put_looked_at_and_taken(rt: HostRuntime) {
     let Ok(made) = on_one_count::<u32, Global>(&rt.alloc(), 2) else {
@@ -86,10 +86,10 @@ fn jobs_are_put_looked_at_and_taken(rt: HostRuntime) {
     assert!(rt; many(seats) == 3 && many(waiters) == 3);
 }
 
-// Lets go of them.
+/// Lets go of them.
 fn end(_rows: WakingRows<u32>, _point: RowPoint) {}
 
-// How many there are.
+/// How many there are.
 fn many<T: Drop>(list: Vec<T>) -> usize {
     list.len()
 }

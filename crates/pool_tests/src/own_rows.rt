@@ -80,7 +80,7 @@ impl<J: Drop> Rows<J, Global> for OwnRows {
     }
 }
 
-// The seats from 0 on.
+/// The seats from 0 on.
 fn seats(alloc: Global, count: u32) -> Result<Vec<u32>, AllocError>
     ensures { IfOk result (λ seats. seats.items ≡ range_with_len 0 count) }
 {

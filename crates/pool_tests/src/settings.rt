@@ -114,7 +114,7 @@ const MOMENTS: [(Kind, u64); 4] = [
     (Kind::OverSlots, 0),
 ];
 
-// In an open pool each task is run once; a cancel before the first may leave it.
+/// In an open pool each task is run once; a cancel before the first may leave it.
 #[test]
 fn three_tasks_in_each_setting(rt: HostRuntime) -> Result<(), Fail> {
     for (name, workers, ranges, starts, by_workers) in SETTINGS {
@@ -138,8 +138,8 @@ fn three_tasks_in_each_setting(rt: HostRuntime) -> Result<(), Fail> {
 /// How often the opener looks whether the task runs while all workers are held.
 const EARLY_LOOKS: u64 = 1_000_000;
 
-// The workers are let go once the task could have run. It is run by one of them, and by none before
-// its turn 0 was let through.
+/// The workers are let go once the task could have run. It is run by one of them, and by none before
+/// its turn 0 was let through.
 #[test]
 fn a_gate_that_holds_the_first_turns(rt: HostRuntime) -> Result<(), Fail> {
     let alloc = rt.alloc();
@@ -170,7 +170,7 @@ fn a_gate_that_holds_the_first_turns(rt: HostRuntime) -> Result<(), Fail> {
     expect_each_once(&rt, alloc, run, &closed, watch.seen())
 }
 
-// Rows for more than one worker find no memory.
+/// Rows for more than one worker find no memory.
 #[test]
 fn rows_that_find_no_memory(rt: HostRuntime) -> Result<(), Fail> {
     let alloc = rt.alloc();

@@ -50,7 +50,7 @@ const SETUPS: [(u32, &[(u32, u32)], Option<PoolFault>); 17] = [
     (2, &[(0, 2), (0, 2), (0, 2)], Some(PoolFault::BadPartition)),
 ];
 
-// Why no pool over slots is opened of which so many workers are started, if it isn't.
+/// Why no pool over slots is opened of which so many workers are started, if it isn't.
 fn fault_of<RT: Threads + Wait + Sync>(
     rt: &RT,
     alloc: Global,
@@ -63,7 +63,7 @@ fn fault_of<RT: Threads + Wait + Sync>(
     Ok(closed.err())
 }
 
-// All ways to open a pool end with the fault of the setup.
+/// All ways to open a pool end with the fault of the setup.
 #[test]
 fn setups_that_are_taken_and_refused(rt: HostRuntime) -> Result<(), Fail> {
     let alloc = rt.alloc();

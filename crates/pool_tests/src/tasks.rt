@@ -114,7 +114,7 @@ pub(crate) fn meeting(alloc: Global) -> Result<Vec<BoxedJob>, AllocError> {
     Ok(jobs)
 }
 
-// The first step of a job of any kind.
+/// The first step of a job of any kind.
 fn step_of<J: Job<Global>>(
     alloc: Global,
     ctx: &J::Ctx,
@@ -123,7 +123,7 @@ fn step_of<J: Job<Global>>(
     job.step(alloc, ctx)
 }
 
-// Its out has the tag that it had before it ran.
+/// Its out has the tag that it had before it ran.
 #[test]
 fn a_task_is_run_once(rt: HostRuntime) -> Result<(), Fail> {
     let job = job_of(rt.alloc(), 7)?;

@@ -221,7 +221,7 @@ const OPENINGS: [(u32, u32); 2] = [
     (256, 100),
 ];
 
-// One test of all openings would take too long.
+/// One test of all openings would take too long.
 #[test]
 fn pools_that_are_opened_again_and_again(rt: HostRuntime) -> Result<(), Fail> {
     for (workers, times) in OPENINGS {

@@ -115,7 +115,7 @@ impl<J: Drop, A: Allocator> DequeRows<J, A> {
     }
 }
 
-// So many empty rows.
+/// So many empty rows.
 fn empty_deques<J: Drop, A: Allocator + Clone>(
     alloc: &A,
     count: u16,

@@ -35,7 +35,7 @@ impl Model for LockedSeat {
 }
 
 impl LockedSeat {
-    // The seat's own row, where it has one.
+    /// The seat's own row, where it has one.
     fn row(&self) -> usize
         ensures { result ≡ self.now }
     {
@@ -110,7 +110,7 @@ impl<J: Drop, A: Allocator + Clone> Rows<J, A> for LockedRows<J, A> {
     }
 }
 
-// The seats from 0 on.
+/// The seats from 0 on.
 fn seats<A: Allocator>(alloc: A, count: u32) -> Result<Vec<LockedSeat, A>, AllocError>
     ensures { IfOk result (λ seats. seats.items ≡ range_with_len 0 count) }
 {

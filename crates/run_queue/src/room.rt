@@ -3,7 +3,7 @@ ghost use Rattle.std.specs.Prelude.{◌≡◌, [], vec_capacity, IfOk};
 
 use std::alloc::{AllocError, Allocator};
 
-// An empty list with room for so many.
+/// An empty list with room for so many.
 pub(crate) fn room_for<T, A: Allocator + Clone>(
     alloc: &A,
     len: usize,

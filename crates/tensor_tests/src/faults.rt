@@ -41,7 +41,7 @@ const NUMBERS: [u64; 3] = [
     StreamFault::WriteFault as u64,
 ];
 
-// Why dims are not legal, and why an expression has none.
+/// Why dims are not legal, and why an expression has none.
 #[test]
 fn texts_of_faults_of_dims(rt: HostRuntime) -> Result<(), Fail> {
     let (rank, elements) = (ShapeFault::RankTooHigh, ShapeFault::TooManyElements);
@@ -56,7 +56,7 @@ fn texts_of_faults_of_dims(rt: HostRuntime) -> Result<(), Fail> {
     Ok(())
 }
 
-// Want of memory has one number, and those of the streams follow it.
+/// Want of memory has one number, and those of the streams follow it.
 #[test]
 fn faults_of_runs_and_streams(rt: HostRuntime) -> Result<(), Fail> {
     expect(&rt, "numbers", &NUMBERS, &[15, 16, 17]);

@@ -71,7 +71,7 @@ pub(crate) fn range_is(
     Ok(())
 }
 
-// Each range of the whole has its values, of each length, from a place that goes with it.
+/// Each range of the whole has its values, of each length, from a place that goes with it.
 fn has_each_length(rt: &impl Abort, alloc: Global, request: &Request) -> Result<(), Fail> {
     let whole = eval_plain(alloc, &request.expr, &request.inputs)?;
     let values = whole.values();
@@ -96,7 +96,7 @@ fn each_length_of_each_root(rt: HostRuntime) -> Result<(), Fail> {
     Ok(())
 }
 
-// Drawn ranges of the whole have its values, and so has the tensor that workers make.
+/// Drawn ranges of the whole have its values, and so has the tensor that workers make.
 fn has_drawn_ranges<RT: Threads + Wait + Abort + Sync>(
     rt: &RT,
     alloc: Global,
@@ -118,7 +118,7 @@ fn has_drawn_ranges<RT: Threads + Wait + Abort + Sync>(
     Ok(())
 }
 
-// So do those of expressions over two grids.
+/// So do those of expressions over two grids.
 fn have_drawn_ranges<RT: Threads + Wait + Abort + Sync>(
     rt: &RT,
     alloc: Global,

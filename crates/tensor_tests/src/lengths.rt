@@ -24,8 +24,8 @@ const SIZE: usize = 12_544;
 /// How many tests share the lengths, since one has little time: each takes those with one rest.
 const SHARES: usize = 8;
 
-// Ranges of the whole have its values, of each length with this rest, from a place that goes with
-// it.
+/// Ranges of the whole have its values, of each length with this rest, from a place that goes with
+/// it.
 fn has_lengths(rt: &impl Abort, alloc: Global, request: &Request, rest: usize) -> Result<(), Fail> {
     let whole = eval_plain(alloc, &request.expr, &request.inputs)?;
     let values = whole.values();
@@ -41,7 +41,7 @@ fn has_lengths(rt: &impl Abort, alloc: Global, request: &Request, rest: usize) -
     Ok(())
 }
 
-// So do those of each expression.
+/// So do those of each expression.
 fn have_lengths(rt: &impl Abort, alloc: Global, rest: usize) -> Result<(), Fail> {
     let inputs = grids(alloc, 112, 112)?;
     for expr in ROOTS {

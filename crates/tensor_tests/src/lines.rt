@@ -120,7 +120,7 @@ fn a_line_of_the_greatest_length_and_longer_ones(rt: HostRuntime) -> Result<(), 
     Ok(())
 }
 
-// The lines are answered of which the line feed was read, and nothing of the one that broke off.
+/// The lines are answered of which the line feed was read, and nothing of the one that broke off.
 #[test]
 fn a_reader_that_fails_in_each_line(rt: HostRuntime) {
     for good_calls in 0..=THREE.len() {
@@ -138,7 +138,7 @@ fn a_reader_that_fails_in_each_line(rt: HostRuntime) {
     }
 }
 
-// The front of the answers is written for which there is room.
+/// The front of the answers is written for which there is room.
 #[test]
 fn a_writer_that_is_full_in_each_line(rt: HostRuntime) {
     let lines = THREE_LINES.as_bytes();

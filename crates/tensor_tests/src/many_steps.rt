@@ -14,7 +14,7 @@ use tensor_runner::eval;
 /// How many sums stand one in the other at most: an expression has few levels.
 const DEEPEST: u32 = 120;
 
-// Adds a word to a text so many times.
+/// Adds a word to a text so many times.
 fn add(text: &mut String, word: &str, count: u32) -> Result<(), AllocError> {
     for _ in 0..count {
         text.push_str(word)?;
@@ -22,14 +22,14 @@ fn add(text: &mut String, word: &str, count: u32) -> Result<(), AllocError> {
     Ok(())
 }
 
-// Adds so many sums over no axis, each of the one before.
+/// Adds so many sums over no axis, each of the one before.
 fn add_sums(text: &mut String, count: u32) -> Result<(), AllocError> {
     add(text, r#"["sum","#, count)?;
     add(text, r#""a""#, 1)?;
     add(text, ",[]]", count)
 }
 
-// An expression of so many steps: sums, or the greater of two such, which is either.
+/// An expression of so many steps: sums, or the greater of two such, which is either.
 fn steps(alloc: Global, count: u32) -> Result<String, AllocError> {
     let mut expr = String::new(alloc);
     if count <= DEEPEST {
@@ -44,7 +44,7 @@ fn steps(alloc: Global, count: u32) -> Result<String, AllocError> {
     Ok(expr)
 }
 
-// A request has so many steps, and these values.
+/// A request has so many steps, and these values.
 fn has_steps<RT: Threads + Wait + Abort + Sync>(
     rt: &RT,
     alloc: Global,
@@ -59,7 +59,7 @@ fn has_steps<RT: Threads + Wait + Abort + Sync>(
     Ok(())
 }
 
-// Each sum is a step of its own, and has the values of what it is over. So is the greater of two.
+/// Each sum is a step of its own, and has the values of what it is over. So is the greater of two.
 #[test]
 fn sums_of_sums(rt: HostRuntime) -> Result<(), Fail> {
     let inputs = places(rt.alloc(), "3", 3)?;

@@ -77,7 +77,7 @@ fn gives(
     gives_over(rt, alloc, name, &Operand { expr, inputs }, parts, wholes)
 }
 
-// `gives`, over inputs that are lent with the expression.
+/// `gives`, over inputs that are lent with the expression.
 fn gives_over(
     rt: &impl Abort,
     alloc: Global,
@@ -121,7 +121,7 @@ fn parts_of_sums_and_products(rt: HostRuntime) -> Result<(), Fail> {
     )
 }
 
-// Along the first axis a contraction's values lie side by side, along the last they don't.
+/// Along the first axis a contraction's values lie side by side, along the last they don't.
 #[test]
 fn parts_of_reductions_of_a_contraction(rt: HostRuntime) -> Result<(), Fail> {
     let alloc = rt.alloc();

@@ -8,7 +8,7 @@ use std::process::Abort;
 use std::test::Fail;
 use tensor_ops::{TensorEvaluator, eval_plain};
 
-// An expression has these values from a place on.
+/// An expression has these values from a place on.
 fn range_gives(
     rt: &impl Abort,
     alloc: Global,
@@ -26,7 +26,7 @@ fn range_gives(
     Ok(())
 }
 
-// So has its whole tensor.
+/// So has its whole tensor.
 fn whole_gives(
     rt: &impl Abort,
     alloc: Global,
@@ -43,7 +43,7 @@ fn whole_gives(
     Ok(())
 }
 
-// Across pieces, at the last place, inside a piece, and of no place.
+/// Across pieces, at the last place, inside a piece, and of no place.
 #[test]
 fn ranges_of_three_by_700(rt: HostRuntime) -> Result<(), Fail> {
     let inputs = places(rt.alloc(), "3,700", 2100)?;

@@ -8,7 +8,7 @@ use std::alloc::Global;
 use std::test::Fail;
 use tensor_ops::{Dims, Expr, ExprFault, Inputs, Movement, Tensor, Unary};
 
-// An input of 2 by 3.
+/// An input of 2 by 3.
 fn two_by_three(alloc: Global) -> Result<Inputs<'static>, Fail>
     ensures { IfOk result (λ i. length i.tensors ≡ 1) }
 {
@@ -91,7 +91,7 @@ fn results_within_the_rank_of_the_inputs(rt: HostRuntime) -> Result<(), Fail> {
     Ok(())
 }
 
-// 1,024 by 1,024 by 1,024: as many products as there may be.
+/// 1,024 by 1,024 by 1,024: as many products as there may be.
 #[test]
 fn dims_of_the_largest_contraction(rt: HostRuntime) -> Result<(), Fail> {
     let square = r#"["broadcast","a",[1024,1024]]"#;

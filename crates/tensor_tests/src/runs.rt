@@ -119,8 +119,8 @@ fn lines_of_texts(rt: HostRuntime) -> Result<(), Fail> {
     Ok(())
 }
 
-// The last call would tell the end. Any error is answered, also one that other readers try again,
-// and nothing is written.
+/// The last call would tell the end. Any error is answered, also one that other readers try again,
+/// and nothing is written.
 #[test]
 fn a_reader_that_fails_at_each_place(rt: HostRuntime) {
     for (name, kind) in [
@@ -155,7 +155,7 @@ const CALLS: [(&str, usize, u64); 3] = [
     ("all by one call", 1000, 1),
 ];
 
-// The front of the line that has room is written, and no more.
+/// The front of the line that has room is written, and no more.
 #[test]
 fn a_writer_that_is_full_at_each_place(rt: HostRuntime) {
     for full in [Full::Fails, Full::TakesNone] {
@@ -213,7 +213,7 @@ const ENDINGS: [(&str, &[u8], u64, usize, u8, Option<&str>, &str); 5] = [
     ),
 ];
 
-// The ending of a text of which so many calls give a byte, and what a writer of such room took.
+/// The ending of a text of which so many calls give a byte, and what a writer of such room took.
 fn served<RT: Threads + Wait + Sync>(
     rt: &RT,
     alloc: Global,
@@ -231,7 +231,7 @@ fn served<RT: Threads + Wait + Sync>(
     (ending, writer.writer.taken)
 }
 
-// Where the writer fails the front of the line is written for which there was room.
+/// Where the writer fails the front of the line is written for which there was room.
 #[test]
 fn endings_of_lines(rt: HostRuntime) {
     for (name, text, good_calls, room, status, complaint, line) in ENDINGS {

@@ -27,7 +27,7 @@ const SHARDS: [(u64, u64, u64, u64); 18] = [
     (4096, 0, 1024, 4),
 ];
 
-// So many index lists have so many shards of a width, one behind the other.
+/// So many index lists have so many shards of a width, one behind the other.
 fn are(rt: &impl Abort, inner: u64, block: u64, count: u64, width: u64) {
     let shards = Shards::of(inner, block);
     let mut first = 0u64;

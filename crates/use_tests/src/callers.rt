@@ -30,7 +30,7 @@ fn each_queue_is_found(rt: HostRuntime) -> Result<(), Fail> {
     Ok(())
 }
 
-// A worker is about to sleep while a job comes: whoever is first, it doesn't sleep on it.
+/// A worker is about to sleep while a job comes: whoever is first, it doesn't sleep on it.
 #[test]
 fn a_job_that_comes_late(rt: HostRuntime) -> Result<(), Fail> {
     let events = [

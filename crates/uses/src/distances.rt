@@ -8,7 +8,7 @@ ghost use Rattle.uses.specs.Programs.{squared_distances};
 use std::alloc::{AllocError, Global};
 use tensor_ops::{Expr, ExprFault, Inputs, Tensor, eval_plain};
 
-// The squares of the differences, added up along axis 1.
+/// The squares of the differences, added up along axis 1.
 fn program(alloc: Global) -> Result<Expr, AllocError>
     ensures { IfOk result (λ expr. term_of expr ≡ squared_distances) }
 {

@@ -27,7 +27,7 @@ struct Side {
     ghost idle_too: { IsIdle notifier },
 }
 
-// Puts a number in, once there is room.
+/// Puts a number in, once there is room.
 fn put<R: Wait>(rt: &R, side: &mut Side, producer: &mut Producer<u64>, number: u64)
     ensures ring { SameProducer producer.old producer.new }
     ensures sent { sent producer.new ≡ sent producer.old ++ number ∷ [] }
@@ -48,7 +48,7 @@ fn put<R: Wait>(rt: &R, side: &mut Side, producer: &mut Producer<u64>, number: u
     unreachable!()
 }
 
-// Takes a number out, once there is one.
+/// Takes a number out, once there is one.
 fn take<R: Wait>(rt: &R, side: &mut Side, consumer: &mut Consumer<u64>) -> u64
     ensures ring { SameConsumer consumer.old consumer.new }
     ensures received { received consumer.new ≡ received consumer.old ++ result ∷ [] }
@@ -115,7 +115,7 @@ fn take_all<R: Wait>(
     }
 }
 
-// A count for one that waits and one that notifies.
+/// A count for one that waits and one that notifies.
 fn count_of_two(alloc: Global) -> Result<(Arc<EventCount>, Seat, Seat), CountFault>
     ensures ours { IfOk result (λ made.
         IsSeatOf (arc_value made.0) made.1 × IsSeatOf (arc_value made.0) made.2) }

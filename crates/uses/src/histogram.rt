@@ -42,7 +42,7 @@ impl<'a> Kernel for Parts<'a> {
     }
 }
 
-// Part i of the text.
+/// Part i of the text.
 fn part_at(text: &[u8], part_length: u64, i: u64) -> &[u8]
     requires some { 0 < part_length }
     requires inside { i < blocks_of (length text.now) part_length }
@@ -52,7 +52,7 @@ fn part_at(text: &[u8], part_length: u64, i: u64) -> &[u8]
     &rest[..rest.len().min(part_length as usize)]
 }
 
-// How often each byte stands in the text.
+/// How often each byte stands in the text.
 fn counted(text: &[u8]) -> [u64; 256]
     ensures { result ≡ counts_of text.now }
 {
@@ -63,7 +63,7 @@ fn counted(text: &[u8]) -> [u64; 256]
     counts
 }
 
-// Adds counts to others, modulo 2^64.
+/// Adds counts to others, modulo 2^64.
 fn add(total: &mut [u64; 256], counts: &[u64; 256])
     ensures all { length total.new ≡ 256 }
     ensures sums { (b : ℕ) → b < 256 → slice_index total.new b
@@ -74,7 +74,7 @@ fn add(total: &mut [u64; 256], counts: &[u64; 256])
     }
 }
 
-// The counts of all parts together, modulo 2^64.
+/// The counts of all parts together, modulo 2^64.
 fn added(parts: &[[u64; 256]]) -> [u64; 256]
     ensures all { length result ≡ 256 }
     ensures sums { (b : ℕ) → b < 256 → slice_index result b

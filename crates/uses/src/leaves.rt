@@ -48,7 +48,7 @@ impl Job<Global> for Tree {
     fn abandon(self, _ctx: &()) {}
 }
 
-// The sum of the numbers.
+/// The sum of the numbers.
 fn added(numbers: &[u64]) -> u64
     ensures { result ≡ sum numbers.now % 2 ^ 64 }
 {

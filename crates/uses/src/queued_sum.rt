@@ -74,7 +74,7 @@ struct Member<C: Crew> {
     ghost added: { total ≡ worth.amount % 2 ^ 64 },
 }
 
-// Puts a number into the queue, and notifies a consumer. False: no credit or no memory is left.
+/// Puts a number into the queue, and notifies a consumer. False: no credit or no memory is left.
 fn put<C: Crew, R: Wait>(
     rt: &R,
     hub: &Hub<C>,
@@ -113,7 +113,7 @@ fn put<C: Crew, R: Wait>(
     true
 }
 
-// Puts all numbers, and then stops the count.
+/// Puts all numbers, and then stops the count.
 fn produce<C: Crew, R: Wait>(
     rt: &R,
     hub: &Hub<C>,
@@ -140,7 +140,7 @@ fn produce<C: Crew, R: Wait>(
     (Member { seat, total, worth }, book)
 }
 
-// Takes a number out of the queue, if there is one.
+/// Takes a number out of the queue, if there is one.
 fn take<C: Crew, R: Wait>(rt: &R, hub: &Hub<C>, member: &mut Member<C>) -> bool
     ensures { (card_of member.new.seat).number ≡ (card_of member.old.seat).number }
 {
@@ -157,7 +157,7 @@ fn take<C: Crew, R: Wait>(rt: &R, hub: &Hub<C>, member: &mut Member<C>) -> bool
     true
 }
 
-// Sleeps while there is no number: whether the count was stopped.
+/// Sleeps while there is no number: whether the count was stopped.
 fn rest<C: Crew, R: Wait>(rt: &R, hub: &Hub<C>, member: &mut Member<C>) -> bool
     requires { (card_of member.old.seat).number < hub.now.consumers }
     ensures { (card_of member.new.seat).number ≡ (card_of member.old.seat).number }
@@ -180,7 +180,7 @@ fn rest<C: Crew, R: Wait>(rt: &R, hub: &Hub<C>, member: &mut Member<C>) -> bool
     }
 }
 
-// Takes numbers until the count is stopped and none is left.
+/// Takes numbers until the count is stopped and none is left.
 fn consume<C: Crew, R: Wait>(rt: &R, hub: &Hub<C>, member: &mut Member<C>)
     requires { (card_of member.old.seat).number < hub.now.consumers }
 {
@@ -195,7 +195,7 @@ fn consume<C: Crew, R: Wait>(rt: &R, hub: &Hub<C>, member: &mut Member<C>)
     }
 }
 
-// All consumers, each on a thread of its own.
+/// All consumers, each on a thread of its own.
 fn consume_all<C: Crew + Send + Sync, RT: Threads + Wait + Sync>(
     rt: &RT,
     hub: &Hub<C>,
@@ -217,7 +217,7 @@ fn consume_all<C: Crew + Send + Sync, RT: Threads + Wait + Sync>(
     members
 }
 
-// Members with these seats, each with a part of the ledger.
+/// Members with these seats, each with a part of the ledger.
 fn members_of<C: Crew>(
     alloc: Global,
     seats: Vec<Seat>,
@@ -243,7 +243,7 @@ fn members_of<C: Crew>(
     Ok(members)
 }
 
-// The sum of what all members have taken, and of what is left in the queue.
+/// The sum of what all members have taken, and of what is left in the queue.
 fn total_of<C: Crew>(mut book: Book<C>, queue: Queue<C>, members: Vec<Member<C>>) -> u64
     requires { C.parts ≡ vec_len members + 1 }
     ensures { result ≡ book.total % 2 ^ 64 }
@@ -264,7 +264,7 @@ fn total_of<C: Crew>(mut book: Book<C>, queue: Queue<C>, members: Vec<Member<C>>
     total
 }
 
-// The sum of the numbers, over a queue and a count that the types name.
+/// The sum of the numbers, over a queue and a count that the types name.
 fn summed<C: Crew + Send + Sync, RT: Threads + Wait + Sync>(
     rt: &RT,
     alloc: Global,

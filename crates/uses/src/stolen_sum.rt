@@ -19,7 +19,7 @@ struct Taken {
     ghost added: { total ≡ sum (takes_of seat) % 2 ^ 64 },
 }
 
-// The sum of the numbers.
+/// The sum of the numbers.
 fn added(numbers: &[u64]) -> u64
     ensures { result ≡ sum numbers.now % 2 ^ 64 }
 {
@@ -30,7 +30,7 @@ fn added(numbers: &[u64]) -> u64
     total
 }
 
-// Puts the numbers in. The sum of those for which there is no room.
+/// Puts the numbers in. The sum of those for which there is no room.
 fn put_in(rows: &SlotRows<u64>, owner: &mut SlotSeat<u64>, numbers: &[u64]) -> u64
     requires of { table_of owner.old ≡ rows_id rows.now }
     requires owner { number_in owner.old < row_count_of rows.now }
@@ -48,7 +48,7 @@ fn put_in(rows: &SlotRows<u64>, owner: &mut SlotSeat<u64>, numbers: &[u64]) -> u
     rest
 }
 
-// The same by the first of the seats, which owns the row. Its seat is the last then.
+/// The same by the first of the seats, which owns the row. Its seat is the last then.
 fn put_in_by_owner(rows: &SlotRows<u64>, seats: &mut Vec<SlotSeat<u64>>, numbers: &[u64]) -> u64
     requires row { row_count_of rows.now ≡ 1 }
     requires of { All (λ s. table_of s ≡ rows_id rows.now) seats.old.items }
@@ -68,7 +68,7 @@ fn put_in_by_owner(rows: &SlotRows<u64>, seats: &mut Vec<SlotSeat<u64>>, numbers
     rest
 }
 
-// The next number, which the owner takes at the front and others at the back.
+/// The next number, which the owner takes at the front and others at the back.
 fn take<R: Wait>(rt: &R, rows: &SlotRows<u64>, seat: &mut SlotSeat<u64>) -> Option<u64>
     requires of { table_of seat.old ≡ rows_id rows.now }
     requires row { row_count_of rows.now ≡ 1 }
@@ -83,7 +83,7 @@ fn take<R: Wait>(rt: &R, rows: &SlotRows<u64>, seat: &mut SlotSeat<u64>) -> Opti
     }
 }
 
-// Takes numbers until none is found.
+/// Takes numbers until none is found.
 fn take_all<R: Wait>(rt: &R, rows: &SlotRows<u64>, mut seat: SlotSeat<u64>) -> Taken
     requires of { table_of seat ≡ rows_id rows.now }
     requires row { row_count_of rows.now ≡ 1 }
@@ -101,7 +101,7 @@ fn take_all<R: Wait>(rt: &R, rows: &SlotRows<u64>, mut seat: SlotSeat<u64>) -> T
     unreachable!()
 }
 
-// All seats take numbers, each on a thread of its own.
+/// All seats take numbers, each on a thread of its own.
 fn take_out<RT: Threads + Wait + Sync>(
     rt: &RT,
     rows: &SlotRows<u64>,
@@ -130,7 +130,7 @@ fn take_out<RT: Threads + Wait + Sync>(
     Ok(taken)
 }
 
-// What came out through all seats, added up.
+/// What came out through all seats, added up.
 fn total_of(taken: &[Taken]) -> u64
     ensures { result ≡ sum_by (λ t. sum (takes_of t.seat)) taken.now % 2 ^ 64 }
 {

@@ -32,7 +32,7 @@ pub struct OnOneCount<J, A: Allocator> {
     pub waiters: Vec<RowWaiter, A>,
 }
 
-// As many credits for each of so many seats as a count may have.
+/// As many credits for each of so many seats as a count may have.
 fn credits_each(seats: u32) -> u32
     requires { 0 < seats }
     ensures { result ≡ row_limit / seats }
@@ -104,7 +104,7 @@ pub fn on_one_count<J: Drop, A: Allocator + Clone>(
     })
 }
 
-// Rows over a count of their own, at which nobody waits.
+/// Rows over a count of their own, at which nobody waits.
 pub(crate) fn rows_alone<J: Drop, A: Allocator + Clone>(
     alloc: A,
     rows: u16,
@@ -141,7 +141,7 @@ pub(crate) fn rows_alone<J: Drop, A: Allocator + Clone>(
     Ok(rows_over(&alloc, count, seats, rows, outsiders)?)
 }
 
-// Rows over a count, of which these are the rows' seats.
+/// Rows over a count, of which these are the rows' seats.
 fn rows_over<J: Drop, A: Allocator + Clone>(
     alloc: &A,
     count: Arc<RowCount<A>, A>,
@@ -189,7 +189,7 @@ fn rows_over<J: Drop, A: Allocator + Clone>(
     ))
 }
 
-// A seat at the slots and one at the count, each two in one.
+/// A seat at the slots and one at the count, each two in one.
 fn both<J: Drop, A: Allocator + Clone>(
     alloc: &A,
     slots: Vec<SlotSeat<Ticketed<J>>, A>,

@@ -116,7 +116,7 @@ where
     with_pool_by::<W, R, L, _, _, _, _, _, Apart>(rt, alloc, setup, ctx, gate, starts, body)
 }
 
-// The same, with rows and a point that are so opened.
+/// The same, with rows and a point that are so opened.
 fn with_pool_by<W, R, L, RT, J, A, G, F, O>(
     rt: &RT,
     alloc: A,
@@ -251,7 +251,7 @@ where
     )
 }
 
-// The same, with rows and a point that are so opened.
+/// The same, with rows and a point that are so opened.
 fn with_root_by<W, R, L, RT, J, A, G, F, O>(
     rt: &RT,
     alloc: A,

@@ -64,7 +64,7 @@ impl<A: Allocator> Setup<A> {
     }
 }
 
-// Whether there is no partition or one for each worker, and each ends inside the pool.
+/// Whether there is no partition or one for each worker, and each ends inside the pool.
 fn are_partitions(workers: u32, partitions: &[Partition]) -> bool
     ensures yes { IsTrue result ↔ ArePartitions workers partitions.now }
     ensures no { (result ≡ false) ↔ AreNoPartitions workers partitions.now }

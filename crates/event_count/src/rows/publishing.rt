@@ -41,7 +41,7 @@ impl<A: Allocator> Count<Rowed, A> {
         Some(self.publish_one(seat, row))
     }
 
-    // The same of a seat that has a credit.
+    /// The same of a seat that has a credit.
     fn publish_one(&self, seat: &mut Seat, row: u16) -> Ticket
         requires of { IsSeatOf self.now seat.old }
         requires row { row < (row_sizes_of self.now).rows }

@@ -1,5 +1,6 @@
-// The seats that actors have popped and not unparked, in one list for all actors: a seat stands
-// there at most once, so one place for each worker is enough.
+//! The seats that actors have popped and not unparked, in one list for all actors: a seat stands
+//! there at most once, so one place for each worker is enough.
+
 ghost use Rattle.std.specs.Prelude.{◌≡◌, ◌+◌, ◌≤◌, ◌==◌, ◌++◌, length, map, position, slice_get};
 ghost use Rattle.std.specs.Prelude.{vec_len, vec_capacity};
 ghost use Rattle.event_word.specs.Debts.{debt, seats_owed};

@@ -1,4 +1,5 @@
-// The events, one function each.
+//! The events, one function each.
+
 ghost use Rattle.std.specs.Prelude.{◌≡◌, false, ◌<◌, ◌↔◌, ◌==◌, IsTrue, length, position};
 ghost use Rattle.std.specs.Prelude.{replicate};
 ghost use Rattle.std.specs.Prelude.{slice_index_or, vec_capacity};
@@ -57,7 +58,7 @@ impl<A: Allocator> World<A> {
         }
     }
 
-    // Whether the actor owes nothing, and runs if it is a worker.
+    /// Whether the actor owes nothing, and runs if it is a worker.
     fn is_free(&self, actor: u32) -> bool
         ensures { IsTrue result ↔ IsFree self.now actor }
     {
@@ -71,14 +72,14 @@ impl<A: Allocator> World<A> {
         first_owed(&self.owed, actor).is_none()
     }
 
-    // Whether it is also not to notify.
+    /// Whether it is also not to notify.
     fn is_quiet(&self, actor: u32) -> bool
         ensures { IsTrue result ↔ IsQuiet self.now actor }
     {
         self.is_free(actor) && !self.announcing[actor as usize]
     }
 
-    // Whether the seat is a worker's that is quiet.
+    /// Whether the seat is a worker's that is quiet.
     fn is_quiet_seat(&self, seat: u16) -> bool
         ensures { IsTrue result ↔ (seat < length self.now.phases) × IsQuiet self.now seat }
     {
@@ -267,14 +268,14 @@ impl<A: Allocator> World<A> {
     }
 }
 
-// Whether the seat at this place is in the phase. A place that no worker has counts as ended.
+/// Whether the seat at this place is in the phase. A place that no worker has counts as ended.
 fn is_in(phases: &[Phase], place: usize, phase: Phase) -> bool
     ensures { IsTrue result ↔ (slice_index_or phases.now place Phase.Ended ≡ phase) }
 {
     phases.get(place).copied().unwrap_or(Phase::Ended) == phase
 }
 
-// Whether the actor at this place runs, if it is a worker.
+/// Whether the actor at this place runs, if it is a worker.
 fn runs_if_worker(phases: &[Phase], place: usize) -> bool
     ensures { IsTrue result
         ↔ (place < length phases.now
@@ -283,28 +284,28 @@ fn runs_if_worker(phases: &[Phase], place: usize) -> bool
     place >= phases.len() || is_in(phases, place, Phase::Running)
 }
 
-// Whether each of the list is true.
+/// Whether each of the list is true.
 fn are_all_true(list: &[bool]) -> bool
     ensures { IsTrue result ↔ AllPass (λ passed. passed) list.now }
 {
     list.iter().all(|passed| *passed)
 }
 
-// Makes each of the list false.
+/// Makes each of the list false.
 fn clear<A: Allocator>(list: &mut Vec<bool, A>)
     ensures { list.new.items ≡ replicate (length list.old.items) false }
 {
     list.fill(false);
 }
 
-// Where the seat stands in the list.
+/// Where the seat stands in the list.
 fn place_of(list: &[u16], seat: u16) -> Option<usize>
     ensures { result ≡ position (λ other. other == seat) list.now }
 {
     list.iter().position(|other| *other == seat)
 }
 
-// Takes the seat out of the list.
+/// Takes the seat out of the list.
 fn take_out<A: Allocator>(list: &mut Vec<u16, A>, seat: u16)
     ensures items { list.new.items ≡ without seat list.old.items }
     ensures capacity { vec_capacity list.new ≡ vec_capacity list.old }

@@ -143,7 +143,7 @@ impl Actor {
         }
     }
 
-    // The same of a seat that runs and owes nobody.
+    /// The same of a seat that runs and owes nobody.
     fn takes_running(&mut self, table: &Table, step: Step) -> bool
         requires of { IsSeatOf table.now.count self.old.seat }
         requires idle { IsIdle self.old.seat }
@@ -166,7 +166,7 @@ impl Actor {
         }
     }
 
-    // Becomes a pre-waiter, which has passed nothing, if it is a waiter's seat.
+    /// Becomes a pre-waiter, which has passed nothing, if it is a waiter's seat.
     fn prewaits(&mut self, table: &Table) -> bool
         requires of { IsSeatOf table.now.count self.old.seat }
         requires idle { IsIdle self.old.seat }
@@ -182,7 +182,7 @@ impl Actor {
         true
     }
 
-    // The same of a pre-waiter.
+    /// The same of a pre-waiter.
     fn takes_waiting(&mut self, table: &Table, step: Step) -> bool
         requires of { IsSeatOf table.now.count self.old.seat }
         requires pre { (card_of self.old.seat).phase ≡ Pre }
@@ -200,7 +200,7 @@ impl Actor {
         }
     }
 
-    // Whether it has passed the flag and so many rows.
+    /// Whether it has passed the flag and so many rows.
     fn has_passed(&self, rows: u16) -> bool
         ensures { IsTrue result → HasPassed rows (card_of self.now.seat) }
     {

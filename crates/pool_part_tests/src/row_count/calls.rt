@@ -17,7 +17,7 @@ const SIZES: [(u16, u16, u32, Option<RowFault>); 6] = [
     (16_383, 1, 524_289, Some(RowFault::TooManyWaiters)),
 ];
 
-// The seats are numbered from 0 on, each has its credits, and such a count ends at one word.
+/// The seats are numbered from 0 on, each has its credits, and such a count ends at one word.
 #[test]
 fn counts_with_rows_are_made_and_closed(rt: HostRuntime) {
     for (waiters, notifiers, credits, fault) in SIZES {
@@ -44,7 +44,7 @@ fn counts_with_rows_are_made_and_closed(rt: HostRuntime) {
     }
 }
 
-// A count of one waiter and one notifier, of two rows, with a credit each.
+/// A count of one waiter and one notifier, of two rows, with a credit each.
 fn pair<R: Abort>(rt: &R, alloc: Global) -> (RowCount, Seat, Seat)
     ensures rows { (row_sizes_of result.0).rows ≡ 2 }
     ensures seats { seats_of result.0 ≡ 2 }
@@ -72,7 +72,7 @@ fn pair<R: Abort>(rt: &R, alloc: Global) -> (RowCount, Seat, Seat)
     (count, waiter, notifier)
 }
 
-// A job takes the notifier's credit, its end gives the waiter one, and that is lent back.
+/// A job takes the notifier's credit, its end gives the waiter one, and that is lent back.
 #[test]
 fn a_credit_goes_round(rt: HostRuntime) {
     let (count, mut waiter, mut notifier) = pair(&rt, rt.alloc());
@@ -102,8 +102,8 @@ fn a_credit_goes_round(rt: HostRuntime) {
     assert!(rt; count.close(seats) == 0x3FFF);
 }
 
-// One seat publishes jobs that another takes, which puts its credits into the bank. As many come out
-// as went in, and so two are enough for any number of jobs. Nobody else has any then.
+/// One seat publishes jobs that another takes, which puts its credits into the bank. As many come out
+/// as went in, and so two are enough for any number of jobs. Nobody else has any then.
 #[test]
 fn credits_flow_back(rt: HostRuntime) {
     let (count, mut waiter, mut notifier) = pair(&rt, rt.alloc());
@@ -128,7 +128,7 @@ fn credits_flow_back(rt: HostRuntime) {
     assert!(rt; count.withdraw(&mut notifier) == 1 && notifier.credits() == 2);
 }
 
-// A waiter that has passed all takes the signal of a job that comes then, and finds the stop.
+/// A waiter that has passed all takes the signal of a job that comes then, and finds the stop.
 #[test]
 fn a_job_and_a_stop_behind_a_pass(rt: HostRuntime) {
     let (count, mut waiter, mut notifier) = pair(&rt, rt.alloc());

@@ -49,7 +49,7 @@ fn event_of(word: u32, rows: u16, taken: u64) -> Event
     }
 }
 
-// One run from a count on which nothing was done, and how many events it had.
+/// One run from a count on which nothing was done, and how many events it had.
 fn run<R: Abort>(rt: &R, alloc: Global, rows: u16, words: &mut Lcg64Xsh32) -> u64
     requires rows { 0 < rows }
 {

@@ -11,7 +11,7 @@ use std::sync::Wait;
 use std::sync::atomic::{AtomicU64, Ordering};
 use std::thread::{self, Threads};
 
-// Sleeps until the count is stopped, and tells before each sleep.
+/// Sleeps until the count is stopped, and tells before each sleep.
 fn sleep_on<R: Wait + Abort>(rt: &R, count: &RowCount, seat: &mut Seat, waits: &AtomicU64)
     requires of { IsSeatOf count.now seat.old }
     requires waiters { (row_sizes_of count.now).waiters ≡ CONSUMERS }
@@ -28,7 +28,7 @@ fn sleep_on<R: Wait + Abort>(rt: &R, count: &RowCount, seat: &mut Seat, waits: &
     }
 }
 
-// Stops the count once each waiter has begun to wait and none is between its prewait and its push.
+/// Stops the count once each waiter has begun to wait and none is between its prewait and its push.
 fn stop_all<R: Wait + Abort>(rt: &R, count: &RowCount, seat: &mut Seat, waits: &AtomicU64)
     requires of { IsSeatOf count.now seat.old }
     requires idle { IsIdle seat.old }
@@ -47,7 +47,7 @@ fn stop_all<R: Wait + Abort>(rt: &R, count: &RowCount, seat: &mut Seat, waits: &
     count.notify_all(rt, seat);
 }
 
-// All of them, each on a thread of its own.
+/// All of them, each on a thread of its own.
 fn play<R: Threads + Wait + Abort + Sync>(
     rt: &R,
     count: &RowCount,

@@ -171,7 +171,7 @@ const STORIES: [Story; 5] = [
     },
 ];
 
-// Both sides take a move: whether it is as it says.
+/// Both sides take a move: whether it is as it says.
 fn replay_move<R: Abort>(
     rt: &R,
     world: &mut World,
@@ -209,7 +209,7 @@ fn replay_move<R: Abort>(
     }
 }
 
-// Replays a story, and stops where it goes otherwise.
+/// Replays a story, and stops where it goes otherwise.
 fn replay<R: Abort>(rt: &R, alloc: Global, story: &Story) {
     let sizes = story.sizes;
     assert!(rt; sizes.workers > 0 && sizes.workers <= 16_381);

@@ -71,7 +71,7 @@ struct Shared<K: At> {
     left: AtomicU64,
 }
 
-// Publishes a job, once there is a credit, and notifies one.
+/// Publishes a job, once there is a credit, and notifies one.
 fn put<K: At, R: Wait + Abort>(
     rt: &R,
     count: &RowCount,
@@ -105,7 +105,7 @@ fn put<K: At, R: Wait + Abort>(
     count.notify(rt, seat);
 }
 
-// Takes a job, if there is one, and gives the credit back.
+/// Takes a job, if there is one, and gives the credit back.
 fn take<K: At, R: Wait + Abort>(
     rt: &R,
     count: &RowCount,
@@ -166,7 +166,7 @@ pub(crate) fn wait<R: Wait + Abort>(rt: &R, count: &RowCount, seat: &mut Seat) -
     }
 }
 
-// Takes jobs until the count is stopped and none is left.
+/// Takes jobs until the count is stopped and none is left.
 fn consume<K: At, R: Wait + Abort>(rt: &R, count: &RowCount, seat: &mut Seat, shared: &Shared<K>)
     requires here { row_count_id count.now ≡ K.count }
     requires of { IsSeatOf count.now seat.old }
@@ -189,7 +189,7 @@ fn consume<K: At, R: Wait + Abort>(rt: &R, count: &RowCount, seat: &mut Seat, sh
     }
 }
 
-// Publishes its jobs. The last producer stops the count.
+/// Publishes its jobs. The last producer stops the count.
 fn produce<K: At, R: Wait + Abort>(rt: &R, count: &RowCount, seat: &mut Seat, shared: &Shared<K>)
     requires here { row_count_id count.now ≡ K.count }
     requires of { IsSeatOf count.now seat.old }
@@ -211,7 +211,7 @@ fn produce<K: At, R: Wait + Abort>(rt: &R, count: &RowCount, seat: &mut Seat, sh
     }
 }
 
-// Consumers and producers, each on a thread of its own.
+/// Consumers and producers, each on a thread of its own.
 fn play<K: At + Sync + Send, R: Threads + Wait + Abort + Sync>(
     rt: &R,
     count: &RowCount,
@@ -274,7 +274,7 @@ pub(crate) fn open<R: Abort>(rt: &R, alloc: Global) -> (RowCount, Vec<Seat>)
     (count, seats)
 }
 
-// Jobs go from producers to consumers over a new queue of the count.
+/// Jobs go from producers to consumers over a new queue of the count.
 fn jobs_go_through<K: At + Sync + Send, R: Threads + Wait + Abort + Sync>(
     rt: &R,
     alloc: Global,
@@ -307,7 +307,7 @@ fn jobs_go_through<K: At + Sync + Send, R: Threads + Wait + Abort + Sync>(
     assert!(rt; is_once && count.close(seats) == 0x3FFF);
 }
 
-// The calls name the count by a type.
+/// The calls name the count by a type.
 fn named<R: Threads + Wait + Abort + Sync>(rt: &R, alloc: Global, count: RowCount, seats: Vec<Seat>)
     requires of { All (IsSeatOf count) seats.items }
     requires waiters { (row_sizes_of count).waiters ≡ CONSUMERS }

@@ -30,7 +30,7 @@ impl<J: Drop, A: Allocator, F: Contents<J>> SlotRows<J, A, F> {
         self.close_with(&mut seats)
     }
 
-    // The same, and the seats are taken out of the list.
+    /// The same, and the seats are taken out of the list.
     pub(crate) fn close_with(self, seats: &mut Vec<SlotSeat<J>, A>) -> Vec<J, A>
         requires ours { All (λ s. table_of s ≡ rows_id self) seats.old.items }
         requires all { length seats.old.items ≡ seat_count_of self }
@@ -46,7 +46,7 @@ impl<J: Drop, A: Allocator, F: Contents<J>> SlotRows<J, A, F> {
     }
 }
 
-// A seat with no account takes in the seats, the last first.
+/// A seat with no account takes in the seats, the last first.
 fn gather<J, A: Allocator, F: Contents<J>>(
     shared: &Shared<Option<J>, View<J>, RowsKey<F::Key>, Law<J, F>>,
     last: &mut Seat<Option<J>, View<J>>,
@@ -71,7 +71,7 @@ fn gather<J, A: Allocator, F: Contents<J>>(
     }
 }
 
-// Puts a slot's job to the others, where there is one.
+/// Puts a slot's job to the others, where there is one.
 fn keep<J, A: Allocator>(left: &mut Vec<J, A>, slot: Option<J>)
     requires { vec_len left.old < vec_capacity left.old }
     ensures items { left.new.items ≡ left.old.items ++ option_to_list slot }
@@ -83,7 +83,7 @@ fn keep<J, A: Allocator>(left: &mut Vec<J, A>, slot: Option<J>)
     }
 }
 
-// Takes each job out.
+/// Takes each job out.
 fn drain<J, A: Allocator>(mut closed: Closed<Option<J>, A>, left: &mut Vec<J, A>)
     requires full { IsFull closed.slots }
     requires room { vec_len left.old + slots_len closed.slots ≤ vec_capacity left.old }

@@ -84,7 +84,7 @@ impl<J: Drop, A: Allocator + Clone, F: Contents<J>> SlotRows<J, A, F> {
     }
 }
 
-// A table for so many rows with nothing in them, and its seats.
+/// A table for so many rows with nothing in them, and its seats.
 fn seated<J: Drop, A: Allocator + Clone, F: Contents<J>>(
     alloc: A,
     rows: u16,
@@ -119,7 +119,7 @@ fn seated<J: Drop, A: Allocator + Clone, F: Contents<J>>(
     Ok((table, list))
 }
 
-// So many words, each of an empty element or the length of a row with nothing in it.
+/// So many words, each of an empty element or the length of a row with nothing in it.
 fn empty_words<A: Allocator + Clone>(alloc: &A, count: usize) -> Result<Vec<u64, A>, AllocError>
     ensures { IfOk result (λ words. words.items ≡ replicate count empty_word) }
 {
@@ -128,7 +128,7 @@ fn empty_words<A: Allocator + Clone>(alloc: &A, count: usize) -> Result<Vec<u64,
     Ok(words)
 }
 
-// The backs of so many rows, each at its first position.
+/// The backs of so many rows, each at its first position.
 fn backs<A: Allocator + Clone>(alloc: &A, count: u16) -> Result<Vec<Mutex<Back>, A>, AllocError>
     ensures { IfOk result (λ backs. vec_len backs ≡ count) }
 {
@@ -139,7 +139,7 @@ fn backs<A: Allocator + Clone>(alloc: &A, count: u16) -> Result<Vec<Mutex<Back>,
     Ok(backs)
 }
 
-// One seat after another, by number.
+/// One seat after another, by number.
 fn deal<J, A: Allocator, F: Contents<J>>(
     shared: &Shared<Option<J>, View<J>, RowsKey<F::Key>, Law<J, F>>,
     mut keeper: Seat<Option<J>, View<J>>,

@@ -110,8 +110,8 @@ impl<J, A: Allocator> WakingRows<J, A> {
         Some(self.collect(&mut seat.seat, it))
     }
 
-    // Notifies one of a job that was published, and then laid into its slot or not. One that was
-    // not is handed back, and its ticket goes back first.
+    /// Notifies one of a job that was published, and then laid into its slot or not. One that was
+    /// not is handed back, and its ticket goes back first.
     fn announce<R: Wait>(
         &self,
         rt: &R,
@@ -138,7 +138,7 @@ impl<J, A: Allocator> WakingRows<J, A> {
         answer
     }
 
-    // The job of a take, whose ticket goes back, and the surplus of credits into the bank.
+    /// The job of a take, whose ticket goes back, and the surplus of credits into the bank.
     fn collect(&self, seat: &mut Seat, it: Ticketed<J>) -> J
         requires ours { seat_id seat.old ≡ count_in self.now }
         requires idle { IsIdle seat.old }
@@ -153,7 +153,7 @@ impl<J, A: Allocator> WakingRows<J, A> {
         job
     }
 
-    // The job, whose ticket goes back.
+    /// The job, whose ticket goes back.
     fn redeem(&self, seat: &mut Seat, it: Ticketed<J>) -> J
         requires ours { seat_id seat.old ≡ count_in self.now }
         requires idle { IsIdle seat.old }

@@ -21,7 +21,7 @@ const MANY: u32 = 1024;
 const KEPT: u32 = 512;
 
 impl<J, A: Allocator> WakingRows<J, A> {
-    // Before a put: a seat without a credit takes out what is in the bank, and puts the surplus back.
+    /// Before a put: a seat without a credit takes out what is in the bank, and puts the surplus back.
     pub(crate) fn fund(&self, seat: &mut Seat)
         requires ours { seat_id seat.old ≡ count_in self.now }
         requires idle { IsIdle seat.old }
@@ -40,7 +40,7 @@ impl<J, A: Allocator> WakingRows<J, A> {
         }
     }
 
-    // After a take: where the seat has many credits, its surplus goes into the bank.
+    /// After a take: where the seat has many credits, its surplus goes into the bank.
     pub(crate) fn save(&self, seat: &mut Seat)
         requires ours { seat_id seat.old ≡ count_in self.now }
         ensures ours { seat_id seat.new ≡ seat_id seat.old }

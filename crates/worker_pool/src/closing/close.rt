@@ -90,7 +90,7 @@ where
     }
 }
 
-// All workers come home, by number.
+/// All workers come home, by number.
 fn gather<J, A, W, R>(
     homes: Vec<Home<WorkerState<J, A, W, R>>, A>,
     mut gathered: Gathered<J, A, W, R>,
@@ -115,8 +115,8 @@ where
     gathered
 }
 
-// Leaves the jobs as they are where the pool was cancelled, and else runs them. So many were refused
-// before, and the answer counts those too.
+/// Leaves the jobs as they are where the pool was cancelled, and else runs them. So many were refused
+/// before, and the answer counts those too.
 fn settle<RT, J, A, R, L>(
     rt: &RT,
     alloc: &A,
@@ -146,8 +146,8 @@ where
     run_left::<_, _, _, R, L>(rt, alloc, ctx, left, outs, before)
 }
 
-// Runs the jobs one after the other, each with all its kids. So many were refused before, and the
-// answer counts those too.
+/// Runs the jobs one after the other, each with all its kids. So many were refused before, and the
+/// answer counts those too.
 fn run_left<RT, J, A, R, L>(
     rt: &RT,
     alloc: &A,

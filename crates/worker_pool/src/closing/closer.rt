@@ -24,7 +24,7 @@ impl<J, A: Allocator, R: Rows<J, A>> Passes<J> for Closer<J, A, R> {
 
     ghost takes_of = { λ _. [] };
 
-    // Each job is given back.
+    /// Each job is given back.
     fn pass<RT: Wait>(&mut self, _rt: &RT, _place: &(), job: J) -> Result<(), J> {
         Err(job)
     }

@@ -76,7 +76,7 @@ where
     Ok(open_checked::<J, A, W, R, L, O>(alloc, setup)?)
 }
 
-// A pool, of a setup that passed the check.
+/// A pool, of a setup that passed the check.
 fn open_checked<J, A, W, R, L, O>(
     alloc: A,
     setup: &Setup<A>,
@@ -107,7 +107,7 @@ where
     })
 }
 
-// A pool, what its opener works with, and the state of each worker, by number.
+/// A pool, what its opener works with, and the state of each worker, by number.
 fn open_with_states<J, A, W, R, L, O>(
     alloc: A,
     setup: &Setup<A>,
@@ -145,7 +145,7 @@ where
     Ok((pool, opener, states))
 }
 
-// A queue for so many workers and an opener, and the seats there by number: the opener's are last.
+/// A queue for so many workers and an opener, and the seats there by number: the opener's are last.
 fn open_queue<J, A, W, R, O>(
     alloc: &A,
     workers: u16,
@@ -171,7 +171,7 @@ where
     ))
 }
 
-// A pool with this queue, and the first seat at its stop word.
+/// A pool with this queue, and the first seat at its stop word.
 fn pool_of<J, A, W, R>(
     alloc: A,
     queue: JobQueue<W, R>,
@@ -198,7 +198,7 @@ where
     Ok((pool, stop_seat))
 }
 
-// What the opener works with, to whom the last seats go, and the state of each worker, by number.
+/// What the opener works with, to whom the last seats go, and the state of each worker, by number.
 fn opener_and_workers<J, A, W, R, L>(
     pool: &Pool<J, A, W, R>,
     setup: &Setup<A>,
@@ -250,7 +250,7 @@ where
     Ok((opener, states))
 }
 
-// Takes the last item off the list.
+/// Takes the last item off the list.
 fn take_last<T, A: Allocator>(list: &mut Vec<T, A>) -> T
     requires { 0 < length list.old.items }
     ensures { list.old.items ≡ list.new.items ++ result ∷ [] }
@@ -261,7 +261,7 @@ fn take_last<T, A: Allocator>(list: &mut Vec<T, A>) -> T
     last
 }
 
-// The state of each worker, by number.
+/// The state of each worker, by number.
 fn worker_states<J, A, W, R>(
     pool: &Pool<J, A, W, R>,
     setup: &Setup<A>,
@@ -303,7 +303,7 @@ where
     Ok(states)
 }
 
-// The state of the worker of this number, with its seats.
+/// The state of the worker of this number, with its seats.
 fn state_of<J, A, W, R>(
     pool: &Pool<J, A, W, R>,
     setup: &Setup<A>,

@@ -72,7 +72,7 @@ where
     end(rt, pool, caller)
 }
 
-// The caller that works with this state.
+/// The caller that works with this state.
 fn caller_of<'p, J, A, W, R, L>(
     pool: &'p Pool<J, A, W, R>,
     ctx: &'p J::Ctx,
@@ -118,7 +118,7 @@ where
     }
 }
 
-// From here on the pool is closing.
+/// From here on the pool is closing.
 fn end<RT, J, A, W, R, L>(
     rt: &RT,
     pool: &Pool<J, A, W, R>,
@@ -163,7 +163,7 @@ where
     }
 }
 
-// Calls the body with the caller.
+/// Calls the body with the caller.
 fn call<W, R, L, J, A, F>(caller: &mut Caller<'_, J, A, W, R, L>, body: F)
 where
     J: Job<A>,

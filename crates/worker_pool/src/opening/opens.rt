@@ -86,7 +86,7 @@ impl<J: Drop, A: Allocator + Clone> Opens<J, A, RowPoint<A>, WakingRows<J, A>> f
     }
 }
 
-// Rows for so many workers, and the seats there.
+/// Rows for so many workers, and the seats there.
 fn open_rows<J, A, R>(alloc: &A, workers: u16) -> Result<(R, Vec<R::Seat, A>), AllocError>
 where
     A: Allocator + Clone,
@@ -104,7 +104,7 @@ where
     }
 }
 
-// A point at which so many workers wait, and the seats there.
+/// A point at which so many workers wait, and the seats there.
 fn open_point<A, W>(alloc: &A, workers: u16) -> Result<(W, Vec<W::Seat, A>), AllocError>
 where
     A: Allocator + Clone,

@@ -119,9 +119,9 @@ where
     )
 }
 
-// Starts a worker for the last of the states, and then for the others, so that the first come home
-// first. One whose thread is refused is called all the same, once the opening has ended, so that
-// its state comes home: its number is flagged before, and tells it to do nothing.
+/// Starts a worker for the last of the states, and then for the others, so that the first come home
+/// first. One whose thread is refused is called all the same, once the opening has ended, so that
+/// its state comes home: its number is flagged before, and tells it to do nothing.
 fn start_all<'s, E, RT, X, A, S, B>(
     rt: &'s RT,
     scope: &Scope<'s, E>,

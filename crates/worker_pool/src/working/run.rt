@@ -41,8 +41,8 @@ where
     run::<_, _, _, L, _>(rt, alloc, ctx, place, passer, outs, 0, job)
 }
 
-// Takes steps until the job is done. A kid that isn't passed on is run at once. There is memory for
-// the job's out, and beside it for as many as are owed.
+/// Takes steps until the job is done. A kid that isn't passed on is run at once. There is memory for
+/// the job's out, and beside it for as many as are owed.
 fn run<RT, J, A, L, P>(
     rt: &RT,
     alloc: &A,

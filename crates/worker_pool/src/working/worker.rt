@@ -120,8 +120,8 @@ where
     unreachable!()
 }
 
-// Looks in its own row, then in those of its partition, and then in all; where it finds nothing it
-// waits. In a pool that was cancelled it looks nowhere.
+/// Looks in its own row, then in those of its partition, and then in all; where it finds nothing it
+/// waits. In a pool that was cancelled it looks nowhere.
 fn take_turn<RT, J, A, W, R>(
     rt: &RT,
     pool: &Pool<J, A, W, R>,
@@ -169,8 +169,8 @@ where
     wait(rt, pool, seats, stop, random)
 }
 
-// Says that it is about to wait, looks once more at the stop word and at all rows, and waits where
-// there is nothing to do.
+/// Says that it is about to wait, looks once more at the stop word and at all rows, and waits where
+/// there is nothing to do.
 fn wait<RT, J, A, W, R>(
     rt: &RT,
     pool: &Pool<J, A, W, R>,
@@ -219,7 +219,7 @@ where
     Turn::Again
 }
 
-// The walk over all rows that the next random word picks.
+/// The walk over all rows that the next random word picks.
 fn walk_of<J, A, W, R>(pool: &Pool<J, A, W, R>, random: &mut Lcg64Xsh32) -> Walk
 where
     A: Allocator,

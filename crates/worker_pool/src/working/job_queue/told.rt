@@ -24,7 +24,7 @@ impl<J> Told<J> {
         }
     }
 
-    // All were woken after the seat had stored what it has.
+    /// All were woken after the seat had stored what it has.
     pub(super) fn all(seat: &StopSeat<J>) -> Self
         ensures { told_of result ≡ stored_of seat.now }
     {

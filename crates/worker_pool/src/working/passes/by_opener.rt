@@ -28,7 +28,7 @@ impl<J, A: Allocator, W: WaitPoint<A>, R: Rows<J, A>> Passes<J> for OpenerSeats<
 
     ghost takes_of = { λ seats. R.takes_of seats.row };
 
-    // To the back of a row that a random word picks, where a worker was started.
+    /// To the back of a row that a random word picks, where a worker was started.
     fn pass<RT: Wait>(&mut self, rt: &RT, queue: &JobQueue<W, R>, job: J) -> Result<(), J> {
         if self.started == 0 {
             return Err(job);
@@ -40,7 +40,7 @@ impl<J, A: Allocator, W: WaitPoint<A>, R: Rows<J, A>> Passes<J> for OpenerSeats<
     }
 }
 
-// The row that stands among the rows where the word stands among the words of 32 bits.
+/// The row that stands among the rows where the word stands among the words of 32 bits.
 fn row_at(word: u32, rows: u16) -> u16
     requires { 0 < rows }
     ensures place { result ≡ place_of word rows }

@@ -26,7 +26,7 @@ impl<J, A: Allocator, W: WaitPoint<A>, R: Rows<J, A>> Passes<J> for WorkerSeats<
 
     ghost takes_of = { λ seats. R.takes_of seats.row };
 
-    // To the front of its own row.
+    /// To the front of its own row.
     fn pass<RT: Wait>(&mut self, rt: &RT, queue: &JobQueue<W, R>, job: J) -> Result<(), J> {
         self.put_front(rt, queue, job)?;
         self.wake_one(rt, queue);
