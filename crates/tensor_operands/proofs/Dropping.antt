@@ -7,22 +7,22 @@ use Rattle.std.proofs.lemmas.Nat.{div_below}
 use Rattle.std.proofs.lemmas.Simd.{map-map}
 use Rattle.tensor_shape.specs.Index.{size_of, IsIndexOf, place, index_of}
 use Rattle.tensor_shape.proofs.Places.{IsIndexOf-index_of, place-below-size_of}
-use Rattle.tensor_walks.specs.Folds.{folded, offset_at, start_at}
+use Rattle.tensor_loops.specs.Folds.{folded, offset_at, start_at}
 use Rattle.tensor_terms.specs.Movement.{is_among, scattered}
-use Rattle.tensor_operands.specs.private.Offsets.{offset_of}
+use Rattle.tensor_views.specs.Offsets.{offset_of}
 use Rattle.tensor_values.specs.Values.{value_in}
 use Rattle.tensor_terms.specs.Reduction.{are_axes, reduced}
 use Rattle.tensor_values.specs.Combining.{unit, combine}
 use Rattle.tensor_terms.specs.Woven.{among, others, dims_at, other_dims, woven}
 use Rattle.tensor_values.specs.declared.reducer.Reducer.{Reducer}
-use Rattle.tensor_walks.proofs.Folding.{folded-ext}
+use Rattle.tensor_loops.proofs.Folding.{folded-ext}
 use Rattle.tensor_terms.proofs.OtherAxes.{are_axes-among, are_axes-others, others-among}
 use Rattle.tensor_terms.proofs.Splits.{among-split, others-split, are_axes-range}
 use Rattle.tensor_terms.proofs.Splits.{size_of-dims_at-append}
-use Rattle.tensor_operands.proofs.OffsetRanges.{offset_of-append, offset_of-range}
+use Rattle.tensor_views.proofs.OffsetRanges.{offset_of-append, offset_of-range}
 use Rattle.tensor_terms.proofs.Splits.{dims_at-range}
 use Rattle.tensor_values.proofs.Factors.{some_size}
-use Rattle.tensor_operands.proofs.WovenPlaces.{place-woven}
+use Rattle.tensor_views.proofs.WovenPlaces.{place-woven}
 use Rattle.tensor_terms.proofs.Weaving.{IsIndexOf-woven}
 
 turned : (m n : ℕ) → m * n ≡ n * m

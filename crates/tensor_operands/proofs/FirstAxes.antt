@@ -6,11 +6,11 @@ use Rattle.std.proofs.lemmas.List.FromFn.{get_or-range_with_len, length-range_wi
 use Rattle.std.proofs.Math.Nat.{mod-eq_of_lt}
 use Rattle.std.specs.List.{range_with_len}
 use Rattle.tensor_shape.specs.Index.{size_of}
-use Rattle.tensor_operands.specs.private.Offsets.{offset_of, HasOffsets}
+use Rattle.tensor_views.specs.Offsets.{offset_of, HasOffsets}
 use Rattle.tensor_terms.specs.Reduction.{are_axes}
 use Rattle.tensor_terms.specs.Woven.{dims_at}
 use Rattle.tensor_terms.proofs.OtherAxes.{get_or-are_axes}
-use Rattle.tensor_operands.proofs.OffsetRanges.{offset_of-range}
+use Rattle.tensor_views.proofs.OffsetRanges.{offset_of-range}
 
 -- axes of which each is its own place are a range
 pub are_range : (axes : List ℕ) → ((i : ℕ) → i < length axes → get_or axes i 0 ≡ i)

@@ -1,18 +1,19 @@
 -- Rows of a list along a route, whose tables are led along it.
 use Rattle.std.proofs.Common.{◌≡◌, ℕ, ℤ, ◌+◌, ◌<◌, ◌≤◌, List, length, slice_index, ap, sym, subst, ◌∙◌, arith}
 use Rattle.tensor_shape.specs.Index.{size_of}
-use Rattle.tensor_operands.specs.private.Offsets.{HasTables}
+use Rattle.tensor_views.specs.Offsets.{HasTables}
 use Rattle.tensor_kernels.specs.Panels.{AreInside}
 use Rattle.tensor_values.specs.Values.{value_in}
 use Rattle.tensor_operands.specs.private.OperandRows.{IsOperand}
-use Rattle.tensor_walks.specs.Walk.{walk_size, reached, AreAllApart}
+use Rattle.tensor_views.specs.View.{walk_size, reached, AreAllApart}
 use Rattle.tensor_terms.specs.Woven.{others}
-use Rattle.tensor_walks.specs.declared.walk.Axis.{Axis}
-use Rattle.tensor_walks.proofs.Apart.{IsLed, led-sum}
-use Rattle.tensor_operands.proofs.Operands.{sum_of_tables-below, tables-operand}
+use Rattle.tensor_views.specs.declared.axis.Axis.{Axis}
+use Rattle.tensor_views.proofs.Apart.{IsLed, led-sum}
+use Rattle.tensor_operands.proofs.Operands.{tables-operand}
+use Rattle.tensor_views.proofs.OffsetTables.{sum_of_tables-below}
 use Rattle.tensor_terms.proofs.OtherAxes.{are_axes-others}
 use Rattle.tensor_terms.proofs.DimsAt.{some-dims_at}
-use Rattle.tensor_walks.proofs.Walks.{reached-start}
+use Rattle.tensor_views.proofs.Views.{reached-start}
 
 -- a table that is led along axes is led along a route that has the same
 pub IsLed-along : (start : ℕ) (axes route : List Axis) (places led : List ℕ) → axes ≡ route

@@ -1,14 +1,8 @@
-pub mod AxisLists
 pub mod Contractions
 pub mod ConvolvedRows
 pub mod Dropping
 pub mod FirstAxes
 pub mod LedRows
-pub mod Moves
-pub mod OffsetRanges
 pub mod Operands
 pub mod Outcomes
 pub mod SlidRows
-pub mod Stepping
-pub mod Steps
-pub mod WovenPlaces

@@ -9,12 +9,13 @@ use Rattle.tensor_shape.proofs.Places.{div-below}
 use Rattle.tensor_terms.specs.Convolution.{slid, convolved_dims}
 use Rattle.tensor_terms.specs.Movement.{shuffled_dims}
 use Rattle.tensor_terms.specs.Reduction.{are_axes}
-use Rattle.tensor_operands.specs.private.Stepped.{stepped, run_axes, run_width}
+use Rattle.tensor_views.specs.Stepped.{stepped}
+use Rattle.tensor_operands.specs.private.FirstRun.{run_axes, run_width}
 use Rattle.tensor_terms.proofs.Known.{IsConvolution}
 use Rattle.tensor_terms.proofs.OtherAxes.{get_or-are_axes}
 use Rattle.tensor_terms.proofs.UnderKernel.{get_or-slid_dims-le, get_or-fit_along}
 use Rattle.tensor_terms.proofs.Splits.{length-index_of}
-use Rattle.tensor_operands.proofs.Stepping.{strides_from-short, place-slid}
+use Rattle.tensor_views.proofs.Stepping.{strides_from-short, place-slid}
 use Rattle.tensor_terms.proofs.SlidIndex.{known, convolved-shape, length-result, under-below}
 
 -- so many numbers are the steps of all index lists

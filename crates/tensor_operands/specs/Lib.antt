@@ -1,4 +1,3 @@
-pub mod Axes
 pub mod Operand
 pub mod Reduced
 pub mod Slid

@@ -2,7 +2,7 @@
 use Rattle.std.specs.Prelude.{ℕ, ℤ, length}
 use Rattle.std.specs.Cow.{cow_slice_items}
 use Rattle.tensor_values.specs.Values.{value_in}
-use Rattle.tensor_walks.specs.Walk.{walk_size, reached}
+use Rattle.tensor_views.specs.View.{walk_size, reached}
 use Rattle.tensor_operands.specs.declared.operand.Operand.{Operand}
 use Rattle.tensor_operands.specs.declared.operand.Operand.TheVariants.{InOrder, Along}
 use Rattle.tensor_operands.specs.declared.operand.Routed.{Routed}

@@ -1,7 +1,7 @@
 -- What a reduction gives that was made ready.
 use Rattle.std.specs.Prelude.{ℕ, ℤ, ◌+◌, ◌*◌, length}
 use Rattle.std.specs.Cow.{cow_slice_items}
-use Rattle.tensor_walks.specs.Folds.{folded, offset_at, start_at}
+use Rattle.tensor_loops.specs.Folds.{folded, offset_at, start_at}
 use Rattle.tensor_values.specs.Values.{value_in}
 use Rattle.tensor_values.specs.Combining.{unit}
 use Rattle.tensor_values.specs.declared.reducer.Reducer.{Reducer}

@@ -1,4 +1,3 @@
 -- What private clauses and proofs of this crate cite, and no other crate.
-pub mod Offsets
+pub mod FirstRun
 pub mod OperandRows
-pub mod Stepped

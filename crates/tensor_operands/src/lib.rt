@@ -2,16 +2,13 @@
 //! of places, and what reductions, contractions and convolutions read, as rows, strips and runs.
 #![tactic(auto)]
 
-mod axes;
 mod contraction;
-mod offsets;
 mod operand;
 mod reduction;
 mod rows;
 mod slid_runs;
 mod strips;
 
-pub use axes::{moved_axes, moved_start, whole_axes};
 pub use contraction::paired_contraction;
 pub use operand::{Operand, Routed};
 pub use reduction::Reduction;

@@ -5,11 +5,12 @@ ghost use Rattle.std.specs.Prelude.{◌≡◌, ◌<◌, ◌≤◌, ℕ, length, 
 ghost use Rattle.std.specs.Cow.{cow_slice_items};
 ghost use Rattle.tensor_shape.specs.Legal.{most_elements};
 ghost use Rattle.tensor_values.specs.Values.{value_in};
-ghost use Rattle.tensor_walks.specs.Walk.{walk_size, reached};
+ghost use Rattle.tensor_views.specs.View.{walk_size, reached};
 
 use std::alloc::{AllocError, Global};
 use std::borrow::CowSlice;
-use tensor_walks::{Places, Route, picked_along};
+use tensor_loops::picked_along;
+use tensor_views::{Places, Route};
 
 /// A list that is read along a route.
 #[derive(Drop)]

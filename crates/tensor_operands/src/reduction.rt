@@ -6,16 +6,16 @@ ghost use Rattle.std.specs.Cow.{cow_slice_items};
 ghost use Rattle.std.specs.List.{range_with_len};
 ghost use Rattle.tensor_shape.specs.Index.{size_of, place, index_of};
 ghost use Rattle.tensor_shape.specs.Legal.{most_elements};
-ghost use Rattle.tensor_walks.specs.Folds.{offset_at, start_at};
+ghost use Rattle.tensor_loops.specs.Folds.{offset_at, start_at};
 ghost use Rattle.tensor_values.specs.Values.{value_in};
 
-use crate::offsets::offsets;
 use std::alloc::{AllocError, Allocator, Global};
 use std::borrow::CowSlice;
+use tensor_loops::combine_runs;
 use tensor_shape::Dims;
 use tensor_terms::{among, next_among, next_other, others, span};
 use tensor_values::Reducer;
-use tensor_walks::combine_runs;
+use tensor_views::offsets;
 
 /// A reduction over axes, made ready to be worked out by ranges of places. It is made once; all who
 /// work on ranges of it share it. The operand is seen as rows, which are the values along the axes

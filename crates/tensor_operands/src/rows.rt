@@ -13,13 +13,12 @@ ghost use Rattle.tensor_operands.specs.private.OperandRows.{IsOperand};
 ghost use Rattle.tensor_kernels.specs.Rows.{row_count, row_length, row_value};
 ghost use Rattle.tensor_operands.specs.Slid.{IsOneRow};
 
-use crate::offsets::tables;
 use crate::operand::{Operand, Routed};
 use std::alloc::{AllocError, Global};
 use std::borrow::CowSlice;
 use tensor_kernels::Rows;
 use tensor_shape::Dims;
-use tensor_walks::{are_apart, lead};
+use tensor_views::{are_apart, lead, tables};
 
 /// An operand of these dims, whose paired axes are these, in their order. Takes a number for
 /// each of its rows, and one for each value of a row. A list along a route is not stored once

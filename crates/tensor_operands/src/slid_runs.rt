@@ -6,16 +6,16 @@ ghost use Rattle.std.specs.Prelude.{IfOk, Ok};
 ghost use Rattle.std.specs.Cow.{cow_slice_items};
 ghost use Rattle.tensor_shape.specs.Index.{size_of};
 ghost use Rattle.tensor_terms.specs.Convolution.{convolved_dims};
-ghost use Rattle.tensor_operands.specs.private.Stepped.{run_axes, run_width};
+ghost use Rattle.tensor_operands.specs.private.FirstRun.{run_axes, run_width};
 ghost use Rattle.tensor_operands.specs.Slid.{IsUnderKernel};
 ghost use Rattle.tensor_kernels.specs.SlidRuns.{slid_count, slid_length, slid_value};
 
-use crate::offsets::stepped_places;
 use std::alloc::{AllocError, Global};
 use std::borrow::CowSlice;
 use tensor_kernels::SlidRuns;
 use tensor_shape::Dims;
 use tensor_terms::shuffled;
+use tensor_views::stepped_places;
 
 /// The operand of a convolution with these result dims. Takes a number for each of its runs,
 /// and one for each place of the kernel.

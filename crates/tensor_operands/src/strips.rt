@@ -13,12 +13,12 @@ ghost use Rattle.tensor_terms.specs.Woven.{dims_at};
 ghost use Rattle.tensor_operands.specs.private.OperandRows.{IsOperand};
 ghost use Rattle.tensor_kernels.specs.Strips.{strip_count, strip_length, strip_value};
 
-use crate::offsets::offsets;
 use std::alloc::{AllocError, Global};
 use std::borrow::CowSlice;
 use tensor_kernels::Strips;
 use tensor_shape::Dims;
 use tensor_terms::{others, span};
+use tensor_views::offsets;
 
 /// An operand of these dims, whose paired axes are so many first ones. Takes a number for each
 /// of its rows.

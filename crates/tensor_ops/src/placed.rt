@@ -11,9 +11,9 @@ ghost use Rattle.std.specs.Prelude.{IfOk, IfSome, OnOk, slice_index, slice_index
 ghost use Rattle.std.specs.Cow.{cow_slice_items};
 ghost use Rattle.std.specs.List.{range_with_len};
 ghost use Rattle.tensor_shape.specs.Index.{size_of};
-ghost use Rattle.tensor_walks.specs.Loops.{either_way};
+ghost use Rattle.tensor_loops.specs.Loops.{either_way};
 ghost use Rattle.tensor_ops.specs.private.Meaning.{meaning, count_of, IsSound, IsListOf, IsReadingOf};
-ghost use Rattle.tensor_walks.specs.Places.{places_of, AreBelow};
+ghost use Rattle.tensor_views.specs.Places.{places_of, AreBelow};
 ghost use Rattle.tensor_values.specs.Values.{value_in};
 ghost use Rattle.tensor_ops.specs.private.Placing.{HasValues, meaning_at};
 ghost use Rattle.tensor_values.specs.Splicing.{spliced, HaveTurns};

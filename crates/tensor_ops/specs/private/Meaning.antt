@@ -3,14 +3,14 @@ use Rattle.std.specs.Prelude.{◌≡◌, ℕ, ℤ, ◌+◌, ◌<◌, ◌≤◌, 
 use Rattle.std.specs.Coded.{×_prop, Π_prop, Unit-prop, le_prop}
 use native.Mathlib.Nat.{ℕ_set}
 use Rattle.tensor_shape.specs.Legal.{most_elements}
-use Rattle.tensor_walks.specs.Chain.{chained}
-use Rattle.tensor_walks.specs.Loops.{either_way, selected}
+use Rattle.tensor_loops.specs.Chain.{chained}
+use Rattle.tensor_loops.specs.Loops.{either_way, selected}
 use Rattle.tensor_values.specs.Values.{value_in}
 use Rattle.tensor_values.specs.Scalars.{applied}
 use Rattle.tensor_values.specs.Splicing.{spliced, HaveTurns}
-use Rattle.tensor_walks.specs.Walk.{walk_size, reached}
+use Rattle.tensor_views.specs.View.{walk_size, reached}
 use Rattle.tensor_ops.specs.declared.placed.Placed.{Placed}
-use Rattle.tensor_walks.specs.declared.walk.Reading.{Reading}
+use Rattle.tensor_views.specs.declared.view.Reading.{Reading}
 use Rattle.tensor_ops.specs.declared.placed.Placed.TheVariants.{Lent, Kept, Same}
 use Rattle.tensor_ops.specs.declared.placed.Placed.TheVariants.{Unary', Binary', Select', Walk'}
 use Rattle.tensor_ops.specs.declared.placed.Placed.TheVariants.{Spliced', Chain'}

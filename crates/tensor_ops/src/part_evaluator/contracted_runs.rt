@@ -8,7 +8,7 @@ ghost use Rattle.std.specs.List.{range_with_len};
 ghost use Rattle.tensor_shape.specs.Index.{size_of};
 ghost use Rattle.tensor_shape.specs.Legal.{most_elements};
 ghost use Rattle.tensor_kernels.specs.Contracting.{contraction_count, contraction_value};
-ghost use Rattle.tensor_walks.specs.Folds.{folded};
+ghost use Rattle.tensor_loops.specs.Folds.{folded};
 ghost use Rattle.tensor_ops.specs.private.Placing.{contraction_at};
 ghost use Rattle.tensor_ops.specs.private.Runs.{LieInRuns};
 ghost use Rattle.tensor_terms.specs.Reduction.{are_axes};

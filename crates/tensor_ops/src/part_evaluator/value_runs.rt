@@ -8,7 +8,7 @@ ghost use Rattle.std.specs.List.{range_with_len};
 ghost use Rattle.tensor_shape.specs.Index.{size_of};
 ghost use Rattle.tensor_shape.specs.Legal.{highest_rank, most_elements};
 ghost use Rattle.tensor_shape.specs.Wrap.{wrap};
-ghost use Rattle.tensor_walks.specs.Folds.{folded};
+ghost use Rattle.tensor_loops.specs.Folds.{folded};
 ghost use Rattle.tensor_ops.specs.private.Meaning.{meaning, count_of, IsSound, IsSound-prop};
 ghost use Rattle.tensor_terms.specs.Movement.{moved, moved_dims};
 ghost use Rattle.tensor_ops.specs.private.Placing.{Gives, meaning_at};

@@ -1,7 +1,7 @@
 //! Operations that read one operand again and again become a chain, for which it is read once.
 
 ghost use Rattle.std.specs.Prelude.{◌≡◌, ℕ, IfOk, IsTrue};
-ghost use Rattle.tensor_walks.specs.Loops.{either_way};
+ghost use Rattle.tensor_loops.specs.Loops.{either_way};
 ghost use Rattle.tensor_ops.specs.private.Meaning.{meaning, count_of, IsSound};
 ghost use Rattle.tensor_ops.specs.private.Placing.{IsJoined};
 

@@ -9,7 +9,7 @@ ghost use Rattle.tensor_operands.specs.Operand.{operand_at, operand_count};
 ghost use Rattle.tensor_values.specs.Values.{value_in};
 ghost use Rattle.tensor_ops.specs.private.Placing.{HasValues, meaning_at};
 ghost use Rattle.tensor_ops.specs.private.Settling.{meaning_along};
-ghost use Rattle.tensor_walks.specs.Walk.{walk_size, reached};
+ghost use Rattle.tensor_views.specs.View.{walk_size, reached};
 
 use crate::placed::Placed;
 use crate::placed::settling::{settled_over, walk_over};

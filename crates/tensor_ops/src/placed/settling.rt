@@ -4,13 +4,13 @@
 ghost use Rattle.std.specs.Prelude.{◌≡◌, ◌<◌, ◌≤◌, ◌+◌, ℕ, IfOk};
 ghost use Rattle.tensor_shape.specs.Index.{size_of};
 ghost use Rattle.tensor_shape.specs.Legal.{most_elements};
-ghost use Rattle.tensor_walks.specs.Loops.{either_way, selected};
+ghost use Rattle.tensor_loops.specs.Loops.{either_way, selected};
 ghost use Rattle.tensor_ops.specs.private.Meaning.{meaning, count_of, IsSound};
 ghost use Rattle.tensor_ops.specs.private.Placing.{Gives, IsJoined, meaning_at};
 ghost use Rattle.tensor_values.specs.Scalars.{applied};
 ghost use Rattle.tensor_ops.specs.private.Settling.{Follows, meaning_along};
 ghost use Rattle.tensor_values.specs.Splicing.{spliced, HaveTurns};
-ghost use Rattle.tensor_walks.specs.Walk.{walk_size, reached};
+ghost use Rattle.tensor_views.specs.View.{walk_size, reached};
 
 use crate::placed::Placed;
 use std::alloc::{AllocError, Global};

@@ -3,9 +3,10 @@ use Rattle.std.specs.Cow.{cow_slice_items}
 use Rattle.tensor_shape.specs.Index.{size_of}
 use Rattle.tensor_operands.specs.Operand.{routed_value}
 use Rattle.tensor_values.specs.Values.{value_in}
-use Rattle.tensor_walks.specs.Walk.{AreAllApart}
+use Rattle.tensor_views.specs.View.{AreAllApart}
 use Rattle.tensor_operands.proofs.LedRows.{IsLed-along, starts-below, offsets-below, reached-none, led-inside, led-operand}
-use Rattle.tensor_operands.proofs.Operands.{operand-made, operand-same, sum_of_tables-below, tables-operand}
+use Rattle.tensor_operands.proofs.Operands.{operand-made, operand-same, tables-operand}
+use Rattle.tensor_views.proofs.OffsetTables.{sum_of_tables-below}
 use Rattle.tensor_operands.proofs.rows.rows_along.Goals as goal
 
 pub are_apart-requires-clause-some : goal.are_apart-requires-clause-some

@@ -1,7 +1,8 @@
 use Rattle.std.proofs.Common.{ℕ, ℤ, ◌+◌, slice_index, refl, arith}
 use Rattle.std.specs.Cow.{cow_slice_items}
 use Rattle.tensor_values.specs.Values.{value_in}
-use Rattle.tensor_operands.proofs.Operands.{operand-made, sum_of_tables-below, tables-operand}
+use Rattle.tensor_operands.proofs.Operands.{operand-made, tables-operand}
+use Rattle.tensor_views.proofs.OffsetTables.{sum_of_tables-below}
 use Rattle.tensor_operands.proofs.rows.rows_in_order.Goals as goal
 
 pub new-requires-clause-inside : goal.new-requires-clause-inside

@@ -4,13 +4,14 @@ use Rattle.tensor_shape.specs.Index.{size_of, strides_from, index_of}
 use Rattle.tensor_shape.proofs.Sizes.{size_of-le-bulk_of}
 use Rattle.tensor_terms.specs.Movement.{shuffled_dims}
 use Rattle.tensor_values.specs.Values.{value_in}
-use Rattle.tensor_operands.specs.private.Stepped.{stepped, run_axes, run_width}
+use Rattle.tensor_views.specs.Stepped.{stepped}
+use Rattle.tensor_operands.specs.private.FirstRun.{run_axes, run_width}
 use Rattle.tensor_terms.proofs.Dropped.{length-axes}
 use Rattle.tensor_terms.proofs.OtherAxes.{get_or-are_axes}
 use Rattle.tensor_terms.proofs.SlidIndex.{known, length-result}
 use Rattle.tensor_operands.proofs.SlidRows.{result-short, kernel-short}
 use Rattle.tensor_operands.proofs.SlidRows.{HasSteps, runs-steps, sum_of_steps, sum_of_steps-below}
-use Rattle.tensor_operands.proofs.Stepping.{length-strides_from}
+use Rattle.tensor_views.proofs.Stepping.{length-strides_from}
 use Rattle.tensor_terms.proofs.UnderKernel.{size_of-fit_along}
 use Rattle.tensor_operands.proofs.slid_runs.runs_under_kernel.Goals as goal
 

@@ -7,8 +7,9 @@ use Rattle.tensor_values.specs.Values.{value_in}
 use Rattle.tensor_terms.specs.Reduction.{are_axes}
 use Rattle.tensor_terms.specs.Woven.{dims_at, others}
 use Rattle.tensor_operands.proofs.FirstAxes.{offsets-first}
-use Rattle.tensor_operands.proofs.Operands.{kept-others, has_tables, operand-made}
-use Rattle.tensor_operands.proofs.Operands.{sum_of_tables-woven, sum_of_tables-below}
+use Rattle.tensor_operands.proofs.Operands.{operand-made}
+use Rattle.tensor_views.proofs.OffsetTables.{kept-others, has_tables}
+use Rattle.tensor_views.proofs.OffsetTables.{sum_of_tables-woven, sum_of_tables-below}
 use Rattle.tensor_terms.proofs.OtherAxes.{are_axes-others}
 use Rattle.tensor_terms.proofs.DimsAt.{size_of-dims_at-le}
 use Rattle.tensor_operands.proofs.strips.strips_of.Goals as goal

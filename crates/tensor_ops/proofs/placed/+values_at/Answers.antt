@@ -9,16 +9,16 @@ use Rattle.std.specs.Int.{w64}
 use mir.Val.{SFits, to_z, of_z}
 use Rattle.std.specs.Cow.{cow_slice_items}
 use Rattle.std.specs.Prelude.{replicate}
-use Rattle.tensor_walks.specs.Chain.{chained}
-use Rattle.tensor_walks.specs.Loops.{either_way, selected}
+use Rattle.tensor_loops.specs.Chain.{chained}
+use Rattle.tensor_loops.specs.Loops.{either_way, selected}
 use Rattle.tensor_ops.specs.private.Meaning.{meaning, count_of, depth_of}
-use Rattle.tensor_walks.specs.Places.{places_of}
+use Rattle.tensor_views.specs.Places.{places_of}
 use Rattle.tensor_values.specs.Scalars.{applied}
 use Rattle.tensor_values.specs.Splicing.{firsts_before, seconds_before, spliced}
-use Rattle.tensor_walks.specs.Walk.{reached, walk_size, place_in}
+use Rattle.tensor_views.specs.View.{reached, walk_size, place_in}
 use Rattle.tensor_values.proofs.InTurns.{firsts-run, seconds-run, first_places-below, second_places-below, map-first_alone, map-second_alone}
 use Rattle.tensor_values.proofs.Runs.{places-applied, places-paired, places-selected, places-moved, map-constant}
-use Rattle.tensor_walks.proofs.Soundness.{reached-within}
+use Rattle.tensor_views.proofs.Soundness.{reached-within}
 use Rattle.tensor_ops.proofs.placed.+values_at.Goals as goal
 
 -- combined with what is read along a walk, or with values

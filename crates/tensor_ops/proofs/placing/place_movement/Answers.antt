@@ -1,11 +1,11 @@
 use Rattle.std.proofs.Common.{◌<◌, pos, length, refl, ap, subst, sym, ◌∙◌}
 use Rattle.tensor_shape.specs.Index.{size_of}
-use Rattle.tensor_operands.specs.Axes.{HasRank, moved_start}
+use Rattle.tensor_views.specs.Axes.{HasRank, moved_start}
 use Rattle.tensor_terms.specs.Movement.{moved}
 use Rattle.tensor_ops.specs.private.Placing.{meaning_at}
 use Rattle.tensor_terms.specs.Tree.{movement_at}
 use Rattle.tensor_ops.specs.declared.placed.Placed.TheVariants.{Same, Walk}
-use Rattle.tensor_operands.proofs.Moves.{has_rank-moved, index-moved}
+use Rattle.tensor_views.proofs.Moves.{has_rank-moved, index-moved}
 use Rattle.tensor_ops.proofs.Placings.{gives-none, gives-index, gives-other, gives-reshape, gives-walk, moved_start-few, some-of}
 use Rattle.tensor_ops.proofs.placing.place_movement.Goals as goal
 

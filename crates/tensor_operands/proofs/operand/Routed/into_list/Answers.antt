@@ -2,7 +2,7 @@ use Rattle.std.proofs.Common.{ℕ, ℤ, pos, ◌-◌, length, ap, ◌∙◌, ari
 use Rattle.std.specs.Cow.{cow_slice_items}
 use Rattle.std.proofs.lemmas.List.FromFn.{length-map-range_with_len, get_or-map-range_with_len}
 use Rattle.tensor_values.specs.Values.{value_in}
-use Rattle.tensor_walks.specs.Walk.{reached}
+use Rattle.tensor_views.specs.View.{reached}
 use Rattle.tensor_operands.proofs.operand.Routed.into_list.Goals as goal
 
 pub returns-clause-count : goal.returns-clause-count

@@ -6,12 +6,12 @@ use Rattle.std.proofs.lemmas.List.{get_or_default}
 use Rattle.std.proofs.lemmas.List.Edits.{get_or-between}
 use Rattle.std.proofs.Math.Nat.{lt_of_mul-lt-mul_right}
 use borrow.Rule.Slice.PartMut.{put_mid}
-use Rattle.tensor_walks.specs.Folds.{folded, offset_at, start_at}
+use Rattle.tensor_loops.specs.Folds.{folded, offset_at, start_at}
 use Rattle.tensor_values.specs.Values.{value_in}
 use Rattle.tensor_operands.specs.Reduced.{combined_at}
 use Rattle.tensor_values.specs.declared.reducer.Reducer.{Reducer}
 use Rattle.tensor_operands.specs.declared.reduction.Reduction.{Reduction}
-use Rattle.tensor_walks.proofs.Folding.{start_at-row}
+use Rattle.tensor_loops.proofs.Folding.{start_at-row}
 use Rattle.tensor_kernels.proofs.Parts.{length-part, length-put_mid, get_or-before, get_or-within}
 use Rattle.tensor_kernels.proofs.Parts.{get_or-after}
 use Rattle.tensor_operands.proofs.reduction.Reduction.combine_by.Goals as goal

@@ -5,7 +5,7 @@ use Rattle.std.specs.List.{filter, range_with_len}
 use Rattle.tensor_shape.specs.Index.{size_of}
 use Rattle.tensor_shape.proofs.Sizes.{size_of-le-bulk_of}
 use Rattle.tensor_terms.specs.Movement.{is_among}
-use Rattle.tensor_operands.specs.private.Offsets.{offset_of}
+use Rattle.tensor_views.specs.Offsets.{offset_of}
 use Rattle.tensor_terms.specs.Reduction.{are_axes}
 use Rattle.tensor_terms.specs.Woven.{dims_at}
 use Rattle.tensor_operands.proofs.Dropping.{kept_after, dropped_after, AreTables, size-kept}

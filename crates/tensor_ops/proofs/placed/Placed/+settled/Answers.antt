@@ -5,7 +5,7 @@ use Rattle.tensor_shape.specs.Legal.{most_elements}
 use Rattle.tensor_ops.specs.private.Meaning.{meaning, count_of, depth_of}
 use Rattle.tensor_ops.specs.private.Settling.{Follows, meaning_along}
 use Rattle.tensor_values.specs.Splicing.{spliced, HaveTurns}
-use Rattle.tensor_walks.specs.Walk.{walk_size}
+use Rattle.tensor_views.specs.View.{walk_size}
 use Rattle.tensor_values.proofs.InTurns.{turns-some}
 use Rattle.tensor_ops.proofs.Settled.{follows-spliced}
 use Rattle.tensor_ops.proofs.Settled.{CanSettle, CanLead, settle-beside}

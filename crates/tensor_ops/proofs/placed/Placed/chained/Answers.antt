@@ -1,9 +1,9 @@
 use Rattle.std.proofs.Common.{◌≡◌, ℕ, ap, sym, ◌∙◌, rules}
-use Rattle.tensor_walks.specs.Chain.{chained}
-use Rattle.tensor_walks.specs.Loops.{either_way}
+use Rattle.tensor_loops.specs.Chain.{chained}
+use Rattle.tensor_loops.specs.Loops.{either_way}
 use Rattle.tensor_ops.specs.private.Meaning.{meaning, count_of}
-use Rattle.tensor_walks.specs.declared.loops.chain.Link.{Link}
-use Rattle.tensor_walks.proofs.Chains.{chained-longer}
+use Rattle.tensor_loops.specs.declared.loops.chain.Link.{Link}
+use Rattle.tensor_loops.proofs.Chains.{chained-longer}
 use Rattle.tensor_ops.proofs.placed.Placed.chained.Goals as goal
 
 pub returns-in-Chain : goal.returns-in-Chain

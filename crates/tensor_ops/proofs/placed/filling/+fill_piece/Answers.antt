@@ -1,8 +1,8 @@
 use Rattle.std.proofs.Common.{◌≡◌, ◌+◌, ◌-◌, ◌<◌, ℕ, ℤ, pos, length, map, get_or, ap, sym, ◌∙◌, arith}
 use Rattle.std.specs.List.{range_with_len}
 use Rattle.std.proofs.lemmas.List.FromFn.{length-range_with_len, get_or-range_with_len}
-use Rattle.tensor_walks.specs.Chain.{chained}
-use Rattle.tensor_walks.specs.Loops.{either_way, selected}
+use Rattle.tensor_loops.specs.Chain.{chained}
+use Rattle.tensor_loops.specs.Loops.{either_way, selected}
 use Rattle.tensor_ops.specs.private.Meaning.{meaning}
 use Rattle.tensor_ops.proofs.Filled.{run-long, run-read}
 use Rattle.tensor_ops.proofs.placed.filling.+fill_piece.Goals as goal

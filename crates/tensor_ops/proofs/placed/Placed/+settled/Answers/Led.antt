@@ -2,11 +2,11 @@
 use Rattle.std.proofs.Common.{◌≡◌, ◌+◌, ◌<◌, ◌≤◌, ◌∙◌, ap, sym, subst, arith}
 use Rattle.std.proofs.lemmas.Result.{IfOk-weaker}
 use Rattle.tensor_shape.specs.Legal.{most_elements}
-use Rattle.tensor_walks.specs.Joining.{IsJoint}
+use Rattle.tensor_views.specs.Joining.{IsJoint}
 use Rattle.tensor_ops.specs.private.Meaning.{meaning, count_of, depth_of}
 use Rattle.tensor_ops.specs.private.Settling.{Follows, meaning_along}
 use Rattle.tensor_values.specs.Splicing.{spliced, HaveTurns}
-use Rattle.tensor_walks.specs.Walk.{walk_size, reached}
+use Rattle.tensor_views.specs.View.{walk_size, reached}
 use Rattle.tensor_values.proofs.InTurns.{turns-some}
 use Rattle.tensor_ops.proofs.Settled.{joined-takes, some-below, follows-spliced, follows-along}
 use Rattle.tensor_ops.proofs.Settled.{CanSettle, CanLead, lead-beside, settle-walked, lead-joined}
