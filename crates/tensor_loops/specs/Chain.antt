@@ -9,8 +9,8 @@ abbrev pub chained : List Link → ℤ → ℤ → ℤ
 chained [] x y = x
 chained (l ∷ rest) x y = chained rest (either_way l.operation l.turned x y) y
 
--- two readings are of equal lists, along one walk
+-- two readings are of equal lists, along one view
 pub record AreSame (first second : Reading) : Type 0 where
-  pub start : first.start ≡ second.start
-  pub axes : first.axes.now ≡ second.axes.now
+  pub start : first.view.start ≡ second.view.start
+  pub axes : first.view.axes.now ≡ second.view.axes.now
   pub list : first.list.now ≡ second.list.now

@@ -1,4 +1,4 @@
-//! Values of a list at places, and along walks.
+//! Values of a list at places, and along views.
 
 pub(crate) mod spliced;
 
@@ -8,11 +8,12 @@ ghost use Rattle.std.specs.Cow.{cow_slice_items};
 ghost use Rattle.std.specs.List.{range_with_len};
 ghost use Rattle.tensor_views.specs.Places.{places_of, AreBelow};
 ghost use Rattle.tensor_values.specs.Values.{value_in};
+ghost use Rattle.tensor_views.specs.Reading.{read_at};
 ghost use Rattle.tensor_views.specs.View.{walk_size, reached, along, steps_to};
 
 use std::alloc::{AllocError, Global};
 use std::borrow::CowSlice;
-use tensor_views::{Axis, Places, looked_up, rows_of, steps_to};
+use tensor_views::{Axis, Places, Reading, looked_up, rows_of, steps_to};
 
 /// The values of a list at places. Those of a run are lent.
 pub fn picked<'a>(
@@ -42,54 +43,48 @@ fn gathered(alloc: Global, values: &[i64], places: &[u32]) -> Result<Vec<i64>, A
     Ok(gathered)
 }
 
-/// The values of a list at the places that a walk reaches for places.
+/// The values that are read at places.
 pub fn picked_along(
     alloc: Global,
-    values: &[i64],
-    start: usize,
-    axes: &[Axis],
+    reading: Reading<'_>,
     places: &Places<'_>,
 ) -> Result<Vec<i64>, AllocError>
-    requires within { AreBelow places.now (walk_size axes.now) }
-    requires inside { (p : ℕ) → p < walk_size axes.now
-        → reached start axes.now p < length values.now }
-    requires few { length values.now < 2 ^ 32 }
-    ensures { IfOk result (λ v. v.items
-        ≡ map (λ p. value_in values.now (reached start axes.now p)) (places_of places.now)) }
+    requires within { AreBelow places.now (walk_size reading.view.axes.now) }
+    requires inside { (p : ℕ) → p < walk_size reading.view.axes.now
+        → reached reading.view.start reading.view.axes.now p < length reading.list.now }
+    requires few { length reading.list.now < 2 ^ 32 }
+    ensures { IfOk result (λ v. v.items ≡ map (read_at reading.entry) (places_of places.now)) }
 {
     match places {
-        Places::Run(first, last) => gathered_along(alloc, values, start, axes, *first, *last),
+        Places::Run(first, last) => gathered_along(alloc, reading, *first, *last),
         Places::Listed(places) => {
-            let sources = looked_up(alloc, start, axes, places)?;
-            gathered(alloc, values, &sources)
+            let sources = looked_up(alloc, reading.view, places)?;
+            gathered(alloc, reading.list, &sources)
         }
     }
 }
 
-/// The values of a list at the places that a walk reaches for a run, row by row.
+/// The values that are read at a run of places, row by row.
 fn gathered_along(
     alloc: Global,
-    values: &[i64],
-    start: usize,
-    axes: &[Axis],
+    reading: Reading<'_>,
     first: usize,
     last: usize,
 ) -> Result<Vec<i64>, AllocError>
     requires order { first ≤ last }
-    requires within { last ≤ walk_size axes.now }
-    requires inside { (p : ℕ) → p < walk_size axes.now
-        → reached start axes.now p < length values.now }
-    requires few { length values.now < 2 ^ 32 }
+    requires within { last ≤ walk_size reading.view.axes.now }
+    requires inside { (p : ℕ) → p < walk_size reading.view.axes.now
+        → reached reading.view.start reading.view.axes.now p < length reading.list.now }
+    requires few { length reading.list.now < 2 ^ 32 }
     ensures { IfOk result (λ v. v.items
-        ≡ map (λ p. value_in values.now (reached start axes.now p))
-        (range_with_len first (last - first))) }
+        ≡ map (read_at reading.entry) (range_with_len first (last - first))) }
 {
     if first == last {
         return Ok(Vec::new(alloc));
     }
-    let (axis, rows) = rows_of(alloc, start, axes, first, last)?;
+    let (axis, rows) = rows_of(alloc, reading.view, first, last)?;
     let mut gathered = Vec::with_capacity(alloc, last - first)?;
-    gather_rows(&mut gathered, values, &rows, axis, first, last)?;
+    gather_rows(&mut gathered, reading.list, &rows, axis, first, last)?;
     Ok(gathered)
 }
 

@@ -10,6 +10,7 @@ ghost use Rattle.tensor_loops.specs.Loops.{either_way, selected, CombinesRow};
 ghost use Rattle.tensor_values.specs.Scalars.{applied, is_true};
 ghost use Rattle.tensor_views.specs.View.{IsRowIn};
 
+use crate::loops::chain::Link;
 use tensor_values::{BinaryScalar, UnaryScalar, applied, combined, is_true};
 use tensor_views::{Row, steps_to};
 
@@ -38,40 +39,28 @@ pub fn apply(operation: UnaryScalar, values: &mut [i64])
 
 /// Each value becomes the operation's of it and the other list's at its place, of which the second
 /// comes first where they are turned.
-pub fn combine(operation: BinaryScalar, turned: bool, values: &mut [i64], others: &[i64])
+pub fn combine(link: Link, values: &mut [i64], others: &[i64])
     requires { length values.old ≡ length others.now }
     ensures len { length values.new ≡ length others.now }
     ensures each { (k : ℕ) → k < length others.now → slice_index_or values.new k (pos 0)
-        ≡ either_way operation turned (slice_index_or values.old k (pos 0))
+        ≡ either_way link.operation link.turned (slice_index_or values.old k (pos 0))
         (slice_index_or others.now k (pos 0)) }
 {
-    combine_row(
-        operation,
-        turned,
-        values,
-        0,
-        others,
-        Row::whole(others.len()),
-    );
+    combine_row(link, values, 0, others, Row::whole(others.len()));
 }
 
 /// Each value becomes the operation's of those of two lists at its place, of which the second comes
 /// first where they are turned.
-pub fn put_combined(
-    operation: BinaryScalar,
-    turned: bool,
-    values: &mut [i64],
-    first: &[i64],
-    second: &[i64],
-)
+pub fn put_combined(link: Link, values: &mut [i64], first: &[i64], second: &[i64])
     requires first { length values.old ≡ length first.now }
     requires second { length second.now ≡ length first.now }
     ensures len { length values.new ≡ length first.now }
     ensures each { (k : ℕ) → k < length first.now → slice_index_or values.new k (pos 0)
-        ≡ either_way operation turned (slice_index_or first.now k (pos 0))
+        ≡ either_way link.operation link.turned (slice_index_or first.now k (pos 0))
         (slice_index_or second.now k (pos 0)) }
 {
-    match operation {
+    let turned = link.turned;
+    match link.operation {
         BinaryScalar::Add => put_each(BinaryScalar::Add, turned, values, first, second),
         BinaryScalar::Sub => put_each(BinaryScalar::Sub, turned, values, first, second),
         BinaryScalar::Mul => put_each(BinaryScalar::Mul, turned, values, first, second),
@@ -90,20 +79,14 @@ pub fn put_combined(
 
 /// The values from a place on become the operation's of them and a list's along a row, of which the
 /// second comes first where they are turned.
-pub fn combine_row(
-    operation: BinaryScalar,
-    turned: bool,
-    values: &mut [i64],
-    at: usize,
-    list: &[i64],
-    row: Row,
-)
+pub fn combine_row(link: Link, values: &mut [i64], at: usize, list: &[i64], row: Row)
     requires row { IsRowIn row (length list.now) }
     requires room { at + row.count ≤ length values.old }
-    ensures { CombinesRow operation turned values.old list.now row at row.count
+    ensures { CombinesRow link.operation link.turned values.old list.now row at row.count
         values.new }
 {
-    match operation {
+    let turned = link.turned;
+    match link.operation {
         BinaryScalar::Add => combine_by_steps(BinaryScalar::Add, turned, values, at, list, row),
         BinaryScalar::Sub => combine_by_steps(BinaryScalar::Sub, turned, values, at, list, row),
         BinaryScalar::Mul => combine_by_steps(BinaryScalar::Mul, turned, values, at, list, row),
@@ -178,31 +161,25 @@ fn combine_by_steps(
     ensures { CombinesRow operation turned values.old list.now row at row.count
         values.new }
 {
+    let link = Link { operation, turned };
     match (row.axis.step, row.axis.falls) {
-        (1, false) => combine_each(operation, turned, values, at, list, row.known(1, false)),
-        (1, true) => combine_each(operation, turned, values, at, list, row.known(1, true)),
-        (0, false) => combine_each(operation, turned, values, at, list, row.known(0, false)),
-        _ => combine_each(operation, turned, values, at, list, row),
+        (1, false) => combine_each(link, values, at, list, row.known(1, false)),
+        (1, true) => combine_each(link, values, at, list, row.known(1, true)),
+        (0, false) => combine_each(link, values, at, list, row.known(0, false)),
+        _ => combine_each(link, values, at, list, row),
     }
 }
 
 #[inline(always)]
-fn combine_each(
-    operation: BinaryScalar,
-    turned: bool,
-    values: &mut [i64],
-    at: usize,
-    list: &[i64],
-    row: Row,
-)
+fn combine_each(link: Link, values: &mut [i64], at: usize, list: &[i64], row: Row)
     requires row { IsRowIn row (length list.now) }
     requires room { at + row.count ≤ length values.old }
-    ensures { CombinesRow operation turned values.old list.now row at row.count
+    ensures { CombinesRow link.operation link.turned values.old list.now row at row.count
         values.new }
 {
     for k in 0..row.count {
         let other = list[row.start + steps_to(row.axis, row.from + k) * row.axis.step];
-        values[at + k] = either_way(operation, turned, values[at + k], other);
+        values[at + k] = either_way(link, values[at + k], other);
     }
 }
 
@@ -235,20 +212,21 @@ fn put_each(
         ≡ either_way operation turned (slice_index_or first.now k (pos 0))
         (slice_index_or second.now k (pos 0)) }
 {
+    let link = Link { operation, turned };
     for place in 0..first.len() {
-        values[place] = either_way(operation, turned, first[place], second[place]);
+        values[place] = either_way(link, first[place], second[place]);
     }
 }
 
 /// The operation on two values, of which the second comes first where they are turned.
 #[inline(always)]
-fn either_way(operation: BinaryScalar, turned: bool, x: i64, y: i64) -> i64
-    ensures { result ≡ either_way operation turned x y }
+fn either_way(link: Link, x: i64, y: i64) -> i64
+    ensures { result ≡ either_way link.operation link.turned x y }
 {
-    if turned {
-        combined(operation, y, x)
+    if link.turned {
+        combined(link.operation, y, x)
     } else {
-        combined(operation, x, y)
+        combined(link.operation, x, y)
     }
 }
 

@@ -24,8 +24,8 @@ const SHORTEST_STRIP: usize = 64;
 
 /// The contraction of two operands of these dims over pairs of their axes, whose values it
 /// holds. Takes a number for each kept index list of each operand, and one for each paired one,
-/// but of these none where the rows are taken as slices. What is read along a walk is not stored, but
-/// where the rows are taken as slices or a carry along the walk comes between a row's start and its
+/// but of these none where the rows are taken as slices. What is read along a view is not stored, but
+/// where the rows are taken as slices or a carry along the view comes between a row's start and its
 /// values.
 pub fn paired_contraction<'a>(
     alloc: Global,

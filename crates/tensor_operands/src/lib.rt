@@ -10,7 +10,7 @@ mod slid_runs;
 mod strips;
 
 pub use contraction::paired_contraction;
-pub use operand::{Operand, Routed};
+pub use operand::{Operand, Viewed};
 pub use reduction::Reduction;
 pub use rows::one_row;
 pub use slid_runs::runs_under_kernel;

@@ -1,4 +1,4 @@
-//! Operands of contractions: their values in order, or a list that is read along a route, so that
+//! Operands of contractions: their values in order, or a list that is read along a view, so that
 //! what a movement reads is not stored once more.
 
 ghost use Rattle.std.specs.Prelude.{◌≡◌, ◌<◌, ◌≤◌, ℕ, length, IfOk};
@@ -10,15 +10,15 @@ ghost use Rattle.tensor_views.specs.View.{walk_size, reached};
 use std::alloc::{AllocError, Global};
 use std::borrow::CowSlice;
 use tensor_loops::picked_along;
-use tensor_views::{Places, Route};
+use tensor_views::{Places, Reading, View};
 
-/// A list that is read along a route.
+/// A list that is read along a view.
 #[derive(Drop)]
-pub struct Routed<'a> {
+pub struct Viewed<'a> {
     pub list: CowSlice<'a, i64, Global>,
-    pub route: Route,
-    ghost inside: { (p : ℕ) → p < walk_size route.axes.items
-        → reached route.start route.axes.items p < length (cow_slice_items list) },
+    pub view: View,
+    ghost inside: { (p : ℕ) → p < walk_size view.axes.items
+        → reached view.start view.axes.items p < length (cow_slice_items list) },
     ghost few: { length (cow_slice_items list) ≤ most_elements },
 }
 
@@ -27,12 +27,12 @@ pub struct Routed<'a> {
 pub enum Operand<'a> {
     /// One after the other.
     InOrder(CowSlice<'a, i64, Global>),
-    /// In a list, along a route.
-    Along(Routed<'a>),
+    /// In a list, along a view.
+    Along(Viewed<'a>),
 }
 
-impl<'a> Routed<'a> {
-    ghost use Rattle.tensor_operands.specs.Operand.{routed_count, routed_value};
+impl<'a> Viewed<'a> {
+    ghost use Rattle.tensor_operands.specs.Operand.{viewed_count, viewed_value};
 
     /// Its values one after the other, which it has so many of.
     pub fn into_list(
@@ -40,14 +40,16 @@ impl<'a> Routed<'a> {
         alloc: Global,
         count: usize,
     ) -> Result<CowSlice<'a, i64, Global>, AllocError>
-        requires { count ≡ routed_count self }
-        ensures count { IfOk result (λ v. length (cow_slice_items v) ≡ routed_count self.entry) }
-        ensures each { IfOk result (λ v. (p : ℕ) → p < routed_count self.entry
-            → value_in (cow_slice_items v) p ≡ routed_value self.entry p) }
+        requires { count ≡ viewed_count self }
+        ensures count { IfOk result (λ v. length (cow_slice_items v) ≡ viewed_count self.entry) }
+        ensures each { IfOk result (λ v. (p : ℕ) → p < viewed_count self.entry
+            → value_in (cow_slice_items v) p ≡ viewed_value self.entry p) }
     {
-        let (list, route) = (self.list.as_slice(), &self.route);
-        let places = Places::Run(0, count);
-        let values = picked_along(alloc, list, route.start, route.axes.as_slice(), &places)?;
+        let reading = Reading {
+            list: self.list.as_slice(),
+            view: self.view.as_ref(),
+        };
+        let values = picked_along(alloc, reading, &Places::Run(0, count))?;
         Ok(CowSlice::Owned(values))
     }
 }
@@ -68,7 +70,7 @@ impl<'a> Operand<'a> {
     {
         match self {
             Operand::InOrder(values) => Ok(values),
-            Operand::Along(routed) => routed.into_list(alloc, count),
+            Operand::Along(viewed) => viewed.into_list(alloc, count),
         }
     }
 }

@@ -7,21 +7,21 @@ ghost use Rattle.std.specs.Cow.{cow_slice_items};
 ghost use Rattle.tensor_shape.specs.Index.{size_of};
 ghost use Rattle.tensor_values.specs.Values.{value_in};
 ghost use Rattle.tensor_terms.specs.Reduction.{are_axes};
-ghost use Rattle.tensor_operands.specs.Operand.{operand_at, operand_count, routed_count};
-ghost use Rattle.tensor_operands.specs.Operand.{routed_value};
+ghost use Rattle.tensor_operands.specs.Operand.{operand_at, operand_count, viewed_count};
+ghost use Rattle.tensor_operands.specs.Operand.{viewed_value};
 ghost use Rattle.tensor_operands.specs.private.OperandRows.{IsOperand};
 ghost use Rattle.tensor_kernels.specs.Rows.{row_count, row_length, row_value};
 ghost use Rattle.tensor_operands.specs.Slid.{IsOneRow};
 
-use crate::operand::{Operand, Routed};
+use crate::operand::{Operand, Viewed};
 use std::alloc::{AllocError, Global};
 use std::borrow::CowSlice;
 use tensor_kernels::Rows;
 use tensor_shape::Dims;
-use tensor_views::{are_apart, lead, tables};
+use tensor_views::{ViewRef, are_apart, lead, tables};
 
 /// An operand of these dims, whose paired axes are these, in their order. Takes a number for
-/// each of its rows, and one for each value of a row. A list along a route is not stored once
+/// each of its rows, and one for each value of a row. A list along a view is not stored once
 /// more, but where a carry along it comes between a row's start and its values.
 pub(crate) fn rows_of<'a>(
     alloc: Global,
@@ -37,7 +37,7 @@ pub(crate) fn rows_of<'a>(
 {
     match operand {
         Operand::InOrder(values) => rows_in_order(alloc, dims, values, axes),
-        Operand::Along(routed) => rows_along(alloc, dims, routed, axes),
+        Operand::Along(viewed) => rows_along(alloc, dims, viewed, axes),
     }
 }
 
@@ -58,30 +58,34 @@ fn rows_in_order<'a>(
     Ok(Rows::new(values, starts, offsets))
 }
 
-/// An operand whose values lie in a list along a route, which both tables are led along: the
+/// An operand whose values lie in a list along a view, which both tables are led along: the
 /// offsets from no start, since each is added to a row's.
 fn rows_along<'a>(
     alloc: Global,
     dims: &Dims,
-    routed: Routed<'a>,
+    viewed: Viewed<'a>,
     axes: &[u64],
 ) -> Result<Rows<'a>, AllocError>
     requires axes { IsTrue (are_axes (length dims.now) axes.now) }
-    requires values { routed_count routed ≡ size_of dims.now }
+    requires values { viewed_count viewed ≡ size_of dims.now }
     ensures { IfOk result (λ rows.
         IsOperand (row_count rows) (row_length rows) (row_value rows)
-        (routed_value routed.entry) dims.now axes.now) }
+        (viewed_value viewed.entry) dims.now axes.now) }
 {
     let (mut starts, mut offsets) = tables(alloc, dims, axes)?;
-    let route = &routed.route;
+    let view = viewed.view.as_ref();
     let count = dims.size() as usize;
-    if count == 0 || !are_apart(route.axes.as_slice(), 1, &starts, &offsets) {
-        let values = routed.into_list(alloc, count)?;
+    if count == 0 || !are_apart(view.axes, 1, &starts, &offsets) {
+        let values = viewed.into_list(alloc, count)?;
         return Ok(Rows::new(values, starts, offsets));
     }
-    lead(&mut starts, route.start, route.axes.as_slice());
-    lead(&mut offsets, 0, route.axes.as_slice());
-    Ok(Rows::new(routed.list, starts, offsets))
+    let from_none = ViewRef {
+        start: 0,
+        axes: view.axes,
+    };
+    lead(&mut starts, view);
+    lead(&mut offsets, from_none);
+    Ok(Rows::new(viewed.list, starts, offsets))
 }
 
 /// One row, which has all values of these dims in their order. Takes a number for each.

@@ -1,4 +1,4 @@
--- Places that can be added up before they are led along a walk.
+-- Places that can be added up before they are led along a view.
 use Rattle.std.proofs.Common.{◌≡◌, ℕ, ◌+◌, ◌*◌, ◌/◌, ◌%◌, ◌<◌, ◌≤◌, List, [], ◌∷◌, length, slice_index, false}
 use Rattle.std.proofs.Common.{refl, ap, sym, subst, ◌∙◌, arith}
 use Rattle.std.proofs.Math.Arith.{mod-mul}
@@ -122,7 +122,7 @@ module _ (x : Axis) (rest : List Axis) (before : ℕ) (starts offsets : List ℕ
       )))
       (rw none tt)
 
--- a table led along a walk
+-- a table led along a view
 pub record IsLed (start : ℕ) (axes : List Axis) (places led : List ℕ) : Type 0 where
   pub len : length led ≡ length places
   pub each : (k : ℕ) → k < length places

@@ -1,4 +1,4 @@
--- Lists of axes, one axis after another, and walks along dims.
+-- Lists of axes, one axis after another, and views along dims.
 use Rattle.std.proofs.Common.{◌≡◌, ℕ, zero, suc, ◌+◌, ◌*◌, ◌/◌, ◌%◌, ◌<◌, ◌≤◌, min, max, List, [], ◌∷◌, length, get_or, drop, Bool, true, false, not, ◌&&◌, nat_eq}
 use Rattle.std.proofs.Common.{refl, ap, arith, add-one}
 use Rattle.std.proofs.lemmas.Bool.{and_parts, and_from, eqb-true, eq-eqb, not-true}
@@ -103,7 +103,7 @@ along-at (a ∷ axes) [] k along within = absurd (omega arith)
 along-at (a ∷ axes) (d ∷ ds) zero along within = (along-first a axes d ds along).0
 along-at (a ∷ axes) (d ∷ ds) (suc k) along within = along-at axes ds k (along-first a axes d ds along).1 (omega arith)
 
--- a walk along dims has their places, and reaches each by the steps of its index list
+-- a view along dims has their places, and reaches each by the steps of its index list
 pub walk_size-along : (axes : List Axis) (ds : List ℕ) → are_along axes ds ≡ true → walk_size axes ≡ size_of ds
 walk_size-along [] [] along = refl
 walk_size-along [] (d ∷ ds) along = (cc)

@@ -1,4 +1,4 @@
--- Movements by their axes: the place that a walk reaches is that of the index list that the movement reads.
+-- Movements by their axes: the place that a view reaches is that of the index list that the movement reads.
 use Rattle.std.proofs.Common.{◌≡◌, ℕ, zero, suc, ◌+◌, ◌*◌, ◌/◌, ◌%◌, ◌<◌, ◌≤◌, List, [], ◌∷◌, length, get_or, set, Bool, true, not, nat_lt, nat_le, min, Ok, IsOk, inl, inr}
 use Rattle.std.proofs.Common.{refl, ap, sym, ◌∙◌, arith}
 use Rattle.std.specs.Prelude.{insert, remove}
@@ -39,7 +39,7 @@ by_steps-set (a ∷ axes) (j ∷ js) (suc k) i within long none =
     omega (arith, rest)
 
 module _ (axes : List Axis) (ds : List ℕ) (along : are_along axes ds ≡ true) where
-  -- a shuffle's walk
+  -- a shuffle's view
   reached-shuffle : (order : List ℕ) (p : ℕ) → are_below order (length ds) ≡ true → are_distinct order ≡ true
       → reached 0 (shuffled_axes axes order) p ≡ by_steps axes (scattered order (index_of (shuffled_dims ds order) p) (zeros ds))
   reached-shuffle [] p within once = sym (by_steps-zeros axes ds)
@@ -67,7 +67,7 @@ module _ (axes : List Axis) (ds : List ℕ) (along : are_along axes ds ≡ true)
       let at = along-at axes ds s along (ltb-true s (length ds) below.0) in
       rw (at.size, walk_size-shuffle ss below.1) refl
 
--- a broadcast's walk
+-- a broadcast's view
 walk_size-broadcast : (axes : List Axis) (ds cs : List ℕ) → are_along axes ds ≡ true
     → walk_size (repeated_axes axes cs) ≡ size_of (repeated_dims ds cs)
 walk_size-broadcast [] [] cs along = refl
@@ -91,7 +91,7 @@ reached-broadcast (a ∷ axes) (d ∷ ds) (c ∷ cs) p along same =
     let remainder : p % (d * c) % d ≡ p % d = mod-mod_of_dvd d p (dvd-mul_right d c) in
     rw (parts.0.size, parts.0.rises, remainder, ← quotient) (omega (arith, rest))
 
--- a slice's walk
+-- a slice's view
 walk_size-slice : (axes : List Axis) (es : List ℕ) → length es ≡ length axes → walk_size (cut_axes axes es) ≡ size_of es
 walk_size-slice [] [] same = refl
 walk_size-slice [] (e ∷ es) same = absurd (omega arith)
@@ -110,7 +110,7 @@ reached-slice (a ∷ axes) (o ∷ os) (e ∷ es) p long_os long_es =
     let rest = reached-slice axes os es (p / e) (omega arith) (omega arith) in
     omega (arith, rest, mul-offset (p % e) o a.step)
 
--- a chip's walk
+-- a chip's view
 walk_size-chip : (axes : List Axis) (ds : List ℕ) (k : ℕ) → are_along axes ds ≡ true
     → walk_size (remove axes k) ≡ size_of (remove ds k)
 walk_size-chip [] [] zero along = refl
@@ -134,7 +134,7 @@ reached-chip (a ∷ axes) (d ∷ ds) o (suc k) p along within =
     let rest = reached-chip axes ds o k (p / d) parts.1 (omega arith) in
     omega (arith, rest, reached-rising a (remove axes k) d p parts.0)
 
--- a reverse's walk
+-- a reverse's view
 walk_size-reverse : (axes : List Axis) (ds : List ℕ) (fs : List Bool) → are_along axes ds ≡ true → length fs ≡ length ds
     → walk_size (turned_axes axes fs) ≡ size_of ds
 walk_size-reverse [] [] fs along same = refl
@@ -157,7 +157,7 @@ reached-reverse (a ∷ axes) (d ∷ ds) (f ∷ fs) p along same =
     let rest = reached-reverse axes ds fs (p / d) parts.1 (omega arith) in
     rw (parts.0.size) (omega (arith, rest))
 
--- a stride's walk
+-- a stride's view
 walk_size-stride : (axes : List Axis) (ds ss : List ℕ) → are_along axes ds ≡ true → length ss ≡ length ds
     → walk_size (strided_axes axes ss) ≡ size_of (strided_dims ds ss)
 walk_size-stride [] [] ss along same = refl
@@ -209,7 +209,7 @@ has_result r rs h = rw h refl
 one_result : (r : Shaped) (known rs : List ℕ) → r ≡ Ok known → r ≡ Ok rs → known ≡ rs
 one_result r known rs first second = (cc)
 
--- any movement's walk
+-- any movement's view
 module _ (axes : List Axis) (ds rs : List ℕ) (along : are_along axes ds ≡ true) where
   pub walk_size-moved : (m : Movement) → moved_dims highest_rank m ds ≡ Ok rs → walk_size (moved_axes m axes) ≡ size_of rs
   walk_size-moved (broadcast counts) h =
@@ -314,7 +314,7 @@ module _ (axes : List Axis) (ds rs : List ℕ) (along : are_along axes ds ≡ tr
   pub index-moved : (m : Movement) (index : List ℕ) → moved_dims highest_rank m ds ≡ Ok rs → IsIndexOf rs index → IsIndexOf ds (moved m ds index)
   index-moved m index h is_index = IsIndexOf-moved m ds rs index h is_index
 
-  -- a walk starts no further than a place that it reaches
+  -- a view starts no further than a place that it reaches
   pub moved_start-below : (m : Movement) (start limit : ℕ) → moved_dims highest_rank m ds ≡ Ok rs → 0 < size_of rs
       → start + by_steps axes (moved m ds (index_of rs 0)) < limit → moved_start m start axes < limit
   moved_start-below m start limit h some below =

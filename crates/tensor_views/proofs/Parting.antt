@@ -1,4 +1,4 @@
--- Axes in parts: a walk along them reaches the same places.
+-- Axes in parts: a view along them reaches the same places.
 use Rattle.std.proofs.Common.{◌≡◌, ℕ, zero, suc, ◌+◌, ◌-◌, ◌*◌, ◌/◌, ◌%◌, ◌<◌, ◌≤◌, List, [], ◌∷◌, length, drop, get_or, Bool, true, false, nat_eq, nat_lt}
 use Rattle.std.proofs.Common.{refl, ap, sym, ◌∙◌, arith, inl, inr, add-one}
 use Rattle.std.proofs.Math.Seq.{drop-cons}

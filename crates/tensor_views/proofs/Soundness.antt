@@ -1,4 +1,4 @@
--- What a placed expression is asked for is there.
+-- Places that are asked for are there.
 use Rattle.std.proofs.Common.{ℕ, ◌-◌, ◌<◌, length, map, get_or, arith}
 use Rattle.std.proofs.lemmas.List.{length-map, get_or-map}
 use Rattle.std.proofs.lemmas.List.FromFn.{get_or-range_with_len, length-range_with_len}
@@ -14,7 +14,7 @@ places-within (Run first last) n k below h =
     omega (arith, at, below.0, below.1)
 places-within (Listed places) n k below h = below k h
 
--- so are those that a walk reaches
+-- so are those that a view reaches
 pub reached-within : (m : ℕ → ℕ) (places : Places) (n limit k : ℕ) → AreBelow places n → ((p : ℕ) → p < n → m p < limit)
     → k < length (map m (places_of places)) → get_or (map m (places_of places)) k 0 < limit
 reached-within m places n limit k below walk h =

@@ -1,4 +1,4 @@
--- A place of a walk along an axis and slower ones: its row is in the slower walk and starts within
+-- A place of a view along an axis and slower ones: its row is in the slower view and starts within
 -- bounds, and from there the place is reached.
 use Rattle.std.proofs.Common.{◌≡◌, ◌<◌, ◌/◌, ◌%◌, ◌*◌, ◌+◌, ◌-◌, ◌^◌, List, [], ◌∷◌, ℕ, length}
 use Rattle.std.proofs.Common.{Some, slice_index, ap, ◌∙◌, arith}

@@ -1,4 +1,4 @@
--- Walks along their first axis.
+-- Views along their first axis.
 use Rattle.std.proofs.Common.{◌≡◌, ℕ, ◌+◌, ◌-◌, ◌*◌, ◌/◌, ◌%◌, ◌<◌, ◌≤◌, List, [], ◌∷◌, length, map, get_or, refl, ap, ◌∙◌, arith}
 use Rattle.std.proofs.Common.{inl, inr}
 use Rattle.std.proofs.lemmas.Bool.{cases_Bool}
@@ -92,13 +92,13 @@ module _ (start : ℕ) (a : Axis) (rest : List Axis) where
   pub reached-row : (q i : ℕ) → i < a.size → reached start (a ∷ rest) (i + a.size * q) ≡ reached start rest q + steps_to a i * a.step
   reached-row q i below = rw (row-of_row a.size q i below, index-of_row a.size q i below) refl
 
-  -- a place in the walk has its row in the slower axes
+  -- a place in the view has its row in the slower axes
   pub row-within : (p : ℕ) → p < walk_size (a ∷ rest) → (0 < a.size) × (p / a.size < walk_size rest)
   row-within p below =
       let some : 0 < a.size = some_size a.size (walk_size rest) p below in
       (some, (div-lt_iff_lt-mul {k = a.size} {x = p} {y = walk_size rest} some).1 (omega arith))
 
-  -- a row of the slower axes begins in the walk
+  -- a row of the slower axes begins in the view
   pub row-begins : (q : ℕ) → 0 < a.size → q < walk_size rest → a.size * q < walk_size (a ∷ rest)
   row-begins q some below = omega (arith, mul-lt q (walk_size rest) a.size some below)
 
@@ -134,7 +134,7 @@ module _ (start : ℕ) (a : Axis) (rest : List Axis) where
         let all : first / a.size + ((last - 1) / a.size + 1 - first / a.size) ≡ 0 + ((last - 1) / a.size + 1) = omega (arith, rows-order) in
         rw all (omega (arith, mul-next a.size 0 ((last - 1) / a.size), mod-add-div (last - 1) a.size, mod-lt (last - 1) some))
 
-    -- along the rows the walk's places are reached
+    -- along the rows the view's places are reached
     pub along-reached : (p : ℕ) → first ≤ p → p < last
         → along (map (reached start rest) (range_with_len (first / a.size) ((last - 1) / a.size + 1 - first / a.size))) a first p ≡ reached start (a ∷ rest) p
     along-reached p above below =

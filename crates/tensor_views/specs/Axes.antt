@@ -1,4 +1,4 @@
--- The axes of a walk, and what a movement makes of them.
+-- The axes of a view, and what a movement makes of them.
 use Rattle.std.specs.Prelude.{◌≡◌, ℕ, ◌+◌, ◌*◌, ◌<◌, List, [], ◌∷◌, length, map}
 use Rattle.std.specs.Prelude.{slice_index, slice_index_or, remove, min}
 use Rattle.std.specs.Int.{div_ceil}
@@ -81,7 +81,7 @@ moved_axes (chip offset axis) axes = remove axes axis
 moved_axes (reverse flags) axes = turned_axes axes flags
 moved_axes (stride steps) axes = strided_axes axes steps
 
--- where the walk of a movement starts, from where that of its operand does
+-- where the view of a movement starts, from where that of its operand does
 abbrev pub moved_start : Movement → ℕ → List Axis → ℕ
 moved_start (broadcast counts) start axes = start
 moved_start (slice offsets extents) start axes = start + by_steps axes offsets

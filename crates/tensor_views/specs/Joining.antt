@@ -1,4 +1,4 @@
--- Two walks, one over the places of the other, as one walk.
+-- Two views, one over the places of the other, as one view.
 use Rattle.std.specs.Prelude.{◌≡◌, ℕ, ◌+◌, ◌-◌, ◌*◌, ◌/◌, ◌%◌, ◌<◌, List, [], ◌∷◌}
 use Rattle.std.specs.Prelude.{Bool, not, ◌&&◌, nat_eq, nat_lt, if◌then◌else◌}
 use Rattle.tensor_views.specs.Rising.{rising}
@@ -77,7 +77,7 @@ extent_along first (Open a ∷ rest) =
     else extent_along first rest
 extent_along first (Led a ∷ rest) = extent_along first rest
 
--- a walk that reaches, at each place, what another one reaches where a first one leads
+-- a view that reaches, at each place, what another one reaches where a first one leads
 pub record IsJoint (start : ℕ) (axes : List Axis) (from : ℕ) (first : List Axis)
     (onto : ℕ) (second : List Axis) : Type 0 where
   pub size : walk_size axes ≡ walk_size first

@@ -1,4 +1,4 @@
-//! Walks joined: a walk over the places of another one, as one walk. Each axis of the first is led
+//! Views joined: a view over the places of another one, as one view. Each axis of the first is led
 //! along an axis of the second, by steps that together stay within it.
 
 ghost use Rattle.std.specs.Prelude.{◌≡◌, ◌<◌, ◌+◌, ◌-◌, ◌*◌, ◌^◌, [], ◌∷◌, map};
@@ -9,10 +9,10 @@ ghost use Rattle.tensor_views.specs.Joining.{opened, led_axis};
 ghost use Rattle.tensor_views.specs.View.{walk_size};
 
 use crate::axis::Axis;
-use crate::view::Route;
+use crate::view::{View, ViewRef};
 use std::alloc::{AllocError, Global};
 
-/// An axis of the first walk, on its way along the axes of the second.
+/// An axis of the first view, on its way along the axes of the second.
 #[derive(Clone, Copy, Drop)]
 pub(crate) enum Strand {
     /// Its steps are among the places that are left.
@@ -21,39 +21,36 @@ pub(crate) enum Strand {
     Led(Axis),
 }
 
-/// A walk over the places of a second one, as one walk, where each of its axes goes along one axis
-/// of the second, or along several in whole turns.
-pub fn joined(
-    alloc: Global,
-    first: &Route,
-    start: usize,
-    second: &[Axis],
-) -> Result<Option<Route>, AllocError>
-    requires some { 0 < walk_size second.now }
-    requires few { walk_size second.now < 2 ^ 32 }
-    requires first { first.now.start + span first.now.axes.items < 2 ^ 32 }
-    requires second { start + span second.now < 2 ^ 32 }
-    ensures { IfOk result (λ r. IfSome r (λ route. IsJoint route.start route.axes.items
-        first.now.start first.now.axes.items start second.now)) }
-{
-    let axes = refined(alloc, &first.axes, second)?;
-    let mut strands = open(alloc, &axes)?;
-    let mut left = first.start;
-    let mut place = start;
-    for axis in second {
-        let low = left % axis.size;
-        let extent = extent_along(*axis, &strands);
-        if axis.size <= low + extent {
-            return Ok(None);
+impl ViewRef<'_> {
+    /// A view over the places of a second one, as one view, where each of its axes goes along one
+    /// axis of the second, or along several in whole turns.
+    pub fn then(self, alloc: Global, second: ViewRef<'_>) -> Result<Option<View>, AllocError>
+        requires some { 0 < walk_size second.axes.now }
+        requires few { walk_size second.axes.now < 2 ^ 32 }
+        requires first { self.start + span self.axes.now < 2 ^ 32 }
+        requires second { second.start + span second.axes.now < 2 ^ 32 }
+        ensures { IfOk result (λ r. IfSome r (λ view. IsJoint view.start view.axes.items
+            self.entry.start self.entry.axes.now second.entry.start second.entry.axes.now)) }
+    {
+        let axes = refined(alloc, self.axes, second.axes)?;
+        let mut strands = open(alloc, &axes)?;
+        let mut left = self.start;
+        let mut place = second.start;
+        for axis in second.axes {
+            let low = left % axis.size;
+            let extent = extent_along(*axis, &strands);
+            if axis.size <= low + extent {
+                return Ok(None);
+            }
+            place += first_step(*axis, low, low + extent) * axis.step;
+            strands = all_passed(alloc, *axis, &strands)?;
+            left /= axis.size;
         }
-        place += first_step(*axis, low, low + extent) * axis.step;
-        strands = all_passed(alloc, *axis, &strands)?;
-        left /= axis.size;
+        Ok(Some(View {
+            start: place,
+            axes: led_axes(alloc, &strands)?,
+        }))
     }
-    Ok(Some(Route {
-        start: place,
-        axes: led_axes(alloc, &strands)?,
-    }))
 }
 
 /// How many steps of an axis its places from low to high are from its start, at least.
@@ -68,7 +65,7 @@ fn first_step(axis: Axis, low: usize, high: usize) -> usize
     }
 }
 
-/// Axes that reach the same places, of which none goes past an axis of the second walk where it
+/// Axes that reach the same places, of which none goes past an axis of the second view where it
 /// can be two that don't.
 fn refined(alloc: Global, axes: &[Axis], second: &[Axis]) -> Result<Vec<Axis>, AllocError>
     requires some { 0 < walk_size second.now }

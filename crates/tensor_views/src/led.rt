@@ -1,4 +1,4 @@
-//! Tables of places, of which each of one is added to each of another, led along a walk: where no
+//! Tables of places, of which each of one is added to each of another, led along a view: where no
 //! carry comes between them, what is added up is led as well.
 
 ghost use Rattle.std.specs.Prelude.{◌≡◌, ◌<◌, ◌≤◌, ◌+◌, ◌*◌, ◌%◌, ◌^◌, ℕ, length, slice_index};
@@ -7,6 +7,7 @@ ghost use Rattle.tensor_views.specs.View.{walk_size, reached, AreAllApart};
 
 use crate::axis::{Axis, along_axis};
 use crate::listed_places::{first_axis, row_of, row_with};
+use crate::view::ViewRef;
 
 /// Whether the places of two tables, by so many each, can be added up with no carry along the axes,
 /// of which none falls: what is left of them within the first axes, added up, stays within these.
@@ -73,26 +74,32 @@ fn next_rest(last: usize, rest: usize, place: usize, span: usize) -> usize
     place % span
 }
 
-/// The places become those that a walk reaches for them. A division a place; where one isn't in the
+/// The places become those that a view reaches for them. A division a place; where one isn't in the
 /// row of the second axis that the last one was in, another for each axis.
-pub fn lead(places: &mut Vec<usize>, start: usize, axes: &[Axis])
+pub fn lead(places: &mut Vec<usize>, view: ViewRef<'_>)
     requires within { (k : ℕ) → k < length places.old.items
-        → slice_index places.old.items k < walk_size axes.now }
-    requires fits { (p : ℕ) → p < walk_size axes.now → reached start axes.now p < 2 ^ 32 }
+        → slice_index places.old.items k < walk_size view.axes.now }
+    requires fits { (p : ℕ) → p < walk_size view.axes.now
+        → reached view.start view.axes.now p < 2 ^ 32 }
     ensures len { length places.new.items ≡ length places.old.items }
     ensures each { (k : ℕ) → k < length places.old.items
-        → slice_index places.new.items k ≡ reached start axes.now (slice_index places.old.items k) }
+        → slice_index places.new.items k
+        ≡ reached view.entry.start view.entry.axes.now (slice_index places.old.items k) }
 {
     let Some(first) = places.first() else {
         return;
     };
-    let (axis, others) = first_axis(axes);
+    let (axis, others) = first_axis(view.axes);
     let (second, slower) = first_axis(others);
-    let mut row = row_of(start, second, slower, *first / axis.size);
+    let slower = ViewRef {
+        start: view.start,
+        axes: slower,
+    };
+    let mut row = row_of(second, slower, *first / axis.size);
     for k in 0..places.len() {
         let place = places[k];
         let rest = place / axis.size;
-        row = row_with(row, start, second, slower, rest);
+        row = row_with(row, second, slower, rest);
         let reached = along_axis(row.start, second, rest - row.first);
         places[k] = along_axis(reached, axis, place % axis.size);
     }

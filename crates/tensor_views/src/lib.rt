@@ -22,12 +22,10 @@ mod run_places;
 mod view;
 
 pub use axis::{Axis, steps_to};
-pub use joining::joined;
 pub use led::{are_apart, lead};
 pub use listed_places::looked_up;
-pub use movements::{moved_axes, moved_start, whole_axes};
 pub use offset_tables::{offsets, stepped_places, tables};
 pub use places::Places;
 pub use row::Row;
 pub use run_places::rows_of;
-pub use view::{Reading, Route, places_along, sources};
+pub use view::{Reading, View, ViewRef};

@@ -1,4 +1,4 @@
-//! The axes of walks: those of whole dims, and what a movement makes of an operand's.
+//! Views of whole dims, and what a movement makes of one.
 
 ghost use Rattle.std.specs.Prelude.{◌≡◌, ◌<◌, ◌≤◌, ◌+◌, ◌^◌, ℕ, length, slice_index, vec_len};
 ghost use Rattle.std.specs.Prelude.{IfOk, OnOk};
@@ -12,12 +12,45 @@ ghost use Rattle.tensor_views.specs.Axes.{strided_axes};
 ghost use Rattle.tensor_terms.specs.Tree.{movement_at};
 
 use crate::axis::Axis;
+use crate::view::{View, ViewRef};
 use std::alloc::{AllocError, Global};
 use tensor_shape::Dims;
 use tensor_terms::Movement;
 
-/// The axes of a walk over all places of dims, in their order.
-pub fn whole_axes(alloc: Global, dims: &Dims) -> Result<Vec<Axis>, AllocError>
+impl View {
+    /// All places of dims, in their order.
+    pub fn of(alloc: Global, dims: &Dims) -> Result<View, AllocError>
+        ensures start { IfOk result (λ v. v.start ≡ 0) }
+        ensures axes { IfOk result (λ v. v.axes.items ≡ axes_from 1 dims.now) }
+        ensures few { OnOk result (size_of dims.now ≤ most_elements) }
+        ensures short { IfOk result (λ v. AreShort v.axes.items (2 ^ 32)) }
+    {
+        Ok(View {
+            start: 0,
+            axes: whole_axes(alloc, dims)?,
+        })
+    }
+
+    /// A movement of it, where its axes all rise, as those of [`View::of`] do: it cuts, turns and
+    /// repeats them from their starts.
+    pub fn moved(self, alloc: Global, movement: Movement<'_>) -> Result<View, AllocError>
+        requires rank { HasRank (movement_at movement) (vec_len self.axes) }
+        requires fits { moved_start (movement_at movement) self.start self.axes.items < 2 ^ 32 }
+        requires short { AreShort self.axes.items (2 ^ 32) }
+        ensures start { IfOk result (λ v.
+            v.start ≡ moved_start (movement_at movement.entry) self.start self.axes.items) }
+        ensures axes { IfOk result (λ v.
+            v.axes.items ≡ moved_axes (movement_at movement.entry) self.axes.items) }
+    {
+        Ok(View {
+            start: moved_start(movement, self.as_ref()),
+            axes: moved_axes(alloc, movement, self.axes)?,
+        })
+    }
+}
+
+/// The axes of all places of dims, in their order.
+fn whole_axes(alloc: Global, dims: &Dims) -> Result<Vec<Axis>, AllocError>
     ensures axes { IfOk result (λ v. v.items ≡ axes_from 1 dims.now) }
     ensures few { OnOk result (size_of dims.now ≤ most_elements) }
     ensures short { IfOk result (λ v. AreShort v.items (2 ^ 32)) }
@@ -33,27 +66,27 @@ pub fn whole_axes(alloc: Global, dims: &Dims) -> Result<Vec<Axis>, AllocError>
     Ok(axes)
 }
 
-/// Where the walk of a movement starts, from where that of its operand does, whose axes all rise, as
-/// those of [`whole_axes`] do.
-pub fn moved_start(movement: Movement<'_>, start: usize, axes: &[Axis]) -> usize
-    requires rank { HasRank (movement_at movement) (length axes.now) }
-    requires fits { moved_start (movement_at movement) start axes.now < 2 ^ 32 }
-    ensures { result ≡ moved_start (movement_at movement.entry) start axes.now }
+/// Where a movement of a view starts.
+fn moved_start(movement: Movement<'_>, view: ViewRef<'_>) -> usize
+    requires rank { HasRank (movement_at movement) (length view.axes.now) }
+    requires fits { moved_start (movement_at movement) view.start view.axes.now < 2 ^ 32 }
+    ensures { result ≡ moved_start (movement_at movement.entry) view.entry.start view.entry.axes.now }
 {
     match movement {
-        Movement::Slice(offsets, _) => start_at(start, axes, offsets),
-        Movement::Chip(offset, axis) => start + offset as usize * axes[axis as usize].step,
-        Movement::Broadcast(_) => start,
-        Movement::Shuffle(_) => start,
-        Movement::Reshape(_) => start,
-        Movement::Reverse(_) => start,
-        Movement::Stride(_) => start,
+        Movement::Slice(offsets, _) => start_at(view, offsets),
+        Movement::Chip(offset, axis) => {
+            view.start + offset as usize * view.axes[axis as usize].step
+        }
+        Movement::Broadcast(_) => view.start,
+        Movement::Shuffle(_) => view.start,
+        Movement::Reshape(_) => view.start,
+        Movement::Reverse(_) => view.start,
+        Movement::Stride(_) => view.start,
     }
 }
 
-/// The axes of a movement, from those of its operand, which all rise, as those of [`whole_axes`] do:
-/// it cuts, turns and repeats them from their starts.
-pub fn moved_axes(
+/// The axes of a movement, from those of its operand.
+fn moved_axes(
     alloc: Global,
     movement: Movement<'_>,
     axes: Vec<Axis>,
@@ -89,14 +122,14 @@ fn rising(size: usize, step: usize) -> Axis
 }
 
 /// A start, and the steps of an index list from there.
-fn start_at(start: usize, axes: &[Axis], index: &[u64]) -> usize
-    requires rank { length index.now ≡ length axes.now }
-    requires fits { start + by_steps axes.now index.now < 2 ^ 32 }
-    ensures { result ≡ start + by_steps axes.now index.now }
+fn start_at(view: ViewRef<'_>, index: &[u64]) -> usize
+    requires rank { length index.now ≡ length view.axes.now }
+    requires fits { view.start + by_steps view.axes.now index.now < 2 ^ 32 }
+    ensures { result ≡ view.entry.start + by_steps view.entry.axes.now index.now }
 {
-    let mut place = start;
+    let mut place = view.start;
     for k in 0..index.len() {
-        place += index[k] as usize * axes[k].step;
+        place += index[k] as usize * view.axes[k].step;
     }
     place
 }

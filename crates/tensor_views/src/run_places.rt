@@ -6,27 +6,26 @@ ghost use Rattle.std.specs.List.{range_with_len};
 ghost use Rattle.tensor_views.specs.View.{walk_size, reached, along, steps_to};
 
 use crate::axis::{ALONE, Axis, steps_to};
-use crate::view::reached;
+use crate::view::ViewRef;
 use std::alloc::{AllocError, Global};
 
 /// The operand's places for a run.
 pub(crate) fn walked(
     alloc: Global,
-    start: usize,
-    axes: &[Axis],
+    view: ViewRef<'_>,
     first: usize,
     last: usize,
 ) -> Result<Vec<u32>, AllocError>
     requires order { first ≤ last }
-    requires within { last ≤ walk_size axes.now }
-    requires fits { (p : ℕ) → p < walk_size axes.now → reached start axes.now p < 2 ^ 32 }
+    requires within { last ≤ walk_size view.axes.now }
+    requires fits { (p : ℕ) → p < walk_size view.axes.now → reached view.start view.axes.now p < 2 ^ 32 }
     ensures { IfOk result (λ v. v.items
-        ≡ map (reached start axes.now) (range_with_len first (last - first))) }
+        ≡ map (reached view.entry.start view.entry.axes.now) (range_with_len first (last - first))) }
 {
     if first == last {
         return Ok(Vec::new(alloc));
     }
-    let (axis, rows) = rows_of(alloc, start, axes, first, last)?;
+    let (axis, rows) = rows_of(alloc, view, first, last)?;
     laid_out(alloc, &rows, axis, first, last)
 }
 
@@ -34,32 +33,35 @@ pub(crate) fn walked(
 /// places that the slower axes reach.
 pub fn rows_of(
     alloc: Global,
-    start: usize,
-    axes: &[Axis],
+    view: ViewRef<'_>,
     first: usize,
     last: usize,
 ) -> Result<(Axis, Vec<u32>), AllocError>
     requires some { first < last }
-    requires within { last ≤ walk_size axes.now }
-    requires fits { (p : ℕ) → p < walk_size axes.now → reached start axes.now p < 2 ^ 32 }
+    requires within { last ≤ walk_size view.axes.now }
+    requires fits { (p : ℕ) → p < walk_size view.axes.now → reached view.start view.axes.now p < 2 ^ 32 }
     ensures size { IfOk result (λ r. 0 < r.0.size) }
     ensures cover { IfOk result (λ r. last ≤ r.0.size * (first / r.0.size + length r.1.items)) }
     ensures along { IfOk result (λ r. (p : ℕ) → first ≤ p → p < last
-        → along r.1.items r.0 first p ≡ reached start axes.now p) }
+        → along r.1.items r.0 first p ≡ reached view.entry.start view.entry.axes.now p) }
 {
-    let Some((axis, slower)) = axes.split_first() else {
-        return Ok((ALONE, vec![in alloc; start as u32]?));
+    let Some((axis, slower)) = view.axes.split_first() else {
+        return Ok((ALONE, vec![in alloc; view.start as u32]?));
     };
     if last - first == 1 {
-        let place = reached(start, axes, first);
+        let place = view.at(first);
         return Ok((ALONE, vec![in alloc; place as u32]?));
     }
+    let slower = ViewRef {
+        start: view.start,
+        axes: slower,
+    };
     if axis.size == 1 {
-        return rows_of(alloc, start, slower, first, last);
+        return rows_of(alloc, slower, first, last);
     }
     let from = first / axis.size;
     let to = (last - 1) / axis.size + 1;
-    let (next, starts) = rows_of(alloc, start, slower, from, to)?;
+    let (next, starts) = rows_of(alloc, slower, from, to)?;
     let rows = laid_out(alloc, &starts, next, from, to)?;
     Ok((*axis, rows))
 }

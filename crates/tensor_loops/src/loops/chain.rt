@@ -28,19 +28,19 @@ pub fn combine_chain(links: &[Link], values: &mut [i64], operand: &[i64])
         (slice_index_or operand.now k (pos 0)) }
 {
     for link in links {
-        combine(link.operation, link.turned, values, operand);
+        combine(*link, values, operand);
     }
 }
 
-/// Whether two readings are seen to be of the same values: along one walk, of lists that are short
+/// Whether two readings are seen to be of the same values: along one view, of lists that are short
 /// and the same.
 pub fn are_same(first: &Reading<'_>, second: &Reading<'_>) -> bool
     ensures { IsTrue result → AreSame first.now second.now }
 {
-    if first.start != second.start {
+    if first.view.start != second.view.start {
         return false;
     }
-    if !are_same_axes(first.axes, second.axes) {
+    if !are_same_axes(first.view.axes, second.view.axes) {
         return false;
     }
     first.list.len() <= MOST_COMPARED && first.list == second.list

@@ -19,7 +19,7 @@ set-next f xs t v room before here =
     (λ s h. let ne : s ≢ t = omega arith in rw get_or-set_other (before s h))
     (rw get_or-set_same here)
 
--- a place of a walk along two axes and slower ones
+-- a place of a view along two axes and slower ones
 module _ (start : ℕ) (axes others slower : List Axis) (axis second : Axis) (p : ℕ)
     (size : walk_size (axis ∷ others) ≡ walk_size axes)
     (same : (s q : ℕ) → reached s (axis ∷ others) q ≡ reached s axes q)
@@ -58,7 +58,7 @@ row_of-row-requires-clause-within c =
     let two = c.first_axis-2.ensures in
     let below = first-below c.args.places.now.items _ c.in-Some.first.now
     (c.in-Some.ensures.value ∙ ap (λ xs. slice_get xs 0) c.deref.ensures.value) c.requires.within in
-    (second-inside c.args.start c.args.axes.now _ _ _ _ _ one.size one.reached two.size two.reached
+    (second-inside c.args.view.start c.args.view.axes.now _ _ _ _ _ one.size one.reached two.size two.reached
     c.requires.fits below).1
 
 pub row_of-row-requires-clause-fits : goal.row_of-row-requires-clause-fits
@@ -67,7 +67,7 @@ row_of-row-requires-clause-fits c =
     let two = c.first_axis-2.ensures in
     let below = first-below c.args.places.now.items _ c.in-Some.first.now
     (c.in-Some.ensures.value ∙ ap (λ xs. slice_get xs 0) c.deref.ensures.value) c.requires.within in
-    second-fits c.args.start c.args.axes.now _ _ _ _ _ one.size one.reached two.size two.reached
+    second-fits c.args.view.start c.args.view.axes.now _ _ _ _ _ one.size one.reached two.size two.reached
     c.requires.fits below
 
 pub loop-k-init : goal.loop-k-init
@@ -82,7 +82,7 @@ loop-k-init c =
       led = λ k none. absurd (omega arith);
       left = λ k later. refl;
       first = row.ensures.first ∙ ap (λ q. second.size * q) (sym is);
-      start = row.ensures.start ∙ ap (reached c.args.start c.first_axis-2.result.1.now) (sym is);
+      start = row.ensures.start ∙ ap (reached c.args.view.start c.first_axis-2.result.1.now) (sym is);
     }
 
 pub row_with-row-requires-clause-within : goal.row_with-row-requires-clause-within
@@ -94,9 +94,9 @@ row_with-row-requires-clause-within c =
     let read : c.index-place.result.now ≡ slice_index c.args.places.now.items k =
     c.index-place.ensures ∙ get_or_default places k c.index-place.result.now 0 (omega arith)
     ∙ c.loop-k.invariant.left k (omega arith) in
-    let below : c.index-place.result.now < walk_size c.args.axes.now =
+    let below : c.index-place.result.now < walk_size c.args.view.axes.now =
     omega (arith, read, c.requires.within k (omega arith)) in
-    (second-inside c.args.start c.args.axes.now _ _ _ _ _ one.size one.reached two.size two.reached
+    (second-inside c.args.view.start c.args.view.axes.now _ _ _ _ _ one.size one.reached two.size two.reached
     c.requires.fits below).1
 
 pub row_with-row-requires-clause-fits : goal.row_with-row-requires-clause-fits
@@ -108,9 +108,9 @@ row_with-row-requires-clause-fits c =
     let read : c.index-place.result.now ≡ slice_index c.args.places.now.items k =
     c.index-place.ensures ∙ get_or_default places k c.index-place.result.now 0 (omega arith)
     ∙ c.loop-k.invariant.left k (omega arith) in
-    let below : c.index-place.result.now < walk_size c.args.axes.now =
+    let below : c.index-place.result.now < walk_size c.args.view.axes.now =
     omega (arith, read, c.requires.within k (omega arith)) in
-    second-fits c.args.start c.args.axes.now _ _ _ _ _ one.size one.reached two.size two.reached
+    second-fits c.args.view.start c.args.view.axes.now _ _ _ _ _ one.size one.reached two.size two.reached
     c.requires.fits below
 
 pub along_axis-reached-requires-clause-fits : goal.along_axis-reached-requires-clause-fits
@@ -123,16 +123,16 @@ along_axis-reached-requires-clause-fits c =
     let read : p ≡ slice_index c.args.places.now.items k =
     c.index-place.ensures ∙ get_or_default places k p 0 (omega arith)
     ∙ c.loop-k.invariant.left k (omega arith) in
-    let below : p < walk_size c.args.axes.now =
+    let below : p < walk_size c.args.view.axes.now =
     omega (arith, read, c.requires.within k (omega arith)) in
-    let here = rest-reached c.args.start c.args.axes.now _ _ _ _ p one.size one.reached two.size
+    let here = rest-reached c.args.view.start c.args.view.axes.now _ _ _ _ p one.size one.reached two.size
     two.reached c.requires.fits below _ _ c.row_with-row.ensures.first c.row_with-row.ensures.start in
-    let rest = rest-below c.args.start c.args.axes.now _ _ _ _ p one.size one.reached two.size
+    let rest = rest-below c.args.view.start c.args.view.axes.now _ _ _ _ p one.size one.reached two.size
     two.reached c.requires.fits below in
     omega (
       arith,
       here,
-      others-fit c.args.start c.args.axes.now _ _ _ _ p one.size one.reached
+      others-fit c.args.view.start c.args.view.axes.now _ _ _ _ p one.size one.reached
           two.size two.reached c.requires.fits below _ rest.1,
     )
 
@@ -146,11 +146,11 @@ along_axis-requires-clause-fits c =
     let read : p ≡ slice_index c.args.places.now.items k =
     c.index-place.ensures ∙ get_or_default places k p 0 (omega arith)
     ∙ c.loop-k.invariant.left k (omega arith) in
-    let below : p < walk_size c.args.axes.now =
+    let below : p < walk_size c.args.view.axes.now =
     omega (arith, read, c.requires.within k (omega arith)) in
-    let here = rest-reached c.args.start c.args.axes.now _ _ _ _ p one.size one.reached two.size
+    let here = rest-reached c.args.view.start c.args.view.axes.now _ _ _ _ p one.size one.reached two.size
     two.reached c.requires.fits below _ _ c.row_with-row.ensures.first c.row_with-row.ensures.start in
-    let whole = all-reached c.args.start c.args.axes.now _ _ _ _ p one.size one.reached two.size
+    let whole = all-reached c.args.view.start c.args.view.axes.now _ _ _ _ p one.size one.reached two.size
     two.reached c.requires.fits below _ (c.along_axis-reached.ensures ∙ here) in
     omega (arith, whole, c.requires.fits p below)
 
@@ -164,17 +164,17 @@ loop-k-preserved c =
     let places = c.loop-k.places.items in
     let p = c.index-place.result.now in
     let rest = p / c.first_axis.result.0.size in
-    let reach = reached c.args.start c.args.axes.now in
+    let reach = reached c.args.view.start c.args.view.axes.now in
     let read : p ≡ slice_index c.args.places.now.items k =
     c.index-place.ensures ∙ get_or_default places k p 0 (omega arith)
     ∙ c.loop-k.invariant.left k (omega arith) in
-    let below : p < walk_size c.args.axes.now =
+    let below : p < walk_size c.args.view.axes.now =
     omega (arith, read, c.requires.within k (omega arith)) in
-    let here = rest-reached c.args.start c.args.axes.now _ _ _ _ p one.size one.reached two.size
+    let here = rest-reached c.args.view.start c.args.view.axes.now _ _ _ _ p one.size one.reached two.size
     two.reached c.requires.fits below _ _ row.ensures.first row.ensures.start in
-    let whole = all-reached c.args.start c.args.axes.now _ _ _ _ p one.size one.reached two.size
+    let whole = all-reached c.args.view.start c.args.view.axes.now _ _ _ _ p one.size one.reached two.size
     two.reached c.requires.fits below _ (c.along_axis-reached.ensures ∙ here) in
-    let inside = second-inside c.args.start c.args.axes.now _ _ _ _ p one.size one.reached two.size
+    let inside = second-inside c.args.view.start c.args.view.axes.now _ _ _ _ p one.size one.reached two.size
     two.reached c.requires.fits below in
     let is = first-of-row second.size row.result.first (rest / second.size) inside.0
     row.ensures.first in
@@ -187,5 +187,5 @@ loop-k-preserved c =
           let ne : s ≢ k = omega arith in
           rw get_or-set_other (c.loop-k.invariant.left s (omega arith));
       first = row.ensures.first ∙ ap (λ q. second.size * q) (sym is);
-      start = row.ensures.start ∙ ap (reached c.args.start c.first_axis-2.result.1.now) (sym is);
+      start = row.ensures.start ∙ ap (reached c.args.view.start c.first_axis-2.result.1.now) (sym is);
     }

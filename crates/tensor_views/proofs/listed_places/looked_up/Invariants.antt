@@ -5,8 +5,8 @@ use Rattle.tensor_views.proofs.listed_places.looked_up.Given as goal
 
 abbrev pub invariant-loop-place : goal.invariant-loop-place
 invariant-loop-place l = record {
-  items : l.sources.items ≡ map (reached l.start l.axes) (take l.place-index l.places);
+  items : l.sources.items ≡ map (reached l.view.start l.view.axes.now) (take l.place-index l.places);
   room : vec_capacity l.sources ≡ length l.places;
   first : l.row.first ≡ l.axis.size * (l.row.first / l.axis.size);
-  start : l.row.start ≡ reached l.start l.slower (l.row.first / l.axis.size);
+  start : l.row.start ≡ reached l.view.start l.slower.axes.now (l.row.first / l.axis.size);
 }

@@ -13,4 +13,4 @@ pub returns-then-place-row-clause-start : goal.returns-then-place-row-clause-sta
 returns-then-place-row-clause-start c =
     let same = row-of-first c.args.axis.size c.args.row.first c.args.place c.requires.row_first
     (omega arith) (omega arith) in
-    c.requires.row_start ∙ ap (reached c.args.start c.args.slower.now) (sym same)
+    c.requires.row_start ∙ ap (reached c.args.slower.start c.args.slower.axes.now) (sym same)

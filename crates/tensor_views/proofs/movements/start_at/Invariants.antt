@@ -4,4 +4,4 @@ use Rattle.tensor_views.specs.Axes.{by_steps}
 use Rattle.tensor_views.proofs.movements.start_at.Given as goal
 
 abbrev pub invariant-loop-k : goal.invariant-loop-k
-invariant-loop-k l = l.place + by_steps (drop l.k l.axes) (drop l.k l.index) ≡ l.start + by_steps l.axes l.index
+invariant-loop-k l = l.place + by_steps (drop l.k l.view.axes.now) (drop l.k l.index) ≡ l.view.start + by_steps l.view.axes.now l.index
