@@ -28,7 +28,8 @@ use std::borrow::CowSlice;
 use tensor_kernels::sum_with_products;
 use tensor_terms::{Movement, axes_first, dims_at, other_dims};
 use tensor_values::Reducer;
-use tensor_walks::{Places, add_combined, combined_with};
+use tensor_loops::{add_combined, combined_with};
+use tensor_views::Places;
 
 /// Runs of values, one after the other. Nothing of them is held but what the placed expression
 /// reads.

@@ -18,7 +18,7 @@ pub returns-in_ok-combine_at-in-Binary-clause-each :
 returns-in_ok-combine_at-in-Binary-clause-each t c =
     let from = c.args.from in
     let count : ℕ = c.args.to - from in
-    let o : ℤ → ℤ → ℤ = either_way c.in-Binary.operation c.in-Binary.turned in
+    let o : ℤ → ℤ → ℤ = either_way c.in-Binary.link.operation c.in-Binary.link.turned in
     let a = c.in-Binary.first.value in
     let b = c.in-Binary.second.value in
     let out = c.fill_piece-in-Binary.new.out in
