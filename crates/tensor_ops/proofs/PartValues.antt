@@ -34,7 +34,7 @@ use Rattle.tensor_ops.specs.declared.part_evaluator.in_runs.InRuns.TheVariants.{
 use Rattle.tensor_ops.specs.declared.placed.Placed.{Placed}
 use Rattle.tensor_values.specs.declared.reducer.Reducer.{Reducer}
 use Rattle.tensor_ops.specs.declared.part_evaluator.value_runs.ValueRuns.{ValueRuns}
-use Rattle.tensor_operands.proofs.Contractions.{fold-sum_to}
+use Rattle.tensor_ops.proofs.Contractions.{fold-sum_to}
 use Rattle.tensor_terms.proofs.Dropped.{axes_first}
 use Rattle.tensor_loops.proofs.Folding.{folded-ext, folded-append}
 use Rattle.tensor_ops.proofs.Placings.{gives-index}

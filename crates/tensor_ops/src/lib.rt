@@ -11,13 +11,14 @@
 //!  │ settling        each view goes down to the list that it reads, joined with those it meets
 //! Placed, settled    lists, each read along one view; all else is in order
 //!  │
-//! Root               that tree, or a reduction or a contraction made ready (tensor_operands)
+//! Root               that tree, or a reduction or a contraction made ready (operands)
 //!  │ values          by 1,024 places (tensor_loops), or by rows and tiles (tensor_kernels)
 //! values of a range
 //! ```
 #![tactic(auto)]
 
 mod evaluator;
+mod operands;
 mod part_evaluator;
 mod placed;
 mod placing;

@@ -17,10 +17,10 @@ ghost use Rattle.tensor_values.specs.Combining.{unit};
 
 use std::alloc::{AllocError, Allocator, Global};
 use tensor_kernels::Contraction;
+use tensor_loops::{add_combined, combined_with};
 use tensor_shape::Dims;
 use tensor_terms::{dims_at, other_dims};
 use tensor_values::Reducer;
-use tensor_loops::{add_combined, combined_with};
 
 /// Runs of a contraction's values, one after the other. Nothing of them is held but what the
 /// contraction reads.

@@ -26,9 +26,9 @@ use crate::placing::place_movement;
 use std::alloc::{AllocError, Allocator, Global};
 use std::borrow::CowSlice;
 use tensor_kernels::sum_with_products;
+use tensor_loops::{add_combined, combined_with};
 use tensor_terms::{Movement, axes_first, dims_at, other_dims};
 use tensor_values::Reducer;
-use tensor_loops::{add_combined, combined_with};
 use tensor_views::Places;
 
 /// Runs of values, one after the other. Nothing of them is held but what the placed expression

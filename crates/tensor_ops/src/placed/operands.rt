@@ -5,17 +5,17 @@ ghost use Rattle.std.specs.Cow.{cow_slice_items};
 ghost use Rattle.tensor_shape.specs.Index.{size_of, place};
 ghost use Rattle.tensor_shape.specs.Legal.{most_elements};
 ghost use Rattle.tensor_ops.specs.private.Meaning.{count_of, IsSound};
-ghost use Rattle.tensor_operands.specs.Operand.{operand_at, operand_count};
+ghost use Rattle.tensor_ops.specs.private.Operand.{operand_at, operand_count};
 ghost use Rattle.tensor_values.specs.Values.{value_in};
 ghost use Rattle.tensor_ops.specs.private.Placing.{HasValues, meaning_at};
 ghost use Rattle.tensor_ops.specs.private.Settling.{meaning_along};
 ghost use Rattle.tensor_views.specs.View.{walk_size, reached};
 
+use crate::operands::operand::{Operand, Viewed};
 use crate::placed::Placed;
 use crate::placed::settling::{settled_over, view_over};
 use std::alloc::{AllocError, Global};
 use std::borrow::CowSlice;
-use tensor_operands::{Operand, Viewed};
 use tensor_shape::Dims;
 use tensor_views::View;
 

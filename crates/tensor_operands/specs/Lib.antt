@@ -1,4 +1,0 @@
-pub mod Operand
-pub mod Reduced
-pub mod Slid
-pub mod private

@@ -1,3 +1,0 @@
--- What private clauses and proofs of this crate cite, and no other crate.
-pub mod FirstRun
-pub mod OperandRows
