@@ -3,12 +3,12 @@ use Rattle.std.proofs.Common.{◌≡◌, ℕ, ℤ, ◌+◌, ◌-◌, ◌*◌, �
 use Rattle.std.proofs.Common.{ap, ◌∙◌, arith}
 use Rattle.std.specs.List.{range_with_len}
 use Rattle.std.proofs.lemmas.Nat.{column_fits}
-use Rattle.tensor_walks.specs.Folds.{folded, run_folded}
+use Rattle.tensor_loops.specs.Folds.{folded, run_folded}
 use Rattle.tensor_values.specs.Values.{value_in}
 use Rattle.tensor_values.specs.Combining.{unit}
 use Rattle.tensor_ops.specs.private.Runs.{value_in_run}
 use Rattle.tensor_values.specs.declared.reducer.Reducer.{Reducer}
-use Rattle.tensor_walks.proofs.Folding.{folded-ext}
+use Rattle.tensor_loops.proofs.Folding.{folded-ext}
 use Rattle.tensor_ops.proofs.PartValues.{piece-value}
 use Rattle.tensor_values.proofs.Runs.{map-shifted}
 

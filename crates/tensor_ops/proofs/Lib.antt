@@ -2,15 +2,23 @@ pub use Rattle.tensor_terms.proofs.OtherAxes
 pub use Rattle.tensor_terms.proofs.Ranks
 pub use Rattle.tensor_terms.proofs.Shapes
 pub mod CombinedRuns
+pub mod Contractions
 pub mod Convolved
+pub mod ConvolvedRows
+pub mod Dropping
 pub mod Evaluated
 mod Filled
+pub mod FirstAxes
+pub mod LedRows
+pub mod OperandRows
+pub mod Outcomes
 pub mod PartValues
 pub mod Placings
 pub mod ReducedRuns
 pub mod SameTensors
 pub mod Settled
 pub mod Shared
+pub mod SlidRows
 pub mod SplicedPlacings
 pub mod Worked
 pub mod Zeroes

@@ -16,7 +16,7 @@ use Rattle.tensor_shape.specs.Wrap.{wrap}
 use Rattle.tensor_shape.proofs.Places.{length-IsIndexOf}
 use Rattle.tensor_terms.specs.Contents.{Contents}
 use Rattle.tensor_terms.specs.Contraction.{firsts, seconds, outer_dims}
-use Rattle.tensor_walks.specs.Folds.{folded}
+use Rattle.tensor_loops.specs.Folds.{folded}
 use Rattle.tensor_ops.specs.private.InRuns.{GivesParts}
 use Rattle.tensor_ops.specs.private.Meaning.{meaning}
 use Rattle.tensor_terms.specs.Movement.{moved, moved_dims, shuffled_dims, scattered}
@@ -34,9 +34,9 @@ use Rattle.tensor_ops.specs.declared.part_evaluator.in_runs.InRuns.TheVariants.{
 use Rattle.tensor_ops.specs.declared.placed.Placed.{Placed}
 use Rattle.tensor_values.specs.declared.reducer.Reducer.{Reducer}
 use Rattle.tensor_ops.specs.declared.part_evaluator.value_runs.ValueRuns.{ValueRuns}
-use Rattle.tensor_operands.proofs.Contractions.{fold-sum_to}
+use Rattle.tensor_ops.proofs.Contractions.{fold-sum_to}
 use Rattle.tensor_terms.proofs.Dropped.{axes_first}
-use Rattle.tensor_walks.proofs.Folding.{folded-ext, folded-append}
+use Rattle.tensor_loops.proofs.Folding.{folded-ext, folded-append}
 use Rattle.tensor_ops.proofs.Placings.{gives-index}
 use Rattle.tensor_kernels.proofs.ProductSums.{sum_to-ext, sum_to-append}
 use Rattle.tensor_values.proofs.Runs.{map-shifted}

@@ -6,7 +6,7 @@ use Rattle.std.proofs.lemmas.List.FromFn.{length-map-range_with_len, get_or-map-
 use Rattle.tensor_shape.specs.Index.{size_of, IsIndexOf, place, index_of}
 use Rattle.tensor_shape.specs.Legal.{highest_rank, most_elements}
 use Rattle.tensor_shape.proofs.Places.{place-below-size_of, index_of-place, place-index_of, IsIndexOf-index_of}
-use Rattle.tensor_operands.specs.Axes.{axes_from, by_steps, moved_axes, moved_start}
+use Rattle.tensor_views.specs.Axes.{axes_from, by_steps, moved_axes, moved_start}
 use Rattle.tensor_terms.specs.Contents.{Contents, value_at}
 use Rattle.tensor_ops.specs.private.Meaning.{meaning, count_of, IsSound, IsListOf}
 use Rattle.tensor_terms.specs.Movement.{moved, moved_dims}
@@ -14,15 +14,15 @@ use Rattle.tensor_values.specs.Values.{value_in}
 use Rattle.tensor_ops.specs.private.Placing.{Gives, IsJoined, IsView, meaning_at}
 use Rattle.tensor_terms.specs.Term.{Movement, reshape}
 use Rattle.tensor_values.specs.Scalars.{applied, combined}
-use Rattle.tensor_walks.specs.Walk.{walk_size, reached}
+use Rattle.tensor_views.specs.View.{walk_size, reached}
 use Rattle.tensor_values.specs.declared.operations.BinaryScalar.{BinaryScalar}
 use Rattle.tensor_values.specs.declared.operations.UnaryScalar.{UnaryScalar}
 use Rattle.tensor_ops.specs.declared.placed.Placed.{Placed}
 use Rattle.tensor_ops.specs.declared.placed.Placed.TheVariants.{Lent}
-use Rattle.tensor_walks.specs.declared.walk.Axis.{Axis}
-use Rattle.tensor_operands.proofs.AxisLists.{are_along-from, by_steps-from}
+use Rattle.tensor_views.specs.declared.axis.Axis.{Axis}
+use Rattle.tensor_views.proofs.AxisLists.{are_along-from, by_steps-from}
 use Rattle.tensor_terms.proofs.Known.{reshape-known}
-use Rattle.tensor_operands.proofs.Moves.{walk_size-moved, reached-moved, index-moved, moved_start-below}
+use Rattle.tensor_views.proofs.Moves.{walk_size-moved, reached-moved, index-moved, moved_start-below}
 
 -- what is placed gives its own values
 pub gives-itself : (placed : Placed) (ds : List ℕ) → IsSound placed → count_of placed ≡ size_of ds

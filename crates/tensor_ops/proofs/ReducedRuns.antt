@@ -5,7 +5,7 @@ use Rattle.std.specs.List.{fold, range_with_len}
 use Rattle.std.proofs.lemmas.Simd.{map-map}
 use Rattle.tensor_shape.specs.Index.{size_of, IsIndexOf, index_of}
 use Rattle.tensor_shape.specs.Legal.{highest_rank}
-use Rattle.tensor_walks.specs.Folds.{folded}
+use Rattle.tensor_loops.specs.Folds.{folded}
 use Rattle.tensor_ops.specs.private.InRuns.{run_length, run_places, run_part, HaveOneLength}
 use Rattle.tensor_ops.specs.private.InRuns.{GivesParts, GivesReduced}
 use Rattle.tensor_ops.specs.Parts.{reduced_part}

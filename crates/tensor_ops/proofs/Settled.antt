@@ -7,22 +7,22 @@ use Rattle.std.proofs.Math.Nat.{mul-le-mul_left}
 use Rattle.tensor_shape.specs.Index.{size_of, place, index_of}
 use Rattle.tensor_shape.proofs.Places.{place-index_of}
 use Rattle.tensor_shape.specs.Legal.{most_elements}
-use Rattle.tensor_walks.specs.Joining.{span, IsJoint}
-use Rattle.tensor_walks.specs.Loops.{either_way, selected}
+use Rattle.tensor_views.specs.Joining.{span, IsJoint}
+use Rattle.tensor_loops.specs.Loops.{either_way, selected}
 use Rattle.tensor_ops.specs.private.Meaning.{meaning, count_of, IsSound, IsListOf}
 use Rattle.tensor_values.specs.Values.{value_in}
 use Rattle.tensor_ops.specs.private.Placing.{Gives, HasValues, IsJoined, meaning_at}
 use Rattle.tensor_values.specs.Scalars.{applied}
 use Rattle.tensor_ops.specs.private.Settling.{Follows, meaning_along}
 use Rattle.tensor_values.specs.Splicing.{spliced, HaveTurns}
-use Rattle.tensor_walks.specs.Walk.{walk_size, reached, steps_to}
-use Rattle.tensor_walks.specs.declared.loops.SelectOrder.{SelectOrder}
+use Rattle.tensor_views.specs.View.{walk_size, reached, steps_to}
+use Rattle.tensor_loops.specs.declared.loops.SelectOrder.{SelectOrder}
 use Rattle.tensor_values.specs.declared.operations.UnaryScalar.{UnaryScalar}
 use Rattle.tensor_values.specs.declared.operations.BinaryScalar.{BinaryScalar}
 use Rattle.tensor_ops.specs.declared.placed.Placed.{Placed}
-use Rattle.tensor_walks.specs.declared.walk.Axis.{Axis}
+use Rattle.tensor_views.specs.declared.axis.Axis.{Axis}
 use Rattle.tensor_values.proofs.InTurns.{spliced-other}
-use Rattle.tensor_walks.proofs.Walks.{reached-row, row-within, mul-next}
+use Rattle.tensor_views.proofs.Views.{reached-row, row-within, mul-next}
 
 -- the last place along axes
 abbrev last_place : List Axis → ℕ

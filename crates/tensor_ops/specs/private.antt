@@ -1,9 +1,14 @@
 -- What private clauses and proofs of this crate cite, and no other crate.
 pub mod ContractedRuns
+pub mod FirstRun
 pub mod InRuns
 pub mod Meaning
+pub mod Operand
+pub mod OperandRows
 pub mod Placing
+pub mod Reduced
 pub mod Root
 pub mod Runs
 pub mod Settling
+pub mod Slid
 pub mod ValueRuns

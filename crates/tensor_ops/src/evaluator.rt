@@ -41,7 +41,7 @@ impl<'a> TensorEvaluator<'a> {
 
     /// An evaluator of an expression. Reductions and contractions below its last operation are
     /// worked out here, and so is what a reduction or a contraction takes, but for what a contraction
-    /// takes of a list along a walk; operands of broadcasts are, too, at most 32,768 values of them.
+    /// takes of a list along a view; operands of broadcasts are, too, at most 32,768 values of them.
     pub fn of(
         alloc: Global,
         expr: &'a Expr,

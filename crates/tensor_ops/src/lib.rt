@@ -7,17 +7,18 @@
 //! Expr               a tree of operations, with arguments (tensor_terms)
 //!  │ placing         one walk over the tree, node by node; what is to be a list by then is
 //!  │                 worked out: operands of reductions, contractions and convolutions
-//! Placed             a tree without dims and arguments: a movement is a walk over places
-//!  │ settling        each walk goes down to the list that it reads, joined with those it meets
-//! Placed, settled    lists, each read along one walk; all else is in order
+//! Placed             a tree without dims and arguments: a movement is a view
+//!  │ settling        each view goes down to the list that it reads, joined with those it meets
+//! Placed, settled    lists, each read along one view; all else is in order
 //!  │
-//! Root               that tree, or a reduction or a contraction made ready (tensor_operands)
-//!  │ values          by 1,024 places (tensor_walks), or by rows and tiles (tensor_kernels)
+//! Root               that tree, or a reduction or a contraction made ready (operands)
+//!  │ values          by 1,024 places (tensor_loops), or by rows and tiles (tensor_kernels)
 //! values of a range
 //! ```
 #![tactic(auto)]
 
 mod evaluator;
+mod operands;
 mod part_evaluator;
 mod placed;
 mod placing;

@@ -11,9 +11,9 @@ ghost use Rattle.std.specs.Prelude.{IfOk, IfSome, OnOk, slice_index, slice_index
 ghost use Rattle.std.specs.Cow.{cow_slice_items};
 ghost use Rattle.std.specs.List.{range_with_len};
 ghost use Rattle.tensor_shape.specs.Index.{size_of};
-ghost use Rattle.tensor_walks.specs.Loops.{either_way};
+ghost use Rattle.tensor_loops.specs.Loops.{either_way};
 ghost use Rattle.tensor_ops.specs.private.Meaning.{meaning, count_of, IsSound, IsListOf, IsReadingOf};
-ghost use Rattle.tensor_walks.specs.Places.{places_of, AreBelow};
+ghost use Rattle.tensor_views.specs.Places.{places_of, AreBelow};
 ghost use Rattle.tensor_values.specs.Values.{value_in};
 ghost use Rattle.tensor_ops.specs.private.Placing.{HasValues, meaning_at};
 ghost use Rattle.tensor_values.specs.Splicing.{spliced, HaveTurns};
@@ -21,13 +21,13 @@ ghost use Rattle.tensor_values.specs.Splicing.{spliced, HaveTurns};
 use crate::placed::settling::settled_over;
 use std::alloc::{AllocError, Allocator, Global};
 use std::borrow::CowSlice;
-use tensor_shape::Dims;
-use tensor_values::{BinaryScalar, Turns, UnaryScalar};
-use tensor_walks::{
-    Axis, Link, Places, Reading, Row, SelectOrder, apply, combine, combine_along, combine_chain,
-    combine_row, has_long_rows, parted, picked, picked_along, select, sources, spliced_list,
-    spliced_run,
+use tensor_loops::{
+    Link, SelectOrder, apply, combine, combine_along, combine_chain, combine_row, has_long_rows,
+    parted, picked, picked_along, select, spliced_list, spliced_run,
 };
+use tensor_shape::Dims;
+use tensor_values::{Turns, UnaryScalar};
+use tensor_views::{Places, Reading, Row, View};
 
 /// How many places are worked out at a time, so that their values stay in the nearest cache.
 pub(crate) const PIECE: usize = 1024;
@@ -49,14 +49,14 @@ pub(crate) enum Placed<'a> {
     Unary(UnaryScalar, Box<Placed<'a>>),
     /// The operation on both values at the same place, of which the second comes first where they
     /// are turned.
-    Binary(BinaryScalar, bool, Box<Placed<'a>>, Box<Placed<'a>>),
+    Binary(Link, Box<Placed<'a>>, Box<Placed<'a>>),
     /// The operations, one after the other, on the first operand's value and the second's at the
     /// same place.
     Chain(Vec<Link>, Box<Placed<'a>>, Box<Placed<'a>>),
     /// Select on the three values at the same place.
     Select(SelectOrder, Box<Placed<'a>>, Box<Placed<'a>>, Box<Placed<'a>>),
-    /// The operand's value at the place that the axes reach from a start.
-    Walk(usize, Vec<Axis>, Box<Placed<'a>>),
+    /// The operand's value at the place that a view reaches.
+    View(View, Box<Placed<'a>>),
     /// The values of both operands in turns.
     Spliced(Turns, Box<Placed<'a>>, Box<Placed<'a>>),
 }
@@ -69,10 +69,10 @@ impl Drop for Placed<'_> {
             | Placed::Kept(_)
             | Placed::Same(_, _)
             | Placed::Unary(_, _)
-            | Placed::Binary(_, _, _, _)
+            | Placed::Binary(_, _, _)
             | Placed::Chain(_, _, _)
             | Placed::Select(_, _, _, _)
-            | Placed::Walk(_, _, _)
+            | Placed::View(_, _)
             | Placed::Spliced(_, _, _) => {}
         }
     }
@@ -120,28 +120,27 @@ impl<'a> Placed<'a> {
         settled.worked_out(alloc, dims)
     }
 
-    /// Whether a value takes no operation: it is in a list, at its place or along a walk.
+    /// Whether a value takes no operation: it is in a list, at its place or along a view.
     pub(crate) fn is_at_hand(&self) -> bool {
         match self {
             Placed::Lent(_) | Placed::Kept(_) | Placed::Same(_, _) => true,
-            Placed::Walk(_, _, operand) => operand.list().is_some(),
+            Placed::View(_, operand) => operand.list().is_some(),
             _ => false,
         }
     }
 
-    /// What is read, where it is a list along a walk.
+    /// What is read, where it is a list along a view.
     pub(crate) fn reading(&self) -> Option<Reading<'_>>
         requires { IsSound self.now }
         ensures { IfSome result (IsReadingOf self.now) }
     {
-        let Placed::Walk(start, axes, operand) = self else {
+        let Placed::View(view, operand) = self else {
             return None;
         };
         let list = operand.list()?;
         Some(Reading {
             list,
-            start: *start,
-            axes: axes.as_slice(),
+            view: view.as_ref(),
         })
     }
 
@@ -244,9 +243,9 @@ pub(crate) fn values_at<'t, 'a>(
             apply(*operation, &mut values);
             Ok(CowSlice::Owned(values))
         }
-        Placed::Binary(operation, turned, first, second) => {
+        Placed::Binary(link, first, second) => {
             let mut values = owned(alloc, values_at(alloc, first, places)?)?;
-            combine_at(alloc, *operation, *turned, &mut values, second, places)?;
+            combine_at(alloc, *link, &mut values, second, places)?;
             Ok(CowSlice::Owned(values))
         }
         Placed::Chain(links, first, second) => {
@@ -262,12 +261,13 @@ pub(crate) fn values_at<'t, 'a>(
             select(*order, &mut values, second.as_slice(), third.as_slice());
             Ok(CowSlice::Owned(values))
         }
-        Placed::Walk(start, axes, operand) => {
+        Placed::View(view, operand) => {
+            let view = view.as_ref();
             if let Some(list) = operand.list() {
-                let values = picked_along(alloc, list, *start, axes, places)?;
+                let values = picked_along(alloc, Reading { list, view }, places)?;
                 return Ok(CowSlice::Owned(values));
             }
-            let sources = sources(alloc, *start, axes, places)?;
+            let sources = view.places(alloc, places)?;
             values_at(alloc, operand, &Places::Listed(&sources))
         }
         Placed::Spliced(turns, first, second) => {
@@ -282,8 +282,7 @@ pub(crate) fn values_at<'t, 'a>(
 #[cycle(values_at)]
 pub(crate) fn combine_at(
     alloc: Global,
-    operation: BinaryScalar,
-    turned: bool,
+    link: Link,
     values: &mut [i64],
     operand: &Placed<'_>,
     places: &Places<'_>,
@@ -294,29 +293,22 @@ pub(crate) fn combine_at(
     ensures len { OnOk result (length values.new ≡ length (places_of places.now)) }
     ensures each { OnOk result ((k : ℕ) → k < length (places_of places.now)
         → slice_index_or values.new k (pos 0)
-        ≡ either_way operation turned (slice_index_or values.old k (pos 0))
+        ≡ either_way link.operation link.turned (slice_index_or values.old k (pos 0))
         (meaning operand.now (slice_index (places_of places.now) k))) }
 {
     if let Placed::Same(value, _) = operand {
-        combine_row(
-            operation,
-            turned,
-            values,
-            0,
-            &[*value],
-            Row::repeated(places.len()),
-        );
+        combine_row(link, values, 0, &[*value], Row::repeated(places.len()));
         return Ok(());
     }
     if let Places::Run(first, last) = places {
         if let Some(reading) = operand.reading() {
-            if has_long_rows(reading.axes) {
-                return combine_along(alloc, operation, turned, values, reading, *first, *last);
+            if has_long_rows(reading.view.axes) {
+                return combine_along(alloc, link, values, reading, *first, *last);
             }
         }
     }
     let others = values_at(alloc, operand, places)?;
-    combine(operation, turned, values, others.as_slice());
+    combine(link, values, others.as_slice());
     Ok(())
 }
 

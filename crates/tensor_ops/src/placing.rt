@@ -8,11 +8,10 @@ pub(crate) mod splicing;
 ghost use Rattle.std.specs.Prelude.{◌≡◌, ◌^◌, length, Ok, IsTrue, IsOk, IfOk, if◌then◌else◌};
 ghost use Rattle.tensor_shape.specs.Legal.{highest_rank};
 ghost use Rattle.tensor_shape.specs.Index.{size_of};
-ghost use Rattle.tensor_operands.specs.Axes.{AreShort};
-ghost use Rattle.tensor_walks.specs.Loops.{either_way, selected};
+ghost use Rattle.tensor_loops.specs.Loops.{either_way, selected};
 ghost use Rattle.tensor_ops.specs.private.Meaning.{meaning, count_of, IsSound};
 ghost use Rattle.tensor_terms.specs.Movement.{moved, moved_dims};
-ghost use Rattle.tensor_ops.specs.private.Placing.{Gives, IsJoined, IsView, meaning_at};
+ghost use Rattle.tensor_ops.specs.private.Placing.{Gives, IsJoined, meaning_at};
 ghost use Rattle.tensor_terms.specs.Result.{dims_of, shape_of, unary_dims, binary_dims};
 ghost use Rattle.tensor_terms.specs.Tensors.{tensors_in};
 ghost use Rattle.tensor_terms.specs.Term.{has_inputs};
@@ -27,19 +26,11 @@ use crate::placing::part::Part;
 use crate::placing::ready::{place_contraction, place_reduction};
 use crate::placing::splicing::{place_concatenation, place_pad};
 use std::alloc::{AllocError, Global};
-use tensor_operands::{moved_axes, moved_start, whole_axes};
+use tensor_loops::{Link, SelectOrder};
 use tensor_shape::{Dims, MAX_RANK};
 use tensor_terms::{Binary, Expr, Movement, Node, Tensors, Ternary, Unary, moved_dims};
 use tensor_values::BinaryScalar;
-use tensor_walks::{Axis, SelectOrder};
-
-/// A placed expression that is read along axes from a start.
-#[derive(Drop)]
-struct View<'a> {
-    start: usize,
-    axes: Vec<Axis>,
-    placed: Box<Placed<'a>>,
-}
+use tensor_views::View;
 
 /// An expression placed, where so many places of operands may still be worked out.
 #[cycle(place)]
@@ -192,17 +183,24 @@ fn place_pairwise<'a>(
         (λ p. combined operation (meaning left.entry.placed p) (meaning right.entry.placed p))) }
 {
     if left.pieces < right.pieces {
-        pair(alloc, operation, true, right, left)
+        let link = Link {
+            operation,
+            turned: true,
+        };
+        pair(alloc, link, right, left)
     } else {
-        pair(alloc, operation, false, left, right)
+        let link = Link {
+            operation,
+            turned: false,
+        };
+        pair(alloc, link, left, right)
     }
 }
 
 /// An operation on each two values, placed, of which the second comes first where they are turned.
 fn pair<'a>(
     alloc: Global,
-    operation: BinaryScalar,
-    turned: bool,
+    link: Link,
     first: Part<'a>,
     second: Part<'a>,
 ) -> Result<Part<'a>, AllocError>
@@ -211,12 +209,12 @@ fn pair<'a>(
     requires same { count_of second.placed ≡ count_of first.placed }
     ensures dims { IfOk result (λ r. r.dims ≡ first.entry.dims) }
     ensures placed { IfOk result (λ r. IsJoined r.placed first.entry.placed
-        (λ p. either_way operation turned
+        (λ p. either_way link.operation link.turned
         (meaning first.entry.placed p) (meaning second.entry.placed p))) }
 {
     let pieces = first.pieces.max(second.pieces.saturating_add(1));
     let dims = first.dims;
-    let placed = both(alloc, operation, turned, first.placed, second.placed)?;
+    let placed = both(alloc, link, first.placed, second.placed)?;
     Ok(Part {
         placed,
         dims,
@@ -314,12 +312,12 @@ pub(crate) fn place_movement<'a>(
             pieces: operand.pieces,
         });
     }
-    let whole = kept(alloc, operand.placed, &operand.dims, count, room)?;
-    let view = whole_view(alloc, whole, &operand.dims)?;
-    let start = moved_start(movement, view.start, &view.axes);
-    let axes = moved_axes(alloc, movement, view.axes)?;
+    let inner = kept(alloc, operand.placed, &operand.dims, count, room)?;
+    let whole = View::of(alloc, &operand.dims)?;
+    let view = whole.moved(alloc, movement)?;
+    let placed = Box::new(alloc, inner)?;
     Ok(Part {
-        placed: Placed::Walk(start, axes, view.placed),
+        placed: Placed::View(view, placed),
         dims,
         pieces: operand.pieces.max(1),
     })
@@ -348,21 +346,4 @@ fn kept<'a>(
     }
     *room -= count;
     Ok(Placed::Kept(settled.values(alloc, alloc, 0, count)?))
-}
-
-/// A placed expression, read along the axes of its own dims.
-fn whole_view<'a>(alloc: Global, placed: Placed<'a>, dims: &Dims) -> Result<View<'a>, AllocError>
-    requires sound { IsSound placed }
-    requires count { count_of placed ≡ size_of dims.now }
-    ensures view { IfOk result (λ v.
-        IsView v.placed.value v.start v.axes.items placed.entry dims.now) }
-    ensures short { IfOk result (λ v. AreShort v.axes.items (2 ^ 32)) }
-{
-    let axes = whole_axes(alloc, dims)?;
-    let placed = Box::new(alloc, placed)?;
-    Ok(View {
-        start: 0,
-        axes,
-        placed,
-    })
 }

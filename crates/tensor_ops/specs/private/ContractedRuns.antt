@@ -1,7 +1,7 @@
 -- Runs of a contraction's values.
 use Rattle.std.specs.Prelude.{ℕ, ℤ}
 use Rattle.tensor_kernels.specs.Contracting.{contraction_value}
-use Rattle.tensor_walks.specs.Folds.{run_folded}
+use Rattle.tensor_loops.specs.Folds.{run_folded}
 use Rattle.tensor_ops.specs.private.Runs.{value_in_run}
 use Rattle.tensor_values.specs.declared.reducer.Reducer.{Reducer}
 use Rattle.tensor_ops.specs.declared.part_evaluator.contracted_runs.ContractedRuns.{ContractedRuns}

@@ -5,7 +5,7 @@ use native.Mathlib.Nat.{ℕ_set}
 use Rattle.tensor_shape.specs.Index.{size_of, index_of}
 use Rattle.tensor_shape.specs.Wrap.{wrap}
 use Rattle.tensor_terms.specs.Contents.{Contents}
-use Rattle.tensor_walks.specs.Folds.{folded}
+use Rattle.tensor_loops.specs.Folds.{folded}
 use Rattle.tensor_ops.specs.private.ContractedRuns.{contracted_value}
 use Rattle.tensor_ops.specs.Parts.{reduced_part, inner_size, part_value}
 use Rattle.tensor_kernels.specs.Products.{sum_to}

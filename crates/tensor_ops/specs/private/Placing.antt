@@ -3,11 +3,11 @@ use Rattle.std.specs.Prelude.{◌≡◌, ℕ, ℤ, ◌+◌, ◌<◌, ◌≤◌, 
 use Rattle.tensor_shape.specs.Index.{size_of, IsIndexOf, place, index_of}
 use Rattle.tensor_shape.specs.Legal.{most_elements}
 use Rattle.tensor_kernels.specs.Contracting.{contraction_value}
-use Rattle.tensor_operands.specs.Axes.{are_along, by_steps}
+use Rattle.tensor_views.specs.Axes.{are_along, by_steps}
 use Rattle.tensor_ops.specs.private.Meaning.{meaning, count_of, IsSound}
 use Rattle.tensor_kernels.specs.declared.contraction.Contraction.{Contraction}
 use Rattle.tensor_ops.specs.declared.placed.Placed.{Placed}
-use Rattle.tensor_walks.specs.declared.walk.Axis.{Axis}
+use Rattle.tensor_views.specs.declared.axis.Axis.{Axis}
 
 -- so many values, one a place, are those of a function at all index lists of these dims
 pub record HasValues (count : ℕ) (at : ℕ → ℤ) (ds : List ℕ) (f : List ℕ → ℤ) : Type 0 where

@@ -3,7 +3,7 @@ use Rattle.std.specs.Prelude.{ℕ, ℤ}
 use Rattle.std.specs.Coded.{Unit-prop}
 use Rattle.tensor_kernels.specs.Contracting.{contraction_count, contraction_value}
 use Rattle.tensor_ops.specs.private.Meaning.{meaning, count_of, IsSound, IsSound-prop}
-use Rattle.tensor_operands.specs.Reduced.{places_of_result, reduction_at}
+use Rattle.tensor_ops.specs.private.Reduced.{places_of_result, reduction_at}
 use Rattle.tensor_ops.specs.declared.evaluator.root.Root.{Root}
 use Rattle.tensor_ops.specs.declared.evaluator.root.Root.TheVariants.{Placed, Reduction, Contraction}
 

@@ -1,9 +1,9 @@
 -- Placed expressions whose walks have gone down to what is read by places.
 use Rattle.std.specs.Prelude.{◌≡◌, ℕ, ℤ, ◌<◌, List}
 use Rattle.tensor_ops.specs.private.Meaning.{meaning, count_of, IsSound}
-use Rattle.tensor_walks.specs.Walk.{reached}
+use Rattle.tensor_views.specs.View.{reached}
 use Rattle.tensor_ops.specs.declared.placed.Placed.{Placed}
-use Rattle.tensor_walks.specs.declared.walk.Axis.{Axis}
+use Rattle.tensor_views.specs.declared.axis.Axis.{Axis}
 
 -- it has so many places, and at them the values of a function
 pub record Follows (placed : Placed) (places : ℕ) (at : ℕ → ℤ) : Type 0 where

@@ -1,6 +1,6 @@
 -- Runs of a placed expression's values.
 use Rattle.std.specs.Prelude.{ℕ, ℤ}
-use Rattle.tensor_walks.specs.Folds.{run_folded}
+use Rattle.tensor_loops.specs.Folds.{run_folded}
 use Rattle.tensor_ops.specs.private.Meaning.{meaning}
 use Rattle.tensor_ops.specs.private.Runs.{value_in_run}
 use Rattle.tensor_values.specs.declared.reducer.Reducer.{Reducer}

@@ -12,6 +12,7 @@ ghost use Rattle.tensor_terms.specs.Term.{has_inputs};
 ghost use Rattle.tensor_terms.specs.Tree.{term_of};
 ghost use Rattle.tensor_terms.specs.Value.{value};
 
+use crate::operands::reduction::Reduction;
 use crate::placed::Placed;
 use crate::placed::settling::settled_over;
 use crate::placing::convolution::convolution_of;
@@ -20,7 +21,6 @@ use crate::placing::ready::{contraction_of, reduction_of};
 use crate::placing::{place, place_two};
 use std::alloc::{AllocError, Allocator, Global};
 use tensor_kernels::Contraction;
-use tensor_operands::Reduction;
 use tensor_shape::Dims;
 use tensor_terms::{Binary, Expr, Node, Tensors, Unary};
 

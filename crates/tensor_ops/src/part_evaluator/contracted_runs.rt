@@ -8,7 +8,7 @@ ghost use Rattle.std.specs.List.{range_with_len};
 ghost use Rattle.tensor_shape.specs.Index.{size_of};
 ghost use Rattle.tensor_shape.specs.Legal.{most_elements};
 ghost use Rattle.tensor_kernels.specs.Contracting.{contraction_count, contraction_value};
-ghost use Rattle.tensor_walks.specs.Folds.{folded};
+ghost use Rattle.tensor_loops.specs.Folds.{folded};
 ghost use Rattle.tensor_ops.specs.private.Placing.{contraction_at};
 ghost use Rattle.tensor_ops.specs.private.Runs.{LieInRuns};
 ghost use Rattle.tensor_terms.specs.Reduction.{are_axes};
@@ -17,10 +17,10 @@ ghost use Rattle.tensor_values.specs.Combining.{unit};
 
 use std::alloc::{AllocError, Allocator, Global};
 use tensor_kernels::Contraction;
+use tensor_loops::{add_combined, combined_with};
 use tensor_shape::Dims;
 use tensor_terms::{dims_at, other_dims};
 use tensor_values::Reducer;
-use tensor_walks::{add_combined, combined_with};
 
 /// Runs of a contraction's values, one after the other. Nothing of them is held but what the
 /// contraction reads.

@@ -8,7 +8,7 @@ ghost use Rattle.std.specs.List.{range_with_len};
 ghost use Rattle.tensor_shape.specs.Index.{size_of};
 ghost use Rattle.tensor_shape.specs.Legal.{highest_rank, most_elements};
 ghost use Rattle.tensor_shape.specs.Wrap.{wrap};
-ghost use Rattle.tensor_walks.specs.Folds.{folded};
+ghost use Rattle.tensor_loops.specs.Folds.{folded};
 ghost use Rattle.tensor_ops.specs.private.Meaning.{meaning, count_of, IsSound, IsSound-prop};
 ghost use Rattle.tensor_terms.specs.Movement.{moved, moved_dims};
 ghost use Rattle.tensor_ops.specs.private.Placing.{Gives, meaning_at};
@@ -26,9 +26,10 @@ use crate::placing::place_movement;
 use std::alloc::{AllocError, Allocator, Global};
 use std::borrow::CowSlice;
 use tensor_kernels::sum_with_products;
+use tensor_loops::{add_combined, combined_with};
 use tensor_terms::{Movement, axes_first, dims_at, other_dims};
 use tensor_values::Reducer;
-use tensor_walks::{Places, add_combined, combined_with};
+use tensor_views::Places;
 
 /// Runs of values, one after the other. Nothing of them is held but what the placed expression
 /// reads.

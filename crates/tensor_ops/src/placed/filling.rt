@@ -6,7 +6,8 @@ ghost use Rattle.tensor_values.specs.Values.{value_in};
 
 use crate::placed::{PIECE, Placed, combine_at, values_at};
 use std::alloc::{AllocError, Global};
-use tensor_walks::{Places, apply, combine_chain, put_combined, select};
+use tensor_loops::{apply, combine_chain, put_combined, select};
+use tensor_views::Places;
 
 impl Placed<'_> {
     /// Writes the values at the places from the first to before the last, piece by piece, whatever
@@ -60,13 +61,13 @@ fn fill_piece(
             fill_piece(alloc, operand, from, to, out)?;
             apply(*operation, out);
         }
-        Placed::Binary(operation, turned, first, second) => {
+        Placed::Binary(link, first, second) => {
             if let (Some(one), Some(other)) = (first.list(), second.list()) {
-                put_combined(*operation, *turned, out, &one[from..to], &other[from..to]);
+                put_combined(*link, out, &one[from..to], &other[from..to]);
                 return Ok(());
             }
             fill_piece(alloc, first, from, to, out)?;
-            combine_at(alloc, *operation, *turned, out, second, &places)?;
+            combine_at(alloc, *link, out, second, &places)?;
         }
         Placed::Chain(links, first, second) => {
             fill_piece(alloc, first, from, to, out)?;

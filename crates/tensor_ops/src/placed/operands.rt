@@ -5,26 +5,26 @@ ghost use Rattle.std.specs.Cow.{cow_slice_items};
 ghost use Rattle.tensor_shape.specs.Index.{size_of, place};
 ghost use Rattle.tensor_shape.specs.Legal.{most_elements};
 ghost use Rattle.tensor_ops.specs.private.Meaning.{count_of, IsSound};
-ghost use Rattle.tensor_operands.specs.Operand.{operand_at, operand_count};
+ghost use Rattle.tensor_ops.specs.private.Operand.{operand_at, operand_count};
 ghost use Rattle.tensor_values.specs.Values.{value_in};
 ghost use Rattle.tensor_ops.specs.private.Placing.{HasValues, meaning_at};
 ghost use Rattle.tensor_ops.specs.private.Settling.{meaning_along};
-ghost use Rattle.tensor_walks.specs.Walk.{walk_size, reached};
+ghost use Rattle.tensor_views.specs.View.{walk_size, reached};
 
+use crate::operands::operand::{Operand, Viewed};
 use crate::placed::Placed;
-use crate::placed::settling::{settled_over, walk_over};
+use crate::placed::settling::{settled_over, view_over};
 use std::alloc::{AllocError, Global};
 use std::borrow::CowSlice;
-use tensor_operands::{Operand, Routed};
 use tensor_shape::Dims;
-use tensor_walks::Route;
+use tensor_views::View;
 
-/// How many values a list has at most for each place of a route along which it is read: all of them
-/// are looked at, to see whether they are small. Of a longer list those along the route are stored.
+/// How many values a list has at most for each place of a view along which it is read: all of them
+/// are looked at, to see whether they are small. Of a longer list those along the view are stored.
 const MOST_FOR_A_PLACE: usize = 8;
 
 impl<'a> Placed<'a> {
-    /// All its values, where it has these dims: in a list along a route where it is a movement of
+    /// All its values, where it has these dims: in a list along a view where it is a movement of
     /// one, and else in order.
     pub(crate) fn into_operand(self, alloc: Global, dims: &Dims) -> Result<Operand<'a>, AllocError>
         requires sound { IsSound self }
@@ -47,15 +47,12 @@ impl<'a> Placed<'a> {
             return Ok(Operand::InOrder(self.worked_out(alloc, dims)?));
         }
         match self {
-            Placed::Walk(start, axes, operand) => {
-                let operand = Box::into_inner(operand);
-                operand.along(alloc, Route { start, axes }, dims)
-            }
+            Placed::View(view, operand) => Box::into_inner(operand).along(alloc, view, dims),
             settled => Ok(Operand::InOrder(settled.worked_out(alloc, dims)?)),
         }
     }
 
-    /// Whether it is read, at so many places, along a walk in a list that is much longer.
+    /// Whether it is read, at so many places, along a view in a list that is much longer.
     fn is_sparse(&self, count: usize) -> bool
         requires { IsSound self.now }
     {
@@ -65,29 +62,29 @@ impl<'a> Placed<'a> {
         }
     }
 
-    /// What it has at the places of a route, which are those of these dims.
-    fn along(self, alloc: Global, route: Route, dims: &Dims) -> Result<Operand<'a>, AllocError>
+    /// What it has at the places of a view, which are those of these dims.
+    fn along(self, alloc: Global, view: View, dims: &Dims) -> Result<Operand<'a>, AllocError>
         requires sound { IsSound self }
         requires few { count_of self ≤ most_elements }
-        requires inside { (p : ℕ) → p < walk_size route.axes.items
-            → reached route.start route.axes.items p < count_of self }
-        requires count { walk_size route.axes.items ≡ size_of dims.now }
+        requires inside { (p : ℕ) → p < walk_size view.axes.items
+            → reached view.start view.axes.items p < count_of self }
+        requires count { walk_size view.axes.items ≡ size_of dims.now }
         ensures { IfOk result (λ o. HasValues (operand_count o) (operand_at o) dims.now
-            (λ index. meaning_along self.entry route.start route.axes.items
+            (λ index. meaning_along self.entry view.start view.axes.items
             (place dims.now index))) }
     {
         match self {
             Placed::Lent(values) => {
                 let list = CowSlice::Borrowed(values);
-                Ok(Operand::Along(Routed { list, route }))
+                Ok(Operand::Along(Viewed { list, view }))
             }
             Placed::Kept(values) => {
                 let list = CowSlice::Owned(values);
-                Ok(Operand::Along(Routed { list, route }))
+                Ok(Operand::Along(Viewed { list, view }))
             }
             placed => {
-                let walk = walk_over(alloc, placed, route)?;
-                Ok(Operand::InOrder(walk.worked_out(alloc, dims)?))
+                let viewed = view_over(alloc, placed, view)?;
+                Ok(Operand::InOrder(viewed.worked_out(alloc, dims)?))
             }
         }
     }

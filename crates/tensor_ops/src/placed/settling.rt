@@ -1,22 +1,23 @@
-//! Settling: the walks of a placed expression go down to what is read by places, where they become
-//! one walk each; what is worked out is then worked out in order.
+//! Settling: the views of a placed expression go down to what is read by places, where they become
+//! one view each; what is worked out is then worked out in order.
 
 ghost use Rattle.std.specs.Prelude.{◌≡◌, ◌<◌, ◌≤◌, ◌+◌, ℕ, IfOk};
 ghost use Rattle.tensor_shape.specs.Index.{size_of};
 ghost use Rattle.tensor_shape.specs.Legal.{most_elements};
-ghost use Rattle.tensor_walks.specs.Loops.{either_way, selected};
+ghost use Rattle.tensor_loops.specs.Loops.{either_way, selected};
 ghost use Rattle.tensor_ops.specs.private.Meaning.{meaning, count_of, IsSound};
 ghost use Rattle.tensor_ops.specs.private.Placing.{Gives, IsJoined, meaning_at};
 ghost use Rattle.tensor_values.specs.Scalars.{applied};
 ghost use Rattle.tensor_ops.specs.private.Settling.{Follows, meaning_along};
 ghost use Rattle.tensor_values.specs.Splicing.{spliced, HaveTurns};
-ghost use Rattle.tensor_walks.specs.Walk.{walk_size, reached};
+ghost use Rattle.tensor_views.specs.View.{walk_size, reached};
 
 use crate::placed::Placed;
 use std::alloc::{AllocError, Global};
+use tensor_loops::{Link, SelectOrder};
 use tensor_shape::Dims;
-use tensor_values::{BinaryScalar, Turns, UnaryScalar};
-use tensor_walks::{Route, SelectOrder, joined, places_along};
+use tensor_values::{Turns, UnaryScalar};
+use tensor_views::{View, ViewRef};
 
 /// A placed expression of these dims, settled.
 pub(crate) fn settled_over<'a>(
@@ -35,7 +36,7 @@ pub(crate) fn settled_over<'a>(
 }
 
 impl<'a> Placed<'a> {
-    /// The same with its walks at what is read by places. One over another walk is left where the
+    /// The same with its views at what is read by places. One over another view is left where the
     /// two can't be one.
     #[cycle(settled)]
     fn settled(self, alloc: Global) -> Result<Placed<'a>, AllocError>
@@ -49,10 +50,10 @@ impl<'a> Placed<'a> {
                 let operand = Box::into_inner(operand).settled(alloc)?;
                 each(alloc, operation, operand)
             }
-            Placed::Binary(operation, turned, first, second) => {
+            Placed::Binary(link, first, second) => {
                 let first = Box::into_inner(first).settled(alloc)?;
                 let second = Box::into_inner(second).settled(alloc)?;
-                first.chained(alloc, operation, turned, second)
+                first.chained(alloc, link, second)
             }
             Placed::Select(order, first, second, third) => {
                 let first = Box::into_inner(first).settled(alloc)?;
@@ -60,9 +61,7 @@ impl<'a> Placed<'a> {
                 let third = Box::into_inner(third).settled(alloc)?;
                 all(alloc, order, first, second, third)
             }
-            Placed::Walk(start, axes, operand) => {
-                Box::into_inner(operand).led(alloc, &Route { start, axes })
-            }
+            Placed::View(view, operand) => Box::into_inner(operand).led(alloc, view.as_ref()),
             Placed::Spliced(turns, first, second) => {
                 let first = Box::into_inner(first).settled(alloc)?;
                 let second = Box::into_inner(second).settled(alloc)?;
@@ -72,86 +71,86 @@ impl<'a> Placed<'a> {
         }
     }
 
-    /// The same at the places of a route, which goes down to what is read by places.
+    /// The same at the places of a view, which goes down to what is read by places.
     #[cycle(settled)]
-    fn led(self, alloc: Global, route: &Route) -> Result<Placed<'a>, AllocError>
+    fn led(self, alloc: Global, view: ViewRef<'_>) -> Result<Placed<'a>, AllocError>
         requires sound { IsSound self }
         requires few { count_of self ≤ most_elements }
-        requires some { 0 < walk_size route.now.axes.items }
-        requires short { walk_size route.now.axes.items ≤ most_elements }
-        requires inside { (p : ℕ) → p < walk_size route.now.axes.items
-            → reached route.now.start route.now.axes.items p < count_of self }
-        ensures { IfOk result (λ r. Follows r (walk_size route.now.axes.items)
-            (meaning_along self.entry route.now.start route.now.axes.items)) }
+        requires some { 0 < walk_size view.axes.now }
+        requires short { walk_size view.axes.now ≤ most_elements }
+        requires inside { (p : ℕ) → p < walk_size view.axes.now
+            → reached view.start view.axes.now p < count_of self }
+        ensures { IfOk result (λ r. Follows r (walk_size view.entry.axes.now)
+            (meaning_along self.entry view.entry.start view.entry.axes.now)) }
     {
         match self {
-            Placed::Same(value, _) => Ok(Placed::Same(value, places_along(&route.axes))),
+            Placed::Same(value, _) => Ok(Placed::Same(value, view.size())),
             Placed::Unary(operation, operand) => {
-                let operand = Box::into_inner(operand).led(alloc, route)?;
+                let operand = Box::into_inner(operand).led(alloc, view)?;
                 each(alloc, operation, operand)
             }
-            Placed::Binary(operation, turned, first, second) => {
-                let first = Box::into_inner(first).led(alloc, route)?;
-                let second = Box::into_inner(second).led(alloc, route)?;
-                first.chained(alloc, operation, turned, second)
+            Placed::Binary(link, first, second) => {
+                let first = Box::into_inner(first).led(alloc, view)?;
+                let second = Box::into_inner(second).led(alloc, view)?;
+                first.chained(alloc, link, second)
             }
             Placed::Select(order, first, second, third) => {
-                let first = Box::into_inner(first).led(alloc, route)?;
-                let second = Box::into_inner(second).led(alloc, route)?;
-                let third = Box::into_inner(third).led(alloc, route)?;
+                let first = Box::into_inner(first).led(alloc, view)?;
+                let second = Box::into_inner(second).led(alloc, view)?;
+                let third = Box::into_inner(third).led(alloc, view)?;
                 all(alloc, order, first, second, third)
             }
-            Placed::Walk(start, axes, operand) => {
-                if let Some(joint) = joined(alloc, route, start, &axes)? {
-                    return Box::into_inner(operand).led(alloc, &joint);
+            Placed::View(below, operand) => {
+                if let Some(joint) = view.then(alloc, below.as_ref())? {
+                    return Box::into_inner(operand).led(alloc, joint.as_ref());
                 }
                 let operand = Box::into_inner(operand).settled(alloc)?;
-                let inner = walk_over(alloc, operand, Route { start, axes })?;
-                walk_along(alloc, inner, route)
+                let inner = view_over(alloc, operand, below)?;
+                view_along(alloc, inner, view)
             }
             Placed::Spliced(turns, first, second) => {
                 let first = Box::into_inner(first).settled(alloc)?;
                 let second = Box::into_inner(second).settled(alloc)?;
                 let splice = in_turns(alloc, turns, first, second)?;
-                walk_along(alloc, splice, route)
+                view_along(alloc, splice, view)
             }
-            list => walk_along(alloc, list, route),
+            list => view_along(alloc, list, view),
         }
     }
 }
 
-/// A walk along a route over a placed expression.
-fn walk_along<'a>(
+/// A placed expression at the places of a view that is lent.
+fn view_along<'a>(
     alloc: Global,
     placed: Placed<'a>,
-    route: &Route,
+    view: ViewRef<'_>,
 ) -> Result<Placed<'a>, AllocError>
     requires sound { IsSound placed }
     requires few { count_of placed ≤ most_elements }
-    requires inside { (p : ℕ) → p < walk_size route.now.axes.items
-        → reached route.now.start route.now.axes.items p < count_of placed }
-    ensures { IfOk result (λ r. Follows r (walk_size route.now.axes.items)
-        (meaning_along placed.entry route.now.start route.now.axes.items)) }
+    requires inside { (p : ℕ) → p < walk_size view.axes.now
+        → reached view.start view.axes.now p < count_of placed }
+    ensures { IfOk result (λ r. Follows r (walk_size view.entry.axes.now)
+        (meaning_along placed.entry view.entry.start view.entry.axes.now)) }
 {
-    let route = route.copied(alloc)?;
-    walk_over(alloc, placed, route)
+    let view = view.copied(alloc)?;
+    view_over(alloc, placed, view)
 }
 
-/// A walk over a placed expression.
-pub(crate) fn walk_over<'a>(
+/// A placed expression at the places of a view.
+pub(crate) fn view_over<'a>(
     alloc: Global,
     placed: Placed<'a>,
-    route: Route,
+    view: View,
 ) -> Result<Placed<'a>, AllocError>
     requires sound { IsSound placed }
     requires few { count_of placed ≤ most_elements }
-    requires inside { (p : ℕ) → p < walk_size route.axes.items
-        → reached route.start route.axes.items p < count_of placed }
-    ensures { IfOk result (λ r. Follows r (walk_size route.axes.items)
-        (meaning_along placed.entry route.start route.axes.items)) }
+    requires inside { (p : ℕ) → p < walk_size view.axes.items
+        → reached view.start view.axes.items p < count_of placed }
+    ensures { IfOk result (λ r. Follows r (walk_size view.axes.items)
+        (meaning_along placed.entry view.start view.axes.items)) }
 {
     let placed = Box::new(alloc, placed)?;
-    Ok(Placed::Walk(route.start, route.axes, placed))
+    Ok(Placed::View(view, placed))
 }
 
 /// An operation on each value.
@@ -171,8 +170,7 @@ fn each<'a>(
 /// An operation on each two values.
 pub(crate) fn both<'a>(
     alloc: Global,
-    operation: BinaryScalar,
-    turned: bool,
+    link: Link,
     first: Placed<'a>,
     second: Placed<'a>,
 ) -> Result<Placed<'a>, AllocError>
@@ -180,11 +178,12 @@ pub(crate) fn both<'a>(
     requires second { IsSound second }
     requires same { count_of second ≡ count_of first }
     ensures { IfOk result (λ r. IsJoined r first.entry
-        (λ p. either_way operation turned (meaning first.entry p) (meaning second.entry p))) }
+        (λ p. either_way link.operation link.turned
+        (meaning first.entry p) (meaning second.entry p))) }
 {
     let first = Box::new(alloc, first)?;
     let second = Box::new(alloc, second)?;
-    Ok(Placed::Binary(operation, turned, first, second))
+    Ok(Placed::Binary(link, first, second))
 }
 
 /// Select on each three values.

@@ -7,11 +7,12 @@ ghost use Rattle.tensor_terms.specs.Convolution.{convolved, convolved_dims};
 ghost use Rattle.tensor_ops.specs.private.Meaning.{count_of, IsSound};
 ghost use Rattle.tensor_ops.specs.private.Placing.{Gives, HasValues, meaning_at};
 
+use crate::operands::rows::one_row;
+use crate::operands::slid_runs::runs_under_kernel;
 use crate::placed::Placed;
 use crate::placing::part::Part;
 use std::alloc::{AllocError, Global};
 use tensor_kernels::Contraction;
-use tensor_operands::{one_row, runs_under_kernel};
 use tensor_shape::Dims;
 use tensor_terms::convolved_dims;
 

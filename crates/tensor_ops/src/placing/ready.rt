@@ -7,15 +7,16 @@ ghost use Rattle.tensor_kernels.specs.Contracting.{contraction_count, contractio
 ghost use Rattle.tensor_terms.specs.Contraction.{contracted, contracted_dims};
 ghost use Rattle.tensor_ops.specs.private.Meaning.{count_of, IsSound};
 ghost use Rattle.tensor_ops.specs.private.Placing.{Gives, HasValues, contraction_at, meaning_at};
-ghost use Rattle.tensor_operands.specs.Reduced.{places_of_result, reduction_at};
+ghost use Rattle.tensor_ops.specs.private.Reduced.{places_of_result, reduction_at};
 ghost use Rattle.tensor_terms.specs.Reduction.{reduced, reduced_dims};
 
+use crate::operands::contraction::paired_contraction;
+use crate::operands::reduction::Reduction;
 use crate::placed::Placed;
 use crate::placing::part::Part;
 use std::alloc::{AllocError, Global};
 use std::borrow::CowSlice;
 use tensor_kernels::Contraction;
-use tensor_operands::{Reduction, paired_contraction};
 use tensor_shape::{Dims, MAX_RANK};
 use tensor_terms::{contracted_dims, reduced_dims};
 use tensor_values::Reducer;

@@ -1,6 +1,6 @@
 use Rattle.std.proofs.Common.{◌≡◌, arith}
 use Rattle.tensor_ops.specs.private.Meaning.{meaning, count_of}
-use Rattle.tensor_walks.proofs.SplicedParts.{first-within, second-within, add-first, add-second}
+use Rattle.tensor_loops.proofs.SplicedParts.{first-within, second-within, add-first, add-second}
 use Rattle.tensor_ops.proofs.placed.+add_values.Goals as goal
 
 pub add_turns-add_values-requires : goal.add_turns-add_values-requires

@@ -9,16 +9,16 @@ use Rattle.std.specs.Int.{w64}
 use mir.Val.{SFits, to_z, of_z}
 use Rattle.std.specs.Cow.{cow_slice_items}
 use Rattle.std.specs.Prelude.{replicate}
-use Rattle.tensor_walks.specs.Chain.{chained}
-use Rattle.tensor_walks.specs.Loops.{either_way, selected}
+use Rattle.tensor_loops.specs.Chain.{chained}
+use Rattle.tensor_loops.specs.Loops.{either_way, selected}
 use Rattle.tensor_ops.specs.private.Meaning.{meaning, count_of, depth_of}
-use Rattle.tensor_walks.specs.Places.{places_of}
+use Rattle.tensor_views.specs.Places.{places_of}
 use Rattle.tensor_values.specs.Scalars.{applied}
 use Rattle.tensor_values.specs.Splicing.{firsts_before, seconds_before, spliced}
-use Rattle.tensor_walks.specs.Walk.{reached, walk_size, place_in}
+use Rattle.tensor_views.specs.View.{reached, walk_size, place_in}
 use Rattle.tensor_values.proofs.InTurns.{firsts-run, seconds-run, first_places-below, second_places-below, map-first_alone, map-second_alone}
 use Rattle.tensor_values.proofs.Runs.{places-applied, places-paired, places-selected, places-moved, map-constant}
-use Rattle.tensor_walks.proofs.Soundness.{reached-within}
+use Rattle.tensor_views.proofs.Soundness.{reached-within}
 use Rattle.tensor_ops.proofs.placed.+values_at.Goals as goal
 
 -- combined with what is read along a walk, or with values
@@ -44,7 +44,7 @@ combine_at-combine-requires t c =
 
 pub combine_at-returns : goal.combine_at-returns
 combine_at-returns t c =
-    let o = either_way c.args.operation c.args.turned in
+    let o = either_way c.args.link.operation c.args.link.turned in
     let places = places_of c.args.places.now in
     let others = c.as_slice.ensures.value ∙ c.in_ok-others.ensures in
     let long = ap length others ∙ length-map places (meaning c.args.operand.now) in
@@ -57,10 +57,10 @@ combine_at-returns t c =
           ∙ get_or-map (meaning c.args.operand.now) places k 0 (pos 0) below);
     }
 
-pub values_at-sources-requires-clause-fits : goal.values_at-sources-requires-clause-fits
-values_at-sources-requires-clause-fits t c =
-    let sound = rw c.in-Walk.is at c.requires.sound in
-    rw c.deref-in-Walk-2.ensures.value (λ p below. omega (arith, sound.1.0, sound.1.1 p below))
+pub values_at-places-requires-clause-fits : goal.values_at-places-requires-clause-fits
+values_at-places-requires-clause-fits t c =
+    let sound = rw c.in-View.is at c.requires.sound in
+    rw (c.as_ref-view.ensures.start, c.as_ref-view.ensures.axes) (λ p below. omega (arith, sound.1.0, sound.1.1 p below))
 
 pub values_at-values_at-requires : goal.values_at-values_at-requires
 values_at-values_at-requires t c = (
@@ -109,7 +109,7 @@ pub combine_at-returns-then-has_long_rows-clause-each : goal.combine_at-returns-
 combine_at-returns-then-has_long_rows-clause-each t c =
     let first = c.in-Run.first in
     let count = c.in-Run.last - c.in-Run.first in
-    let o = either_way c.args.operation c.args.turned in
+    let o = either_way c.args.link.operation c.args.link.turned in
     on_ok_weaker c.combine_along.result
     (λ each k below.
     let long : length (places_of c.args.places.now) ≡ count = ap (λ ps. length (places_of ps)) c.in-Run.is ∙ length-range_with_len first count in
@@ -122,7 +122,7 @@ combine_at-returns-then-has_long_rows-clause-each t c =
 
 pub combine_at-returns-in-Same-clause-each : goal.combine_at-returns-in-Same-clause-each
 combine_at-returns-in-Same-clause-each t c = λ k below.
-    let o = either_way c.args.operation c.args.turned in
+    let o = either_way c.args.link.operation c.args.link.turned in
     let old = c.args.values.now in
     let fits : SFits w64 c.in-Same.value = search rules in
     let value : ℤ = to_z w64 (of_z w64 c.in-Same.value) in
@@ -135,19 +135,20 @@ combine_at-returns-in-Same-clause-each t c = λ k below.
     ∙ ap (λ x. o (get_or old k (pos 0)) x) same
     ∙ ap (λ a. o (get_or old k (pos 0)) (meaning a (get_or (places_of c.args.places.now) k 0))) (sym c.in-Same.is)
 
-pub values_at-values_at-requires-in-Walk : goal.values_at-values_at-requires-in-Walk
-values_at-values_at-requires-in-Walk t c = (
-  omega (arith, c.decreases, ap depth_of c.in-Walk.is, ap depth_of c.deref-in-Walk-3.ensures),
+pub values_at-values_at-requires-in-View : goal.values_at-values_at-requires-in-View
+values_at-values_at-requires-in-View t c = (
+  omega (arith, c.decreases, ap depth_of c.in-View.is, ap depth_of c.deref-in-View-2.ensures),
   (
-    let sound = rw c.in-Walk.is at c.requires.sound in rw c.deref-in-Walk-3.ensures sound.0,
-    let sound = rw c.in-Walk.is at c.requires.sound in
-        let below = rw c.in-Walk.is at c.requires.places in
-        let listed : c.deref-in-Walk-4.result.now ≡ map (reached c.in-Walk.start c.in-Walk.axes.items) (places_of c.args.places.now) =
-        c.deref-in-Walk-4.ensures.value ∙ c.in_ok-sources-in-Walk.ensures
-        ∙ ap (λ l. map (reached c.in-Walk.start l) (places_of c.args.places.now)) c.deref-in-Walk-2.ensures.value in
-        rw (listed, c.deref-in-Walk-3.ensures)
-        (λ k within. reached-within (reached c.in-Walk.start c.in-Walk.axes.items) c.args.places.now (walk_size c.in-Walk.axes.items)
-        (count_of c.in-Walk.operand.value) k below sound.1.1 within),
+    let sound = rw c.in-View.is at c.requires.sound in rw c.deref-in-View-2.ensures sound.0,
+    let sound = rw c.in-View.is at c.requires.sound in
+        let below = rw c.in-View.is at c.requires.places in
+        let listed : c.deref-in-View-3.result.now ≡ map (reached c.in-View.view.start c.in-View.view.axes.items) (places_of c.args.places.now) =
+        c.deref-in-View-3.ensures.value ∙ c.in_ok-sources-in-View.ensures
+        ∙ ap (λ s. map (reached s c.as_ref-view.result.axes.now) (places_of c.args.places.now)) c.as_ref-view.ensures.start
+        ∙ ap (λ l. map (reached c.in-View.view.start l) (places_of c.args.places.now)) c.as_ref-view.ensures.axes in
+        rw (listed, c.deref-in-View-2.ensures)
+        (λ k within. reached-within (reached c.in-View.view.start c.in-View.view.axes.items) c.args.places.now (walk_size c.in-View.view.axes.items)
+        (count_of c.in-View.operand.value) k below sound.1.1 within),
   ),
 )
 
@@ -169,7 +170,7 @@ values_at-returns-in_ok-values-in-Unary t c =
 pub values_at-returns-in_ok-combine_at-in-Binary : goal.values_at-returns-in_ok-combine_at-in-Binary
 values_at-returns-in_ok-combine_at-in-Binary t c =
     let places = places_of c.args.places.now in
-    let o = either_way c.in-Binary.operation c.in-Binary.turned in
+    let o = either_way c.in-Binary.link.operation c.in-Binary.link.turned in
     let values = c.in_ok-values-in-Binary.values in
     let old = c.deref_mut-in-Binary.result.now in
     let new = c.combine_at.new.values in
@@ -185,18 +186,19 @@ values_at-returns-in_ok-combine_at-in-Binary t c =
     (λ k below. c.in_ok-combine_at-in-Binary.ensures.each k below
     ∙ ap (λ a. o (get_or old k (pos 0)) (meaning a (get_or places k 0))) c.deref-in-Binary-2.ensures))
 
-pub values_at-returns-in_ok-sources-in-Walk : goal.values_at-returns-in_ok-sources-in-Walk
-values_at-returns-in_ok-sources-in-Walk t c =
-    let listed : c.deref-in-Walk-4.result.now ≡ map (reached c.in-Walk.start c.in-Walk.axes.items) (places_of c.args.places.now) =
-    c.deref-in-Walk-4.ensures.value ∙ c.in_ok-sources-in-Walk.ensures
-    ∙ ap (λ l. map (reached c.in-Walk.start l) (places_of c.args.places.now)) c.deref-in-Walk-2.ensures.value in
-    let whole : map (meaning c.deref-in-Walk-3.result.now) c.deref-in-Walk-4.result.now
-    ≡ map (λ p. meaning c.in-Walk.operand.value (reached c.in-Walk.start c.in-Walk.axes.items p)) (places_of c.args.places.now) =
-    ap (λ a. map (meaning a) c.deref-in-Walk-4.result.now) c.deref-in-Walk-3.ensures
-    ∙ ap (λ l. map (meaning c.in-Walk.operand.value) l) listed
-    ∙ places-moved (places_of c.args.places.now) (meaning c.in-Walk.operand.value) (reached c.in-Walk.start c.in-Walk.axes.items) in
-    rw c.in-Walk.is
-    (subst (λ l. IfOk c.values_at-in-Walk.result (λ v. cow_slice_items v ≡ l)) whole c.values_at-in-Walk.ensures)
+pub values_at-returns-in_ok-sources-in-View : goal.values_at-returns-in_ok-sources-in-View
+values_at-returns-in_ok-sources-in-View t c =
+    let listed : c.deref-in-View-3.result.now ≡ map (reached c.in-View.view.start c.in-View.view.axes.items) (places_of c.args.places.now) =
+    c.deref-in-View-3.ensures.value ∙ c.in_ok-sources-in-View.ensures
+    ∙ ap (λ s. map (reached s c.as_ref-view.result.axes.now) (places_of c.args.places.now)) c.as_ref-view.ensures.start
+    ∙ ap (λ l. map (reached c.in-View.view.start l) (places_of c.args.places.now)) c.as_ref-view.ensures.axes in
+    let whole : map (meaning c.deref-in-View-2.result.now) c.deref-in-View-3.result.now
+    ≡ map (λ p. meaning c.in-View.operand.value (reached c.in-View.view.start c.in-View.view.axes.items p)) (places_of c.args.places.now) =
+    ap (λ a. map (meaning a) c.deref-in-View-3.result.now) c.deref-in-View-2.ensures
+    ∙ ap (λ l. map (meaning c.in-View.operand.value) l) listed
+    ∙ places-moved (places_of c.args.places.now) (meaning c.in-View.operand.value) (reached c.in-View.view.start c.in-View.view.axes.items) in
+    rw c.in-View.is
+    (subst (λ l. IfOk c.values_at-in-View.result (λ v. cow_slice_items v ≡ l)) whole c.values_at-in-View.ensures)
 
 pub values_at-values_at-requires-in-Chain : goal.values_at-values_at-requires-in-Chain
 values_at-values_at-requires-in-Chain t c =

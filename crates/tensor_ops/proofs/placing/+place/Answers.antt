@@ -8,7 +8,7 @@ use Rattle.tensor_terms.specs.Tensors.{tensors_in}
 use Rattle.tensor_terms.specs.Tree.{term_of, unary_at, binary_at}
 use Rattle.tensor_ops.specs.declared.placed.Placed.TheVariants.{Lent}
 use Rattle.tensor_ops.proofs.Placings.{gives-input}
-use Rattle.tensor_operands.proofs.Outcomes.{IfOk-both}
+use Rattle.tensor_ops.proofs.Outcomes.{IfOk-both}
 use Rattle.tensor_terms.proofs.Shapes.{with_two-over}
 use Rattle.tensor_ops.proofs.Worked.{gives-unary, gives-binary}
 use Rattle.tensor_ops.proofs.placing.+place.Goals as goal

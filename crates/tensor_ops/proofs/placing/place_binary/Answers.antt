@@ -1,7 +1,7 @@
 use Rattle.std.proofs.Common.{sym}
 use Rattle.tensor_terms.specs.Shaped.{equal_dims}
 use Rattle.tensor_ops.proofs.Placings.{gives-pairwise}
-use Rattle.tensor_operands.proofs.Outcomes.{IfOk-both}
+use Rattle.tensor_ops.proofs.Outcomes.{IfOk-both}
 use Rattle.tensor_ops.proofs.SameTensors.{equal_dims-known}
 use Rattle.tensor_terms.proofs.Shapes.{Ok-unwrap}
 use Rattle.tensor_ops.proofs.placing.place_binary.Goals as goal

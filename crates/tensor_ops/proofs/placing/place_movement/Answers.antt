@@ -1,12 +1,12 @@
-use Rattle.std.proofs.Common.{◌<◌, pos, length, refl, ap, subst, sym, ◌∙◌}
+use Rattle.std.proofs.Common.{◌≡◌, ◌<◌, pos, refl, sym, ◌∙◌}
 use Rattle.tensor_shape.specs.Index.{size_of}
-use Rattle.tensor_operands.specs.Axes.{HasRank, moved_start}
+use Rattle.tensor_views.specs.Axes.{axes_from, moved_axes, moved_start}
 use Rattle.tensor_terms.specs.Movement.{moved}
-use Rattle.tensor_ops.specs.private.Placing.{meaning_at}
+use Rattle.tensor_ops.specs.private.Placing.{IsView, meaning_at}
 use Rattle.tensor_terms.specs.Tree.{movement_at}
-use Rattle.tensor_ops.specs.declared.placed.Placed.TheVariants.{Same, Walk}
-use Rattle.tensor_operands.proofs.Moves.{has_rank-moved, index-moved}
-use Rattle.tensor_ops.proofs.Placings.{gives-none, gives-index, gives-other, gives-reshape, gives-walk, moved_start-few, some-of}
+use Rattle.tensor_ops.specs.declared.placed.Placed.TheVariants.{Same, View}
+use Rattle.tensor_views.proofs.Moves.{has_rank-moved, index-moved}
+use Rattle.tensor_ops.proofs.Placings.{gives-none, gives-index, gives-other, gives-reshape, gives-walk, moved_start-few, some-of, view-whole}
 use Rattle.tensor_ops.proofs.placing.place_movement.Goals as goal
 
 pub returns-then-count-eq0 : goal.returns-then-count-eq0
@@ -28,48 +28,45 @@ returns-in-Reshape c = record {
 pub kept-requires : goal.kept-requires
 kept-requires c = record { sound = c.requires.sound; count = c.requires.count }
 
-pub whole_view-requires : goal.whole_view-requires
-whole_view-requires c = record { sound = c.in_ok-whole.ensures.sound; count = c.in_ok-whole.ensures.count }
-
-pub moved_start-start-requires : goal.moved_start-start-requires
-moved_start-start-requires c =
+pub moved-view-requires : goal.moved-view-requires
+moved-view-requires c =
     let m = movement_at c.args.movement in
     let ds = c.args.operand.dims in
     let rs = c.unwrap-dims.result in
-    let view = c.in_ok-view.ensures.view in
+    let inner = c.in_ok-inner.inner in
+    let whole = c.in_ok-whole.ensures in
+    let is_rs = sym c.moved_dims.ensures ∙ c.unwrap-dims.ensures in
+    let view = view-whole inner ds c.in_ok-inner.ensures.sound c.in_ok-inner.ensures.count whole.few in
     let some : 0 < size_of rs = some-of c.size-count.ensures.value c.if-count-eq0.false in
-    rw c.deref.ensures.value (record {
-      rank = has_rank-moved c.in_ok-view.view.axes.items ds rs view.along m (sym c.moved_dims.ensures ∙ c.unwrap-dims.ensures);
-      fits = moved_start-few m c.in_ok-view.view.placed.value c.in_ok-whole.whole c.in_ok-view.view.start c.in_ok-view.view.axes.items ds rs
-          view (sym c.moved_dims.ensures ∙ c.unwrap-dims.ensures) some;
+    let short = rw whole.axes at whole.short in
+    rw (whole.start, whole.axes) (record {
+      rank = has_rank-moved (axes_from 1 ds) ds rs view.along m is_rs;
+      fits = moved_start-few m inner inner 0 (axes_from 1 ds) ds rs view is_rs some;
+      short = short;
     })
-
-pub moved_axes-requires : goal.moved_axes-requires
-moved_axes-requires c = record {
-  rank = subst (λ n. HasRank (movement_at c.args.movement) n)
-      (sym (ap length c.deref.ensures.value) ∙ c.deref.ensures.len)
-      (has_rank-moved c.in_ok-view.view.axes.items c.args.operand.dims c.unwrap-dims.result c.in_ok-view.ensures.view.along
-      (movement_at c.args.movement) (sym c.moved_dims.ensures ∙ c.unwrap-dims.ensures));
-  short = c.in_ok-view.ensures.short;
-}
 
 pub returns : goal.returns
 returns c =
     let m = movement_at c.args.movement in
     let ds = c.args.operand.dims in
     let rs = c.unwrap-dims.result in
+    let inner = c.in_ok-inner.inner in
+    let boxed = c.in_ok-placed.placed in
     let view = c.in_ok-view.view in
-    let start = c.moved_start-start.result in
-    let axes = c.in_ok-axes.axes in
-    let whole = Walk start axes view.placed in
-    let walk = gives-walk m view.placed.value c.in_ok-whole.whole whole view.start start view.axes.items axes.items ds rs
-    c.in_ok-view.ensures.view (sym c.moved_dims.ensures ∙ c.unwrap-dims.ensures)
-    (c.moved_start-start.ensures ∙ ap (moved_start m view.start) c.deref.ensures.value) c.in_ok-axes.ensures
-    (λ p. refl) refl (λ sound few reaches. (sound, (few, reaches))) in
+    let of_dims = c.in_ok-whole.ensures in
+    let is_rs = sym c.moved_dims.ensures ∙ c.unwrap-dims.ensures in
+    let start : view.start ≡ moved_start m 0 (axes_from 1 ds) = rw (of_dims.start, of_dims.axes) at c.in_ok-view.ensures.start in
+    let axes : view.axes.items ≡ moved_axes m (axes_from 1 ds) = rw of_dims.axes at c.in_ok-view.ensures.axes in
+    let is : IsView boxed.value 0 (axes_from 1 ds) inner ds =
+    rw c.in_ok-placed.ensures.ok
+    (view-whole inner ds c.in_ok-inner.ensures.sound c.in_ok-inner.ensures.count of_dims.few) in
+    let whole = View view boxed in
+    let seen = gives-walk m boxed.value inner whole 0 view.start (axes_from 1 ds) view.axes.items ds rs is is_rs
+    start axes (λ p. refl) refl (λ sound few reaches. (sound, (few, reaches))) in
     record {
-      dims = sym c.moved_dims.ensures ∙ c.unwrap-dims.ensures;
-      placed = gives-other whole rs (λ index. meaning_at c.in_ok-whole.whole ds (moved m ds index))
-          (λ index. meaning_at c.args.operand.placed ds (moved m ds index)) walk
-          (λ index is_index. gives-index c.in_ok-whole.whole ds (meaning_at c.args.operand.placed ds) (moved m ds index) c.in_ok-whole.ensures
-          (index-moved view.axes.items ds rs c.in_ok-view.ensures.view.along m index (sym c.moved_dims.ensures ∙ c.unwrap-dims.ensures) is_index));
+      dims = is_rs;
+      placed = gives-other whole rs (λ index. meaning_at inner ds (moved m ds index))
+          (λ index. meaning_at c.args.operand.placed ds (moved m ds index)) seen
+          (λ index is_index. gives-index inner ds (meaning_at c.args.operand.placed ds) (moved m ds index) c.in_ok-inner.ensures
+          (index-moved (axes_from 1 ds) ds rs is.along m index is_rs is_index));
     }

@@ -5,7 +5,7 @@ use Rattle.tensor_shape.specs.Legal.{most_elements}
 use Rattle.tensor_ops.specs.private.Meaning.{meaning, count_of, depth_of}
 use Rattle.tensor_ops.specs.private.Settling.{Follows, meaning_along}
 use Rattle.tensor_values.specs.Splicing.{spliced, HaveTurns}
-use Rattle.tensor_walks.specs.Walk.{walk_size}
+use Rattle.tensor_views.specs.View.{walk_size}
 use Rattle.tensor_values.proofs.InTurns.{turns-some}
 use Rattle.tensor_ops.proofs.Settled.{follows-spliced}
 use Rattle.tensor_ops.proofs.Settled.{CanSettle, CanLead, settle-beside}
@@ -78,13 +78,14 @@ settled-settled-requires-in-Select-3 t c =
 
 pub settled-led-requires : goal.settled-led-requires
 settled-led-requires t c =
-    let sound = rw c.in-Walk.is at c.requires.sound in
-    let some = rw c.in-Walk.is at c.requires.some in
-    let few = rw c.in-Walk.is at c.requires.few in
-    let same : c.into_inner-in-Walk.result ≡ c.in-Walk.operand.value = c.into_inner-in-Walk.ensures in (
-      omega (arith, c.decreases, ap depth_of c.in-Walk.is, ap depth_of same),
-      subst (λ z. CanLead z c.in-Walk.start c.in-Walk.axes.items) (sym same)
-          (sound.0, (sound.1.0, (some, (few, sound.1.1)))),
+    let sound = rw c.in-View.is at c.requires.sound in
+    let some = rw c.in-View.is at c.requires.some in
+    let few = rw c.in-View.is at c.requires.few in
+    let same : c.into_inner-in-View.result ≡ c.in-View.operand.value = c.into_inner-in-View.ensures in (
+      omega (arith, c.decreases, ap depth_of c.in-View.is, ap depth_of same),
+      rw (c.as_ref.ensures.start, c.as_ref.ensures.axes)
+          (subst (λ z. CanLead z c.in-View.view.start c.in-View.view.axes.items) (sym same)
+          (sound.0, (sound.1.0, (some, (few, sound.1.1))))),
     )
 
 pub settled-settled-requires-in-Spliced : goal.settled-settled-requires-in-Spliced
@@ -159,7 +160,7 @@ settled-returns-in_ok-second-in-Binary t c =
     let y = c.in_ok-second-in-Binary.second in
     let sound = rw c.in-Binary.is at c.requires.sound in
     rw c.in-Binary.is
-    (both-follow c.chained.result c.in-Binary.operation c.in-Binary.turned x y (count_of a) (meaning a) (meaning b)
+    (both-follow c.chained.result c.in-Binary.link.operation c.in-Binary.link.turned x y (count_of a) (meaning a) (meaning b)
     (follows-same x c.into_inner-in-Binary.result a c.into_inner-in-Binary.ensures c.in_ok-first-in-Binary.ensures)
     (follows-beside y (count_of b) (count_of a) (meaning b) sound.1.1
     (follows-same y c.into_inner-in-Binary-2.result b c.into_inner-in-Binary-2.ensures c.in_ok-second-in-Binary.ensures))
@@ -183,12 +184,17 @@ settled-returns-in_ok-third-in-Select t c =
     (follows-same z c.into_inner-in-Select-3.result d c.into_inner-in-Select-3.ensures c.in_ok-third-in-Select.ensures))
     c.all.ensures)
 
-pub settled-returns-in-Walk : goal.settled-returns-in-Walk
-settled-returns-in-Walk t c =
-    let axes = c.in-Walk.axes.items in
-    rw c.in-Walk.is
-    (subst (λ z. IfOk c.led.result (λ r. Follows r (walk_size axes) (meaning_along z c.in-Walk.start axes)))
-    c.into_inner-in-Walk.ensures c.led.ensures)
+pub settled-returns-in-View : goal.settled-returns-in-View
+settled-returns-in-View t c =
+    let axes = c.in-View.view.axes.items in
+    let view = c.as_ref.result in
+    rw c.in-View.is
+    (subst (λ z. IfOk c.led.result (λ r. Follows r (walk_size axes) (meaning_along z c.in-View.view.start axes)))
+    c.into_inner-in-View.ensures
+    (subst (λ s. IfOk c.led.result (λ r. Follows r (walk_size axes) (meaning_along c.into_inner-in-View.result s axes)))
+    c.as_ref.ensures.start
+    (subst (λ l. IfOk c.led.result (λ r. Follows r (walk_size l) (meaning_along c.into_inner-in-View.result view.start l)))
+    c.as_ref.ensures.axes c.led.ensures)))
 
 pub settled-in_turns-requires : goal.settled-in_turns-requires
 settled-in_turns-requires t c =
@@ -257,8 +263,8 @@ led-returns-in_ok-second-in-Binary = led.led-returns-in_ok-second-in-Binary
 pub led-returns-in_ok-third-in-Select : goal.led-returns-in_ok-third-in-Select
 led-returns-in_ok-third-in-Select = led.led-returns-in_ok-third-in-Select
 
-pub led-joined-requires : goal.led-joined-requires
-led-joined-requires = led.led-joined-requires
+pub led-then-joint-requires : goal.led-then-joint-requires
+led-then-joint-requires = led.led-then-joint-requires
 
 pub led-led-requires-in-Some : goal.led-led-requires-in-Some
 led-led-requires-in-Some = led.led-led-requires-in-Some
@@ -269,14 +275,14 @@ led-returns-in-Some = led.led-returns-in-Some
 pub led-settled-requires : goal.led-settled-requires
 led-settled-requires = led.led-settled-requires
 
-pub led-walk_over-requires : goal.led-walk_over-requires
-led-walk_over-requires = led.led-walk_over-requires
+pub led-view_over-requires : goal.led-view_over-requires
+led-view_over-requires = led.led-view_over-requires
 
-pub led-walk_along-requires : goal.led-walk_along-requires
-led-walk_along-requires = led.led-walk_along-requires
+pub led-view_along-requires : goal.led-view_along-requires
+led-view_along-requires = led.led-view_along-requires
 
-pub led-returns-in_ok-inner-in-Walk : goal.led-returns-in_ok-inner-in-Walk
-led-returns-in_ok-inner-in-Walk = led.led-returns-in_ok-inner-in-Walk
+pub led-returns-in_ok-inner-in-View : goal.led-returns-in_ok-inner-in-View
+led-returns-in_ok-inner-in-View = led.led-returns-in_ok-inner-in-View
 
 pub led-settled-requires-in-Spliced : goal.led-settled-requires-in-Spliced
 led-settled-requires-in-Spliced = led.led-settled-requires-in-Spliced
@@ -287,8 +293,8 @@ led-settled-requires-in-Spliced-2 = led.led-settled-requires-in-Spliced-2
 pub led-in_turns-requires : goal.led-in_turns-requires
 led-in_turns-requires = led.led-in_turns-requires
 
-pub led-walk_along-requires-in-Spliced : goal.led-walk_along-requires-in-Spliced
-led-walk_along-requires-in-Spliced = led.led-walk_along-requires-in-Spliced
+pub led-view_along-requires-in-Spliced : goal.led-view_along-requires-in-Spliced
+led-view_along-requires-in-Spliced = led.led-view_along-requires-in-Spliced
 
 pub led-returns-in_ok-splice-in-Spliced : goal.led-returns-in_ok-splice-in-Spliced
 led-returns-in_ok-splice-in-Spliced = led.led-returns-in_ok-splice-in-Spliced

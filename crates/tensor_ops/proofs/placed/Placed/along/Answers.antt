@@ -9,19 +9,19 @@ pub returns-in-Lent : goal.returns-in-Lent
 returns-in-Lent c =
     let list = c.in-Lent.values in
     rw c.in-Lent.is
-    (values-along (Lent list) list.now c.args.route.start c.args.route.axes.items c.args.dims.now
+    (values-along (Lent list) list.now c.args.view.start c.args.view.axes.items c.args.dims.now
     (record { count = refl; each = λ p. refl }) c.requires.count)
 
 pub returns-in-Kept : goal.returns-in-Kept
 returns-in-Kept c =
     let list = c.in-Kept.values in
     rw c.in-Kept.is
-    (values-along (Kept list) list.items c.args.route.start c.args.route.axes.items c.args.dims.now
+    (values-along (Kept list) list.items c.args.view.start c.args.view.axes.items c.args.dims.now
     (record { count = refl; each = λ p. refl }) c.requires.count)
 
 pub returns-in_ok-worked_out-in_default : goal.returns-in_ok-worked_out-in_default
 returns-in_ok-worked_out-in_default c =
     let list = cow_slice_items c.in_ok-worked_out-in_default.field-0 in
-    values-followed (length list) (value_in list) c.in_ok-walk-in_default.walk c.args.self
-    c.args.route.start c.args.route.axes.items c.args.dims.now c.requires.count
-    c.in_ok-walk-in_default.ensures c.in_ok-worked_out-in_default.ensures
+    values-followed (length list) (value_in list) c.in_ok-viewed-in_default.viewed c.args.self
+    c.args.view.start c.args.view.axes.items c.args.dims.now c.requires.count
+    c.in_ok-viewed-in_default.ensures c.in_ok-worked_out-in_default.ensures

@@ -1,5 +1,5 @@
 use Rattle.std.proofs.lemmas.Result.{IfOk-weaker}
-use Rattle.tensor_operands.specs.Operand.{operand_count, operand_at}
+use Rattle.tensor_ops.specs.private.Operand.{operand_count, operand_at}
 use Rattle.tensor_ops.specs.private.Placing.{meaning_at}
 use Rattle.tensor_ops.proofs.Worked.{values-given}
 use Rattle.tensor_ops.proofs.placed.Placed.into_operand.Goals as goal

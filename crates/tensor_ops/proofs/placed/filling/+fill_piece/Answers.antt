@@ -1,8 +1,8 @@
 use Rattle.std.proofs.Common.{◌≡◌, ◌+◌, ◌-◌, ◌<◌, ℕ, ℤ, pos, length, map, get_or, ap, sym, ◌∙◌, arith}
 use Rattle.std.specs.List.{range_with_len}
 use Rattle.std.proofs.lemmas.List.FromFn.{length-range_with_len, get_or-range_with_len}
-use Rattle.tensor_walks.specs.Chain.{chained}
-use Rattle.tensor_walks.specs.Loops.{either_way, selected}
+use Rattle.tensor_loops.specs.Chain.{chained}
+use Rattle.tensor_loops.specs.Loops.{either_way, selected}
 use Rattle.tensor_ops.specs.private.Meaning.{meaning}
 use Rattle.tensor_ops.proofs.Filled.{run-long, run-read}
 use Rattle.tensor_ops.proofs.placed.filling.+fill_piece.Goals as goal
@@ -18,7 +18,7 @@ pub returns-in_ok-combine_at-in-Binary-clause-each :
 returns-in_ok-combine_at-in-Binary-clause-each t c =
     let from = c.args.from in
     let count : ℕ = c.args.to - from in
-    let o : ℤ → ℤ → ℤ = either_way c.in-Binary.operation c.in-Binary.turned in
+    let o : ℤ → ℤ → ℤ = either_way c.in-Binary.link.operation c.in-Binary.link.turned in
     let a = c.in-Binary.first.value in
     let b = c.in-Binary.second.value in
     let out = c.fill_piece-in-Binary.new.out in

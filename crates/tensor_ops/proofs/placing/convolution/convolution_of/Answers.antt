@@ -5,7 +5,7 @@ use Rattle.tensor_values.specs.Values.{value_in}
 use Rattle.tensor_ops.specs.private.Placing.{meaning_at}
 use Rattle.tensor_kernels.specs.Rows.{row_count, row_length, row_value}
 use Rattle.tensor_kernels.specs.SlidRuns.{slid_count, slid_length, slid_value}
-use Rattle.tensor_operands.proofs.ConvolvedRows.{rows_dot-convolved}
+use Rattle.tensor_ops.proofs.ConvolvedRows.{rows_dot-convolved}
 use Rattle.tensor_ops.proofs.Convolved.{values-convolved}
 use Rattle.tensor_ops.proofs.placing.convolution.convolution_of.Goals as goal
 

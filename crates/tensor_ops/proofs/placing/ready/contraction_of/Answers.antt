@@ -1,6 +1,6 @@
 use Rattle.std.proofs.Common.{sym, ◌∙◌}
 use Rattle.tensor_kernels.specs.Contracting.{contraction_count, contraction_value}
-use Rattle.tensor_operands.specs.Operand.{operand_count, operand_at}
+use Rattle.tensor_ops.specs.private.Operand.{operand_count, operand_at}
 use Rattle.tensor_ops.specs.private.Placing.{meaning_at}
 use Rattle.tensor_ops.proofs.Worked.{values-contracted}
 use Rattle.tensor_ops.proofs.placing.ready.contraction_of.Goals as goal

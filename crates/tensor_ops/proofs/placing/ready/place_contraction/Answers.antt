@@ -1,6 +1,6 @@
 use Rattle.std.proofs.Common.{sym, subst}
 use Rattle.tensor_kernels.specs.Contracting.{contraction_count, contraction_value}
-use Rattle.tensor_operands.proofs.Outcomes.{IfOk-both}
+use Rattle.tensor_ops.proofs.Outcomes.{IfOk-both}
 use Rattle.tensor_terms.specs.Contraction.{contracted}
 use Rattle.tensor_terms.proofs.SameValues.{Agree}
 use Rattle.tensor_ops.specs.private.Placing.{contraction_at, meaning_at}

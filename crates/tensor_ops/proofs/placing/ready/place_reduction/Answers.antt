@@ -1,6 +1,6 @@
 use Rattle.std.proofs.Common.{◌-◌, refl, arith}
 use Rattle.tensor_terms.specs.Reduction.{reduced}
-use Rattle.tensor_operands.specs.Reduced.{places_of_result, reduction_at}
+use Rattle.tensor_ops.specs.private.Reduced.{places_of_result, reduction_at}
 use Rattle.tensor_ops.specs.private.Placing.{meaning_at}
 use Rattle.tensor_ops.specs.declared.placed.Placed.TheVariants.{Kept}
 use Rattle.tensor_ops.proofs.Worked.{values-worked, gives-worked}

@@ -2,7 +2,7 @@ use Rattle.std.proofs.Common.{length, sym, ◌∙◌}
 use Rattle.std.specs.Cow.{cow_slice_items}
 use Rattle.tensor_values.specs.Values.{value_in}
 use Rattle.tensor_ops.specs.private.Placing.{meaning_at}
-use Rattle.tensor_operands.specs.Reduced.{places_of_result, reduction_at}
+use Rattle.tensor_ops.specs.private.Reduced.{places_of_result, reduction_at}
 use Rattle.tensor_ops.proofs.Worked.{values-reduced}
 use Rattle.tensor_ops.proofs.placing.ready.reduction_of.Goals as goal
 

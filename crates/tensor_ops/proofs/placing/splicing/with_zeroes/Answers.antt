@@ -2,7 +2,7 @@ use Rattle.std.proofs.Common.{◌≡◌, ℕ, List, ◌+◌, get_or, set, refl, 
 use Rattle.tensor_ops.specs.private.Placing.{meaning_at}
 use Rattle.std.proofs.lemmas.Result.{IfOk-weaker}
 use Rattle.tensor_ops.proofs.Placings.{gives-other}
-use Rattle.tensor_operands.proofs.Outcomes.{IfOk-both}
+use Rattle.tensor_ops.proofs.Outcomes.{IfOk-both}
 use Rattle.tensor_ops.proofs.Zeroes.{IsLegal-set-le, front-dims, back-dims, zeroes-around}
 use Rattle.tensor_ops.proofs.placing.splicing.with_zeroes.Goals as goal
 

@@ -3,7 +3,7 @@ use Rattle.tensor_kernels.specs.Contracting.{contraction_count, contraction_valu
 use Rattle.tensor_terms.specs.Contraction.{contracted}
 use Rattle.tensor_terms.specs.Convolution.{convolved}
 use Rattle.tensor_ops.specs.private.Placing.{meaning_at}
-use Rattle.tensor_operands.specs.Reduced.{places_of_result, reduction_at}
+use Rattle.tensor_ops.specs.private.Reduced.{places_of_result, reduction_at}
 use Rattle.tensor_terms.specs.Reduction.{reduced}
 use Rattle.tensor_terms.specs.Tensors.{tensors_in}
 use Rattle.tensor_terms.specs.Term.{unary, reduce, binary, contract, convolve}

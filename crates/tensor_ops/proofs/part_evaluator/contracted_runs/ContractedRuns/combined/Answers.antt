@@ -8,8 +8,8 @@ use mir.Val.{SFits, to_z, of_z}
 use Rattle.tensor_kernels.specs.Contracting.{contraction_value}
 use Rattle.tensor_values.specs.Combining.{unit}
 use Rattle.tensor_values.specs.Values.{value_in}
-use Rattle.tensor_walks.specs.Folds.{folded}
-use Rattle.tensor_walks.proofs.Folding.{folded-ext}
+use Rattle.tensor_loops.specs.Folds.{folded}
+use Rattle.tensor_loops.proofs.Folding.{folded-ext}
 use Rattle.tensor_ops.specs.private.ContractedRuns.{contracted_value}
 use Rattle.tensor_ops.proofs.PartValues.{piece-value}
 use Rattle.tensor_ops.proofs.part_evaluator.contracted_runs.ContractedRuns.combined.Goals as goal

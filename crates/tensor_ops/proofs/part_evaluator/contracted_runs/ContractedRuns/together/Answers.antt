@@ -3,7 +3,7 @@ use Rattle.std.specs.List.{range_with_len}
 use Rattle.std.proofs.lemmas.List.FromFn.{length-map-range_with_len}
 use Rattle.tensor_kernels.specs.Contracting.{contraction_value}
 use Rattle.tensor_values.specs.Values.{value_in}
-use Rattle.tensor_walks.specs.Folds.{run_folded}
+use Rattle.tensor_loops.specs.Folds.{run_folded}
 use Rattle.tensor_ops.proofs.CombinedRuns.{long-runs, runs-piece}
 use Rattle.tensor_ops.proofs.part_evaluator.contracted_runs.ContractedRuns.together.Goals as goal
 

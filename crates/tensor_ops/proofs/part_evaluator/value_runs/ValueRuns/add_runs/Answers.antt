@@ -2,7 +2,7 @@ use Rattle.std.proofs.Common.{◌≡◌, ◌-◌, ◌*◌, ℕ, ℤ, List, ◌++
 use Rattle.std.specs.Cow.{cow_slice_items}
 use Rattle.std.specs.List.{range_with_len}
 use Rattle.std.proofs.lemmas.List.FromFn.{length-map-range_with_len}
-use Rattle.tensor_walks.specs.Folds.{run_folded}
+use Rattle.tensor_loops.specs.Folds.{run_folded}
 use Rattle.tensor_ops.specs.private.Meaning.{meaning}
 use Rattle.tensor_values.specs.Values.{value_in}
 use Rattle.tensor_ops.proofs.CombinedRuns.{long-runs, runs-piece}

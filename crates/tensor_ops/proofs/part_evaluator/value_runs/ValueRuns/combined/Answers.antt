@@ -4,7 +4,7 @@ use Rattle.std.specs.Int.{w64}
 use Rattle.std.specs.List.{range_with_len}
 use Rattle.std.proofs.lemmas.Int.{to_z-of_z}
 use mir.Val.{SFits, to_z, of_z}
-use Rattle.tensor_walks.specs.Folds.{folded}
+use Rattle.tensor_loops.specs.Folds.{folded}
 use Rattle.tensor_values.specs.Values.{value_in}
 use Rattle.tensor_values.specs.Combining.{unit}
 use Rattle.tensor_ops.specs.private.ValueRuns.{run_value}

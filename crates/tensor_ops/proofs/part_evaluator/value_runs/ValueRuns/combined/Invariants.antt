@@ -1,6 +1,6 @@
 -- What was combined so far, and the room.
 use Rattle.std.proofs.Common.{◌≡◌, ◌+◌, ◌-◌, ◌≤◌}
-use Rattle.tensor_walks.specs.Folds.{folded}
+use Rattle.tensor_loops.specs.Folds.{folded}
 use Rattle.tensor_values.specs.Combining.{unit}
 use Rattle.tensor_ops.specs.private.ValueRuns.{run_value}
 use Rattle.tensor_ops.proofs.part_evaluator.value_runs.ValueRuns.combined.Given as goal

@@ -1,0 +1,5 @@
+pub mod Chains
+pub mod CombinedRows
+pub mod Folding
+pub mod RunValues
+pub mod SplicedParts

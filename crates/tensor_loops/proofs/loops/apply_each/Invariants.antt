@@ -1,0 +1,10 @@
+-- The places below the counter have their values, and the others are as they were.
+use Rattle.std.proofs.Common.{◌≡◌, ℕ, ◌<◌, ◌≤◌, pos, length, slice_index_or}
+use Rattle.tensor_values.specs.Scalars.{applied}
+use Rattle.tensor_loops.proofs.loops.apply_each.Given as goal
+
+abbrev pub invariant-loop-place : goal.invariant-loop-place
+invariant-loop-place l =
+    (length l.values ≡ length l.initial.values)
+    × ((k : ℕ) → k < l.place → slice_index_or l.values k (pos 0) ≡ applied l.operation (slice_index_or l.initial.values k (pos 0)))
+    × ((k : ℕ) → l.place ≤ k → slice_index_or l.values k (pos 0) ≡ slice_index_or l.initial.values k (pos 0))

@@ -1,0 +1,181 @@
+//! Values of a list at places, and along views.
+
+pub(crate) mod spliced;
+
+ghost use Rattle.std.specs.Prelude.{◌≡◌, ◌<◌, ◌≤◌, ◌-◌, ◌+◌, ◌*◌, ◌/◌, ◌^◌, ◌++◌, ℕ, length, map};
+ghost use Rattle.std.specs.Prelude.{IfOk, OnOk, slice_index, vec_len, vec_capacity};
+ghost use Rattle.std.specs.Cow.{cow_slice_items};
+ghost use Rattle.std.specs.List.{range_with_len};
+ghost use Rattle.tensor_views.specs.Places.{places_of, AreBelow};
+ghost use Rattle.tensor_values.specs.Values.{value_in};
+ghost use Rattle.tensor_views.specs.Reading.{read_at};
+ghost use Rattle.tensor_views.specs.View.{walk_size, reached, along, steps_to};
+
+use std::alloc::{AllocError, Global};
+use std::borrow::CowSlice;
+use tensor_views::{Axis, Places, Reading, looked_up, rows_of, steps_to};
+
+/// The values of a list at places. Those of a run are lent.
+pub fn picked<'a>(
+    alloc: Global,
+    values: &'a [i64],
+    places: &Places<'_>,
+) -> Result<CowSlice<'a, i64, Global>, AllocError>
+    requires { AreBelow places.now (length values.now) }
+    ensures { IfOk result (λ v. cow_slice_items v
+        ≡ map (value_in values.now) (places_of places.now)) }
+{
+    match places {
+        Places::Run(first, last) => Ok(CowSlice::Borrowed(&values[*first..*last])),
+        Places::Listed(places) => Ok(CowSlice::Owned(gathered(alloc, values, places)?)),
+    }
+}
+
+/// The values of a list at listed places.
+fn gathered(alloc: Global, values: &[i64], places: &[u32]) -> Result<Vec<i64>, AllocError>
+    requires { (k : ℕ) → k < length places.now → slice_index places.now k < length values.now }
+    ensures { IfOk result (λ v. v.items ≡ map (value_in values.now) places.now) }
+{
+    let mut gathered = Vec::with_capacity(alloc, places.len())?;
+    for place in places {
+        gathered.push_reserved(values[*place as usize]);
+    }
+    Ok(gathered)
+}
+
+/// The values that are read at places.
+pub fn picked_along(
+    alloc: Global,
+    reading: Reading<'_>,
+    places: &Places<'_>,
+) -> Result<Vec<i64>, AllocError>
+    requires within { AreBelow places.now (walk_size reading.view.axes.now) }
+    requires inside { (p : ℕ) → p < walk_size reading.view.axes.now
+        → reached reading.view.start reading.view.axes.now p < length reading.list.now }
+    requires few { length reading.list.now < 2 ^ 32 }
+    ensures { IfOk result (λ v. v.items ≡ map (read_at reading.entry) (places_of places.now)) }
+{
+    match places {
+        Places::Run(first, last) => gathered_along(alloc, reading, *first, *last),
+        Places::Listed(places) => {
+            let sources = looked_up(alloc, reading.view, places)?;
+            gathered(alloc, reading.list, &sources)
+        }
+    }
+}
+
+/// The values that are read at a run of places, row by row.
+fn gathered_along(
+    alloc: Global,
+    reading: Reading<'_>,
+    first: usize,
+    last: usize,
+) -> Result<Vec<i64>, AllocError>
+    requires order { first ≤ last }
+    requires within { last ≤ walk_size reading.view.axes.now }
+    requires inside { (p : ℕ) → p < walk_size reading.view.axes.now
+        → reached reading.view.start reading.view.axes.now p < length reading.list.now }
+    requires few { length reading.list.now < 2 ^ 32 }
+    ensures { IfOk result (λ v. v.items
+        ≡ map (read_at reading.entry) (range_with_len first (last - first))) }
+{
+    if first == last {
+        return Ok(Vec::new(alloc));
+    }
+    let (axis, rows) = rows_of(alloc, reading.view, first, last)?;
+    let mut gathered = Vec::with_capacity(alloc, last - first)?;
+    gather_rows(&mut gathered, reading.list, &rows, axis, first, last)?;
+    Ok(gathered)
+}
+
+/// Appends the values of a run: for each row's start those of a row along the axis, the first row
+/// and the last cut to the run.
+fn gather_rows(
+    gathered: &mut Vec<i64>,
+    values: &[i64],
+    rows: &[u32],
+    axis: Axis,
+    first: usize,
+    last: usize,
+) -> Result<(), AllocError>
+    requires size { 0 < axis.size }
+    requires order { first ≤ last }
+    requires rows { last ≤ axis.size * (first / axis.size + length rows.now) }
+    requires room { vec_len gathered.old + (last - first) ≤ vec_capacity gathered.old }
+    requires inside { (p : ℕ) → first ≤ p → p < last
+        → along rows.now axis first p < length values.now }
+    requires few { length values.now < 2 ^ 32 }
+    ensures { OnOk result (gathered.new.items ≡ gathered.old.items
+        ++ map (λ p. value_in values.now (along rows.now axis first p))
+        (range_with_len first (last - first))) }
+{
+    let mut place = first;
+    let mut index = first % axis.size;
+    for row in rows {
+        let count = (axis.size - index).min(last - place);
+        gather_row(gathered, values, *row as usize, axis, index, index + count)?;
+        place += count;
+        index = 0;
+    }
+    Ok(())
+}
+
+/// Appends a row's values from index to index; by one copy where they lie side by side.
+fn gather_row(
+    gathered: &mut Vec<i64>,
+    values: &[i64],
+    row: usize,
+    axis: Axis,
+    from: usize,
+    to: usize,
+) -> Result<(), AllocError>
+    requires order { from ≤ to }
+    requires within { to ≤ axis.size }
+    requires room { vec_len gathered.old + (to - from) ≤ vec_capacity gathered.old }
+    requires inside { (i : ℕ) → from ≤ i → i < to
+        → row + steps_to axis i * axis.step < length values.now }
+    requires few { length values.now < 2 ^ 32 }
+    ensures items { OnOk result (gathered.new.items ≡ gathered.old.items
+        ++ map (λ i. value_in values.now (row + steps_to axis i * axis.step))
+        (range_with_len from (to - from))) }
+    ensures len { OnOk result (vec_len gathered.new ≡ vec_len gathered.old + (to - from)) }
+    ensures capacity { OnOk result (vec_capacity gathered.old ≤ vec_capacity gathered.new) }
+{
+    if axis.step == 1 && !axis.falls && from < to {
+        return gathered.extend_from_slice(&values[row + from..row + to]);
+    }
+    match (axis.step, axis.falls) {
+        (1, true) => gather_each(gathered, values, row, axis.known(1, true), from, to),
+        (0, false) => gather_each(gathered, values, row, axis.known(0, false), from, to),
+        _ => gather_each(gathered, values, row, axis, from, to),
+    }
+    Ok(())
+}
+
+/// Appends a row's values from index to index, one by one. The step is a constant where it can be,
+/// so that each call becomes a loop of its own.
+#[inline(always)]
+fn gather_each(
+    gathered: &mut Vec<i64>,
+    values: &[i64],
+    row: usize,
+    axis: Axis,
+    from: usize,
+    to: usize,
+)
+    requires order { from ≤ to }
+    requires within { to ≤ axis.size }
+    requires room { vec_len gathered.old + (to - from) ≤ vec_capacity gathered.old }
+    requires inside { (i : ℕ) → from ≤ i → i < to
+        → row + steps_to axis i * axis.step < length values.now }
+    requires few { length values.now < 2 ^ 32 }
+    ensures items { gathered.new.items ≡ gathered.old.items
+        ++ map (λ i. value_in values.now (row + steps_to axis i * axis.step))
+        (range_with_len from (to - from)) }
+    ensures len { vec_len gathered.new ≡ vec_len gathered.old + (to - from) }
+    ensures capacity { vec_capacity gathered.new ≡ vec_capacity gathered.old }
+{
+    for index in from..to {
+        gathered.push_reserved(values[row + steps_to(axis, index) * axis.step]);
+    }
+}

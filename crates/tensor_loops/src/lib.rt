@@ -1,0 +1,21 @@
+//! Loops over lists of wrapping 64-bit integers: values gathered along views and in turns, combined
+//! element by element, and folded, with no dims and no expressions.
+//!
+//! ```text
+//! a list, a view, places   ──gather──>   the values there: a copy, a loop a row, or one by one
+//! values, another list     ──loops───>   an operation's of both, where it stands; several in a chain
+//! a row, runs of rows      ──folds───>   the row, with all of them combined
+//! two lists in turns       ──spliced─>   one list
+//! ```
+#![tactic(auto)]
+
+mod folds;
+mod gather;
+mod loops;
+
+pub use folds::{add_combined, combine_runs, combined_with};
+pub use gather::spliced::{parted, spliced_list, spliced_run};
+pub use gather::{picked, picked_along};
+pub use loops::chain::{Link, are_same, combine_chain};
+pub use loops::combining::{combine_along, has_long_rows};
+pub use loops::{SelectOrder, apply, combine, combine_row, put_combined, select};

@@ -1,0 +1,251 @@
+//! One loop for each arity. The operation is a constant at each call, so that each call becomes a
+//! loop of its own, with no test in it.
+
+pub(crate) mod chain;
+pub(crate) mod combining;
+
+ghost use Rattle.std.specs.Prelude.{◌≡◌, ◌<◌, ◌≤◌, ◌+◌, ℕ, pos, length, slice_index_or};
+ghost use Rattle.std.specs.Prelude.{if◌then◌else◌};
+ghost use Rattle.tensor_loops.specs.Loops.{either_way, selected, CombinesRow};
+ghost use Rattle.tensor_values.specs.Scalars.{applied, is_true};
+ghost use Rattle.tensor_views.specs.View.{IsRowIn};
+
+use crate::loops::chain::Link;
+use tensor_values::{BinaryScalar, UnaryScalar, applied, combined, is_true};
+use tensor_views::{Row, steps_to};
+
+/// The order in which the operands of a select are worked out: this one, and then the others as
+/// they stand, condition, yes, no.
+#[derive(Clone, Copy, Drop)]
+pub enum SelectOrder {
+    ConditionFirst,
+    YesFirst,
+    NoFirst,
+}
+
+/// Each value becomes the operation's.
+pub fn apply(operation: UnaryScalar, values: &mut [i64])
+    ensures len { length values.new ≡ length values.old }
+    ensures each { (k : ℕ) → k < length values.old → slice_index_or values.new k (pos 0)
+        ≡ applied operation (slice_index_or values.old k (pos 0)) }
+{
+    match operation {
+        UnaryScalar::Neg => apply_each(UnaryScalar::Neg, values),
+        UnaryScalar::Abs => apply_each(UnaryScalar::Abs, values),
+        UnaryScalar::Square => apply_each(UnaryScalar::Square, values),
+        UnaryScalar::Not => apply_each(UnaryScalar::Not, values),
+    }
+}
+
+/// Each value becomes the operation's of it and the other list's at its place, of which the second
+/// comes first where they are turned.
+pub fn combine(link: Link, values: &mut [i64], others: &[i64])
+    requires { length values.old ≡ length others.now }
+    ensures len { length values.new ≡ length others.now }
+    ensures each { (k : ℕ) → k < length others.now → slice_index_or values.new k (pos 0)
+        ≡ either_way link.operation link.turned (slice_index_or values.old k (pos 0))
+        (slice_index_or others.now k (pos 0)) }
+{
+    combine_row(link, values, 0, others, Row::whole(others.len()));
+}
+
+/// Each value becomes the operation's of those of two lists at its place, of which the second comes
+/// first where they are turned.
+pub fn put_combined(link: Link, values: &mut [i64], first: &[i64], second: &[i64])
+    requires first { length values.old ≡ length first.now }
+    requires second { length second.now ≡ length first.now }
+    ensures len { length values.new ≡ length first.now }
+    ensures each { (k : ℕ) → k < length first.now → slice_index_or values.new k (pos 0)
+        ≡ either_way link.operation link.turned (slice_index_or first.now k (pos 0))
+        (slice_index_or second.now k (pos 0)) }
+{
+    let turned = link.turned;
+    match link.operation {
+        BinaryScalar::Add => put_each(BinaryScalar::Add, turned, values, first, second),
+        BinaryScalar::Sub => put_each(BinaryScalar::Sub, turned, values, first, second),
+        BinaryScalar::Mul => put_each(BinaryScalar::Mul, turned, values, first, second),
+        BinaryScalar::CwiseMax => put_each(BinaryScalar::CwiseMax, turned, values, first, second),
+        BinaryScalar::CwiseMin => put_each(BinaryScalar::CwiseMin, turned, values, first, second),
+        BinaryScalar::Lt => put_each(BinaryScalar::Lt, turned, values, first, second),
+        BinaryScalar::Le => put_each(BinaryScalar::Le, turned, values, first, second),
+        BinaryScalar::Eq => put_each(BinaryScalar::Eq, turned, values, first, second),
+        BinaryScalar::Ne => put_each(BinaryScalar::Ne, turned, values, first, second),
+        BinaryScalar::Gt => put_each(BinaryScalar::Gt, turned, values, first, second),
+        BinaryScalar::Ge => put_each(BinaryScalar::Ge, turned, values, first, second),
+        BinaryScalar::And => put_each(BinaryScalar::And, turned, values, first, second),
+        BinaryScalar::Or => put_each(BinaryScalar::Or, turned, values, first, second),
+    }
+}
+
+/// The values from a place on become the operation's of them and a list's along a row, of which the
+/// second comes first where they are turned.
+pub fn combine_row(link: Link, values: &mut [i64], at: usize, list: &[i64], row: Row)
+    requires row { IsRowIn row (length list.now) }
+    requires room { at + row.count ≤ length values.old }
+    ensures { CombinesRow link.operation link.turned values.old list.now row at row.count
+        values.new }
+{
+    let turned = link.turned;
+    match link.operation {
+        BinaryScalar::Add => combine_by_steps(BinaryScalar::Add, turned, values, at, list, row),
+        BinaryScalar::Sub => combine_by_steps(BinaryScalar::Sub, turned, values, at, list, row),
+        BinaryScalar::Mul => combine_by_steps(BinaryScalar::Mul, turned, values, at, list, row),
+        BinaryScalar::CwiseMax => combine_by_steps(
+            BinaryScalar::CwiseMax,
+            turned,
+            values,
+            at,
+            list,
+            row,
+        ),
+        BinaryScalar::CwiseMin => combine_by_steps(
+            BinaryScalar::CwiseMin,
+            turned,
+            values,
+            at,
+            list,
+            row,
+        ),
+        BinaryScalar::Lt => combine_by_steps(BinaryScalar::Lt, turned, values, at, list, row),
+        BinaryScalar::Le => combine_by_steps(BinaryScalar::Le, turned, values, at, list, row),
+        BinaryScalar::Eq => combine_by_steps(BinaryScalar::Eq, turned, values, at, list, row),
+        BinaryScalar::Ne => combine_by_steps(BinaryScalar::Ne, turned, values, at, list, row),
+        BinaryScalar::Gt => combine_by_steps(BinaryScalar::Gt, turned, values, at, list, row),
+        BinaryScalar::Ge => combine_by_steps(BinaryScalar::Ge, turned, values, at, list, row),
+        BinaryScalar::And => combine_by_steps(BinaryScalar::And, turned, values, at, list, row),
+        BinaryScalar::Or => combine_by_steps(BinaryScalar::Or, turned, values, at, list, row),
+    }
+}
+
+/// Each value becomes select's of it and the values at its place of the two lists after it.
+pub fn select(order: SelectOrder, values: &mut [i64], second: &[i64], third: &[i64])
+    requires second { length values.old ≡ length second.now }
+    requires third { length values.old ≡ length third.now }
+    ensures len { length values.new ≡ length second.now }
+    ensures each { (k : ℕ) → k < length second.now → slice_index_or values.new k (pos 0)
+        ≡ selected order (slice_index_or values.old k (pos 0))
+        (slice_index_or second.now k (pos 0)) (slice_index_or third.now k (pos 0)) }
+{
+    match order {
+        SelectOrder::ConditionFirst => {
+            select_each(SelectOrder::ConditionFirst, values, second, third)
+        }
+        SelectOrder::YesFirst => select_each(SelectOrder::YesFirst, values, second, third),
+        SelectOrder::NoFirst => select_each(SelectOrder::NoFirst, values, second, third),
+    }
+}
+
+#[inline(always)]
+fn apply_each(operation: UnaryScalar, values: &mut [i64])
+    ensures len { length values.new ≡ length values.old }
+    ensures each { (k : ℕ) → k < length values.old → slice_index_or values.new k (pos 0)
+        ≡ applied operation (slice_index_or values.old k (pos 0)) }
+{
+    for place in 0..values.len() {
+        values[place] = applied(operation, values[place]);
+    }
+}
+
+/// The step is a constant, too, where the places of the row lie side by side or are one.
+#[inline(always)]
+fn combine_by_steps(
+    operation: BinaryScalar,
+    turned: bool,
+    values: &mut [i64],
+    at: usize,
+    list: &[i64],
+    row: Row,
+)
+    requires row { IsRowIn row (length list.now) }
+    requires room { at + row.count ≤ length values.old }
+    ensures { CombinesRow operation turned values.old list.now row at row.count
+        values.new }
+{
+    let link = Link { operation, turned };
+    match (row.axis.step, row.axis.falls) {
+        (1, false) => combine_each(link, values, at, list, row.known(1, false)),
+        (1, true) => combine_each(link, values, at, list, row.known(1, true)),
+        (0, false) => combine_each(link, values, at, list, row.known(0, false)),
+        _ => combine_each(link, values, at, list, row),
+    }
+}
+
+#[inline(always)]
+fn combine_each(link: Link, values: &mut [i64], at: usize, list: &[i64], row: Row)
+    requires row { IsRowIn row (length list.now) }
+    requires room { at + row.count ≤ length values.old }
+    ensures { CombinesRow link.operation link.turned values.old list.now row at row.count
+        values.new }
+{
+    for k in 0..row.count {
+        let other = list[row.start + steps_to(row.axis, row.from + k) * row.axis.step];
+        values[at + k] = either_way(link, values[at + k], other);
+    }
+}
+
+#[inline(always)]
+fn select_each(order: SelectOrder, values: &mut [i64], second: &[i64], third: &[i64])
+    requires second { length values.old ≡ length second.now }
+    requires third { length values.old ≡ length third.now }
+    ensures len { length values.new ≡ length second.now }
+    ensures each { (k : ℕ) → k < length second.now → slice_index_or values.new k (pos 0)
+        ≡ selected order (slice_index_or values.old k (pos 0))
+        (slice_index_or second.now k (pos 0)) (slice_index_or third.now k (pos 0)) }
+{
+    for place in 0..second.len() {
+        values[place] = selected(order, values[place], second[place], third[place]);
+    }
+}
+
+#[inline(always)]
+fn put_each(
+    operation: BinaryScalar,
+    turned: bool,
+    values: &mut [i64],
+    first: &[i64],
+    second: &[i64],
+)
+    requires first { length values.old ≡ length first.now }
+    requires second { length second.now ≡ length first.now }
+    ensures len { length values.new ≡ length first.now }
+    ensures each { (k : ℕ) → k < length first.now → slice_index_or values.new k (pos 0)
+        ≡ either_way operation turned (slice_index_or first.now k (pos 0))
+        (slice_index_or second.now k (pos 0)) }
+{
+    let link = Link { operation, turned };
+    for place in 0..first.len() {
+        values[place] = either_way(link, first[place], second[place]);
+    }
+}
+
+/// The operation on two values, of which the second comes first where they are turned.
+#[inline(always)]
+fn either_way(link: Link, x: i64, y: i64) -> i64
+    ensures { result ≡ either_way link.operation link.turned x y }
+{
+    if link.turned {
+        combined(link.operation, y, x)
+    } else {
+        combined(link.operation, x, y)
+    }
+}
+
+/// Select's value, from its operands' in the order in which they are worked out.
+#[inline(always)]
+fn selected(order: SelectOrder, first: i64, second: i64, third: i64) -> i64
+    ensures { result ≡ selected order first second third }
+{
+    match order {
+        SelectOrder::ConditionFirst => chosen(first, second, third),
+        SelectOrder::YesFirst => chosen(second, first, third),
+        SelectOrder::NoFirst => chosen(second, third, first),
+    }
+}
+
+/// One of two values.
+#[inline(always)]
+fn chosen(condition: i64, yes: i64, no: i64) -> i64
+    ensures { result ≡ (if is_true condition then yes else no) }
+{
+    if is_true(condition) { yes } else { no }
+}

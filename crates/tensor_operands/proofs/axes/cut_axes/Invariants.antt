@@ -1,7 +1,0 @@
--- The axes so far and those that are left are all.
-use Rattle.std.proofs.Common.{◌≡◌, ◌++◌, drop}
-use Rattle.tensor_operands.specs.Axes.{cut_axes}
-use Rattle.tensor_operands.proofs.axes.cut_axes.Given as goal
-
-abbrev pub invariant-loop-k : goal.invariant-loop-k
-invariant-loop-k l = l.cut.items ++ cut_axes (drop l.k l.axes) (drop l.k l.sizes) ≡ cut_axes l.axes l.sizes

@@ -1,7 +1,0 @@
--- The place so far, and what the axes that are left add to it.
-use Rattle.std.proofs.Common.{◌≡◌, ◌+◌, drop}
-use Rattle.tensor_operands.specs.Axes.{by_steps}
-use Rattle.tensor_operands.proofs.axes.start_at.Given as goal
-
-abbrev pub invariant-loop-k : goal.invariant-loop-k
-invariant-loop-k l = l.place + by_steps (drop l.k l.axes) (drop l.k l.index) ≡ l.start + by_steps l.axes l.index

@@ -1,5 +1,0 @@
-pub mod Axes
-pub mod Operand
-pub mod Reduced
-pub mod Slid
-pub mod private

@@ -1,0 +1,76 @@
+//! Operands of contractions: their values in order, or a list that is read along a view, so that
+//! what a movement reads is not stored once more.
+
+ghost use Rattle.std.specs.Prelude.{◌≡◌, ◌<◌, ◌≤◌, ℕ, length, IfOk};
+ghost use Rattle.std.specs.Cow.{cow_slice_items};
+ghost use Rattle.tensor_shape.specs.Legal.{most_elements};
+ghost use Rattle.tensor_values.specs.Values.{value_in};
+ghost use Rattle.tensor_views.specs.View.{walk_size, reached};
+
+use std::alloc::{AllocError, Global};
+use std::borrow::CowSlice;
+use tensor_loops::picked_along;
+use tensor_views::{Places, Reading, View};
+
+/// A list that is read along a view.
+#[derive(Drop)]
+pub(crate) struct Viewed<'a> {
+    pub(crate) list: CowSlice<'a, i64, Global>,
+    pub(crate) view: View,
+    ghost inside: { (p : ℕ) → p < walk_size view.axes.items
+        → reached view.start view.axes.items p < length (cow_slice_items list) },
+    ghost few: { length (cow_slice_items list) ≤ most_elements },
+}
+
+/// The values of an operand at all its places.
+#[derive(Drop)]
+pub(crate) enum Operand<'a> {
+    /// One after the other.
+    InOrder(CowSlice<'a, i64, Global>),
+    /// In a list, along a view.
+    Along(Viewed<'a>),
+}
+
+impl<'a> Viewed<'a> {
+    ghost use Rattle.tensor_ops.specs.private.Operand.{viewed_count, viewed_value};
+
+    /// Its values one after the other, which it has so many of.
+    pub(crate) fn into_list(
+        self,
+        alloc: Global,
+        count: usize,
+    ) -> Result<CowSlice<'a, i64, Global>, AllocError>
+        requires { count ≡ viewed_count self }
+        ensures count { IfOk result (λ v. length (cow_slice_items v) ≡ viewed_count self.entry) }
+        ensures each { IfOk result (λ v. (p : ℕ) → p < viewed_count self.entry
+            → value_in (cow_slice_items v) p ≡ viewed_value self.entry p) }
+    {
+        let reading = Reading {
+            list: self.list.as_slice(),
+            view: self.view.as_ref(),
+        };
+        let values = picked_along(alloc, reading, &Places::Run(0, count))?;
+        Ok(CowSlice::Owned(values))
+    }
+}
+
+impl<'a> Operand<'a> {
+    ghost use Rattle.tensor_ops.specs.private.Operand.{operand_count, operand_at};
+
+    /// Its values one after the other, which it has so many of.
+    pub(crate) fn into_list(
+        self,
+        alloc: Global,
+        count: usize,
+    ) -> Result<CowSlice<'a, i64, Global>, AllocError>
+        requires { count ≡ operand_count self }
+        ensures count { IfOk result (λ v. length (cow_slice_items v) ≡ operand_count self.entry) }
+        ensures each { IfOk result (λ v. (p : ℕ) → p < operand_count self.entry
+            → value_in (cow_slice_items v) p ≡ operand_at self.entry p) }
+    {
+        match self {
+            Operand::InOrder(values) => Ok(values),
+            Operand::Along(viewed) => viewed.into_list(alloc, count),
+        }
+    }
+}

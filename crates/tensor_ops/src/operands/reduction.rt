@@ -1,0 +1,171 @@
+//! Reductions of values that are there, by ranges of places of the result.
+
+ghost use Rattle.std.specs.Prelude.{◌≡◌, ◌<◌, ◌≤◌, ◌+◌, ◌-◌, ◌*◌, ℕ, length, map, slice_index};
+ghost use Rattle.std.specs.Prelude.{IfOk};
+ghost use Rattle.std.specs.Cow.{cow_slice_items};
+ghost use Rattle.std.specs.List.{range_with_len};
+ghost use Rattle.tensor_shape.specs.Index.{size_of, place, index_of};
+ghost use Rattle.tensor_shape.specs.Legal.{most_elements};
+ghost use Rattle.tensor_loops.specs.Folds.{offset_at, start_at};
+ghost use Rattle.tensor_values.specs.Values.{value_in};
+
+use std::alloc::{AllocError, Allocator, Global};
+use std::borrow::CowSlice;
+use tensor_loops::combine_runs;
+use tensor_shape::Dims;
+use tensor_terms::{among, next_among, next_other, others, span};
+use tensor_values::Reducer;
+use tensor_views::offsets;
+
+/// A reduction over axes, made ready to be worked out by ranges of places. It is made once; all who
+/// work on ranges of it share it. The operand is seen as rows, which are the values along the axes
+/// before the first dropped one and lie side by side. The rows along this axis and the dropped ones
+/// that follow it lie one after the other, in a run. Values are combined in the order of the
+/// dropped index lists' places.
+#[derive(Drop)]
+pub(crate) struct Reduction<'a> {
+    reducer: Reducer,
+    values: CowSlice<'a, i64, Global>,
+    /// How many values a row has.
+    width: usize,
+    /// How many rows a run has.
+    run: usize,
+    /// Where the first of the rows begins that are combined into a row of the result: a number for
+    /// each index list of the kept axes after the first run.
+    rows: Vec<usize>,
+    /// How much further their runs begin: a number for each index list of the dropped axes after
+    /// the first run.
+    offsets: Vec<usize>,
+    ghost few: { length (cow_slice_items values) ≤ most_elements },
+    ghost narrow: { width ≤ most_elements },
+    ghost rows_low: { (k : ℕ) → k < length rows.items
+        → slice_index rows.items k < most_elements },
+    ghost offsets_low: { (k : ℕ) → k < length offsets.items
+        → slice_index offsets.items k < most_elements },
+    ghost inside: { (p q : ℕ) → p < length rows.items * width → q < length offsets.items * run
+        → start_at rows.items width p + offset_at offsets.items width run q
+        < length (cow_slice_items values) },
+}
+
+impl<'a> Reduction<'a> {
+    ghost use Rattle.tensor_ops.specs.private.Reduced.{places_of_result, combined_at, reduction_at};
+    ghost use Rattle.tensor_terms.specs.Reduction.{reduced};
+    ghost use Rattle.tensor_terms.specs.Woven.{other_dims};
+
+    /// A reduction of the values of a tensor over axes. Those past its rank are left out.
+    /// Takes eight bytes for each index list of the kept axes after the first run, and for each of
+    /// the dropped ones there: about 8 MiB at most, and mostly far less.
+    pub(crate) fn of(
+        alloc: Global,
+        reducer: Reducer,
+        dims: &Dims,
+        values: CowSlice<'a, i64, Global>,
+        axes: &[u64],
+    ) -> Result<Reduction<'a>, AllocError>
+        requires { length (cow_slice_items values) ≡ size_of dims.now }
+        ensures size { IfOk result (λ s. places_of_result s
+            ≡ size_of (other_dims axes.now dims.now)) }
+        ensures each { IfOk result (λ s. (p : ℕ) → p < size_of (other_dims axes.now dims.now)
+            → reduction_at s p ≡ reduced reducer axes.now dims.now
+            (λ is. value_in (cow_slice_items values.entry) (place dims.now is))
+            (index_of (other_dims axes.now dims.now) p)) }
+    {
+        let sizes = dims.as_slice();
+        let rank = sizes.len() as u64;
+        let first = next_among(axes, 0, rank);
+        let after = next_other(axes, first, rank);
+        let rows = offsets(alloc, dims, others(axes, after, rank).as_slice())?;
+        let offsets = offsets(alloc, dims, among(axes, after, rank).as_slice())?;
+        Ok(Reduction {
+            reducer,
+            values,
+            width: span(sizes, 0, first as usize),
+            run: span(sizes, first as usize, after as usize),
+            rows,
+            offsets,
+        })
+    }
+
+    /// The values at the places from the first to before the last of its result, in order. Takes
+    /// memory for them.
+    pub(crate) fn values<A: Allocator>(
+        &self,
+        alloc: A,
+        first: usize,
+        last: usize,
+    ) -> Result<Vec<i64, A>, AllocError>
+        requires order { first ≤ last }
+        requires within { last ≤ places_of_result self.now }
+        ensures { IfOk result (λ v. v.items
+            ≡ map (reduction_at self.now) (range_with_len first (last - first))) }
+    {
+        let mut values = vec![in alloc; self.reducer.unit(); last - first]?;
+        self.combine(first, &mut values);
+        Ok(values)
+    }
+
+    /// Writes the values from a place of its result on, as many as there is room for, in order,
+    /// whatever stands there. Takes no memory.
+    pub(crate) fn fill(&self, first: usize, out: &mut [i64])
+        requires { first + length out.old ≤ places_of_result self.now }
+        ensures len { length out.new ≡ length out.old }
+        ensures each { (k : ℕ) → k < length out.old
+            → value_in out.new k ≡ reduction_at self.now (first + k) }
+    {
+        put_all(out, self.reducer.unit());
+        self.combine(first, out);
+    }
+
+    /// Combines with each value those that belong to its place of the result, from the first on.
+    fn combine(&self, first: usize, target: &mut [i64])
+        requires { first + length target.old ≤ places_of_result self.now }
+        ensures len { length target.new ≡ length target.old }
+        ensures each { (j : ℕ) → j < length target.old → value_in target.new j
+            ≡ combined_at self.now self.now.reducer (value_in target.old j) (first + j) }
+    {
+        match self.reducer {
+            Reducer::Sum => self.combine_by(Reducer::Sum, first, target),
+            Reducer::Prod => self.combine_by(Reducer::Prod, first, target),
+            Reducer::Max => self.combine_by(Reducer::Max, first, target),
+            Reducer::Min => self.combine_by(Reducer::Min, first, target),
+            Reducer::All => self.combine_by(Reducer::All, first, target),
+            Reducer::Any => self.combine_by(Reducer::Any, first, target),
+        }
+    }
+
+    /// Combines row by row, of which the first and the last may be parts of rows.
+    #[inline(always)]
+    fn combine_by(&self, reducer: Reducer, first: usize, target: &mut [i64])
+        requires { first + length target.old ≤ places_of_result self.now }
+        ensures len { length target.new ≡ length target.old }
+        ensures each { (j : ℕ) → j < length target.old → value_in target.new j
+            ≡ combined_at self.now reducer (value_in target.old j) (first + j) }
+    {
+        let size = target.len();
+        if size == 0 {
+            return;
+        }
+        let values = self.values.as_slice();
+        let offsets = self.offsets.as_slice();
+        let mut row = first / self.width;
+        let mut index = first % self.width;
+        let mut done = 0;
+        'rows: while done < size {
+            let count = (self.width - index).min(size - done);
+            let part = &mut target[done..done + count];
+            let start = self.rows[row] + index;
+            combine_runs(reducer, part, values, start, self.width, self.run, offsets);
+            done += count;
+            row += 1;
+            index = 0;
+        }
+    }
+}
+
+/// Writes a value at all places.
+fn put_all(out: &mut [i64], value: i64)
+    ensures len { length out.new ≡ length out.old }
+    ensures each { (k : ℕ) → k < length out.old → value_in out.new k ≡ value }
+{
+    out.fill(value);
+}

@@ -1,0 +1,92 @@
+-- The axes of a view, and what a movement makes of them.
+use Rattle.std.specs.Prelude.{◌≡◌, ℕ, ◌+◌, ◌*◌, ◌<◌, List, [], ◌∷◌, length, map}
+use Rattle.std.specs.Prelude.{slice_index, slice_index_or, remove, min}
+use Rattle.std.specs.Int.{div_ceil}
+use Rattle.std.specs.Prelude.{Bool, true, false, not, ◌&&◌, nat_eq}
+use Rattle.tensor_terms.specs.Term.{Movement, broadcast, slice, shuffle, reshape, chip, reverse}
+use Rattle.tensor_terms.specs.Term.{stride}
+use Rattle.tensor_views.specs.Rising.{rising, no_axis}
+use Rattle.tensor_views.specs.declared.axis.Axis.{Axis}
+
+-- the axes of dims, where the first has a step
+abbrev pub axes_from : ℕ → List ℕ → List Axis
+axes_from step [] = []
+axes_from step (d ∷ ds) = rising d step ∷ axes_from (step * d) ds
+
+-- each has the size of its dimension, and goes up
+abbrev pub are_along : List Axis → List ℕ → Bool
+are_along [] [] = true
+are_along [] (d ∷ ds) = false
+are_along (a ∷ rest) [] = false
+are_along (a ∷ rest) (d ∷ ds) = (nat_eq a.size d && not a.falls) && are_along rest ds
+
+-- the steps of an index list, added up
+abbrev pub by_steps : List Axis → List ℕ → ℕ
+by_steps [] is = 0
+by_steps (a ∷ rest) [] = 0
+by_steps (a ∷ rest) (i ∷ is) = i * a.step + by_steps rest is
+
+-- each axis, and then as often from its start
+abbrev pub repeated_axes : List Axis → List ℕ → List Axis
+repeated_axes [] cs = []
+repeated_axes (a ∷ rest) [] = []
+repeated_axes (a ∷ rest) (c ∷ cs) = a ∷ rising c 0 ∷ repeated_axes rest cs
+
+-- the axes, cut to sizes
+abbrev pub cut_axes : List Axis → List ℕ → List Axis
+cut_axes [] es = []
+cut_axes (a ∷ rest) [] = []
+cut_axes (a ∷ rest) (e ∷ es) = rising e a.step ∷ cut_axes rest es
+
+-- the axes, turned round where they are flagged
+abbrev pub turned_axes : List Axis → List Bool → List Axis
+turned_axes [] fs = []
+turned_axes (a ∷ rest) [] = []
+turned_axes (a ∷ rest) (f ∷ fs) =
+    record { size = a.size; step = a.step; falls = f } ∷ turned_axes rest fs
+
+-- the axes, of which only each so many-th place is reached, of one that ends before that the first
+abbrev pub strided_axes : List Axis → List ℕ → List Axis
+strided_axes [] ss = []
+strided_axes (a ∷ rest) [] = []
+strided_axes (a ∷ rest) (s ∷ ss) =
+    rising (div_ceil a.size s) (a.step * min s a.size) ∷ strided_axes rest ss
+
+-- the axes in another order
+abbrev pub shuffled_axes : List Axis → List ℕ → List Axis
+shuffled_axes axes order = map (λ s. slice_index_or axes s no_axis) order
+
+-- the arguments are for so many axes
+abbrev pub HasRank : Movement → ℕ → Type 0
+HasRank (broadcast counts) n = length counts ≡ n
+HasRank (slice offsets extents) n = (length offsets ≡ n) × (length extents ≡ n)
+HasRank (shuffle order) n = (k : ℕ) → k < length order → slice_index order k < n
+HasRank (reshape sizes) n = Unit {0}
+HasRank (chip offset axis) n = axis < n
+HasRank (reverse flags) n = length flags ≡ n
+HasRank (stride steps) n = (length steps ≡ n) × ((k : ℕ) → k < n → 0 < slice_index steps k)
+
+-- each axis spans fewer places than that
+abbrev pub AreShort : List Axis → ℕ → Type 0
+AreShort axes n = (k : ℕ) → k < length axes
+    → (slice_index_or axes k no_axis).step * (slice_index_or axes k no_axis).size < n
+
+-- the axes of a movement, from those of its operand
+abbrev pub moved_axes : Movement → List Axis → List Axis
+moved_axes (broadcast counts) axes = repeated_axes axes counts
+moved_axes (slice offsets extents) axes = cut_axes axes extents
+moved_axes (shuffle order) axes = shuffled_axes axes order
+moved_axes (reshape sizes) axes = axes
+moved_axes (chip offset axis) axes = remove axes axis
+moved_axes (reverse flags) axes = turned_axes axes flags
+moved_axes (stride steps) axes = strided_axes axes steps
+
+-- where the view of a movement starts, from where that of its operand does
+abbrev pub moved_start : Movement → ℕ → List Axis → ℕ
+moved_start (broadcast counts) start axes = start
+moved_start (slice offsets extents) start axes = start + by_steps axes offsets
+moved_start (shuffle order) start axes = start
+moved_start (reshape sizes) start axes = start
+moved_start (chip offset axis) start axes = start + offset * (slice_index_or axes axis no_axis).step
+moved_start (reverse flags) start axes = start
+moved_start (stride steps) start axes = start

@@ -1,0 +1,45 @@
+-- Strided views: the operand's places in the order of the result's, by a size and a step an axis.
+use Rattle.std.specs.Prelude.{◌≡◌, ℕ, ◌<◌, ◌≤◌, ◌+◌, ◌-◌, ◌*◌, ◌/◌, ◌%◌, List, [], ◌∷◌, length}
+use Rattle.std.specs.Prelude.{slice_index, if◌then◌else◌, false}
+use Rattle.tensor_views.specs.declared.axis.Axis.{Axis}
+use Rattle.tensor_views.specs.declared.row.Row.{Row}
+
+-- how many places the axes have, the fastest first
+abbrev pub walk_size : List Axis → ℕ
+walk_size [] = 1
+walk_size (a ∷ rest) = a.size * walk_size rest
+
+-- how many steps an index is: itself, or where the axis falls what is left above it
+abbrev pub steps_to : Axis → ℕ → ℕ
+steps_to a i = if a.falls then a.size - 1 - i else i
+
+-- the place that is reached at a place of the result: from a start, the steps of its index list
+abbrev pub reached : ℕ → List Axis → ℕ → ℕ
+reached start [] p = start
+reached start (a ∷ rest) p = reached start rest (p / a.size) + steps_to a (p % a.size) * a.step
+
+-- the same along an axis, from the starts of its rows, of which the first has the place `first`
+abbrev pub along : List ℕ → Axis → ℕ → ℕ → ℕ
+along rows a first p =
+    slice_index rows (p / a.size - first / a.size) + steps_to a (p % a.size) * a.step
+
+-- the place of a part of a row at one of its numbers
+abbrev pub place_in : Row → ℕ → ℕ
+place_in row k = row.start + steps_to row.axis (row.from + k) * row.axis.step
+
+-- it has as many places, and they are below a number
+pub record IsRowIn (row : Row) (count : ℕ) : Type 0 where
+  pub whole : row.from + row.count ≤ row.axis.size
+  pub inside : (k : ℕ) → k < row.count → place_in row k < count
+
+-- along each axis the indices of two places, added up, stay within it, and no axis falls
+abbrev pub AreApart : List Axis → ℕ → ℕ → Type 0
+AreApart [] a b = Unit {0}
+AreApart (x ∷ rest) a b =
+    (x.falls ≡ false)
+    × ((a % x.size + b % x.size < x.size) × AreApart rest (a / x.size) (b / x.size))
+
+-- the same of each two places of two lists, by so many each
+abbrev pub AreAllApart : List Axis → ℕ → List ℕ → List ℕ → Type 0
+AreAllApart axes before starts offsets = (x q : ℕ) → x < length starts → q < length offsets
+    → AreApart axes (slice_index starts x / before) (slice_index offsets q / before)

@@ -1,0 +1,89 @@
+//! The operand's places for a list of a view's places. A row of the first axis is looked up once for
+//! those of it that follow one another.
+
+ghost use Rattle.std.specs.Prelude.{◌≡◌, ◌<◌, ◌*◌, ◌/◌, ◌^◌, ◌∷◌, ℕ, length, map};
+ghost use Rattle.std.specs.Prelude.{IfOk, slice_index};
+ghost use Rattle.tensor_views.specs.View.{walk_size, reached};
+
+use crate::axis::{ALONE, Axis, steps_to};
+use crate::view::ViewRef;
+use std::alloc::{AllocError, Global};
+
+/// A row of a view: its first place, and where it starts in the operand.
+#[derive(Clone, Copy, Drop)]
+pub(crate) struct WalkRow {
+    pub(crate) first: usize,
+    pub(crate) start: usize,
+}
+
+/// The operand's places for a list of places. A row of the first axis is looked up once for those
+/// of it that follow one another.
+pub fn looked_up(alloc: Global, view: ViewRef<'_>, places: &[u32]) -> Result<Vec<u32>, AllocError>
+    requires within { (k : ℕ) → k < length places.now
+        → slice_index places.now k < walk_size view.axes.now }
+    requires fits { (p : ℕ) → p < walk_size view.axes.now
+        → reached view.start view.axes.now p < 2 ^ 32 }
+    ensures { IfOk result (λ v. v.items ≡ map (reached view.entry.start view.entry.axes.now) places.now) }
+{
+    let mut sources = Vec::with_capacity(alloc, places.len())?;
+    let Some(first) = places.first() else {
+        return Ok(sources);
+    };
+    let (axis, slower) = first_axis(view.axes);
+    let slower = ViewRef {
+        start: view.start,
+        axes: slower,
+    };
+    let mut row = row_of(axis, slower, *first as usize);
+    for place in places {
+        let place = *place as usize;
+        row = row_with(row, axis, slower, place);
+        let steps = steps_to(axis, place - row.first);
+        sources.push_reserved((row.start + steps * axis.step) as u32);
+    }
+    Ok(sources)
+}
+
+/// The first axis and the slower ones. Where there is none, one place is an axis.
+pub(crate) fn first_axis(axes: &[Axis]) -> (Axis, &[Axis])
+    ensures size { walk_size (result.0 ∷ result.1.now) ≡ walk_size axes.now }
+    ensures reached { (start : ℕ) → (p : ℕ)
+        → reached start (result.0 ∷ result.1.now) p ≡ reached start axes.now p }
+{
+    match axes.split_first() {
+        Some((axis, slower)) => (*axis, slower),
+        None => (ALONE, axes),
+    }
+}
+
+/// The row of a place: this one where it lies in it, and else another.
+#[inline(always)]
+pub(crate) fn row_with(row: WalkRow, axis: Axis, slower: ViewRef<'_>, place: usize) -> WalkRow
+    requires size { 0 < axis.size }
+    requires within { place / axis.size < walk_size slower.axes.now }
+    requires fits { reached slower.start slower.axes.now (place / axis.size) < 2 ^ 32 }
+    requires row_first { row.first ≡ axis.size * (row.first / axis.size) }
+    requires row_start { row.start ≡ reached slower.start slower.axes.now (row.first / axis.size) }
+    ensures first { result.first ≡ axis.size * (place / axis.size) }
+    ensures start { result.start ≡ reached slower.entry.start slower.entry.axes.now (place / axis.size) }
+{
+    if row.first <= place && place - row.first < axis.size {
+        return row;
+    }
+    row_of(axis, slower, place)
+}
+
+/// The row of a place, by a division an axis.
+pub(crate) fn row_of(axis: Axis, slower: ViewRef<'_>, place: usize) -> WalkRow
+    requires size { 0 < axis.size }
+    requires within { place / axis.size < walk_size slower.axes.now }
+    requires fits { reached slower.start slower.axes.now (place / axis.size) < 2 ^ 32 }
+    ensures first { result.first ≡ axis.size * (place / axis.size) }
+    ensures start { result.start ≡ reached slower.entry.start slower.entry.axes.now (place / axis.size) }
+{
+    let row = place / axis.size;
+    WalkRow {
+        first: row * axis.size,
+        start: slower.at(row),
+    }
+}

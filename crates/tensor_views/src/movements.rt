@@ -1,0 +1,206 @@
+//! Views of whole dims, and what a movement makes of one.
+
+ghost use Rattle.std.specs.Prelude.{◌≡◌, ◌<◌, ◌≤◌, ◌+◌, ◌^◌, ℕ, length, slice_index, vec_len};
+ghost use Rattle.std.specs.Prelude.{IfOk, OnOk};
+ghost use Rattle.tensor_shape.specs.Index.{size_of};
+ghost use Rattle.tensor_shape.specs.Legal.{most_elements};
+ghost use Rattle.tensor_views.specs.Rising.{rising};
+ghost use Rattle.tensor_views.specs.Axes.{axes_from, by_steps};
+ghost use Rattle.tensor_views.specs.Axes.{HasRank, AreShort, moved_axes, moved_start};
+ghost use Rattle.tensor_views.specs.Axes.{repeated_axes, cut_axes, shuffled_axes, turned_axes};
+ghost use Rattle.tensor_views.specs.Axes.{strided_axes};
+ghost use Rattle.tensor_terms.specs.Tree.{movement_at};
+
+use crate::axis::Axis;
+use crate::view::{View, ViewRef};
+use std::alloc::{AllocError, Global};
+use tensor_shape::Dims;
+use tensor_terms::Movement;
+
+impl View {
+    /// All places of dims, in their order.
+    pub fn of(alloc: Global, dims: &Dims) -> Result<View, AllocError>
+        ensures start { IfOk result (λ v. v.start ≡ 0) }
+        ensures axes { IfOk result (λ v. v.axes.items ≡ axes_from 1 dims.now) }
+        ensures few { OnOk result (size_of dims.now ≤ most_elements) }
+        ensures short { IfOk result (λ v. AreShort v.axes.items (2 ^ 32)) }
+    {
+        Ok(View {
+            start: 0,
+            axes: whole_axes(alloc, dims)?,
+        })
+    }
+
+    /// A movement of it, where its axes all rise, as those of [`View::of`] do: it cuts, turns and
+    /// repeats them from their starts.
+    pub fn moved(self, alloc: Global, movement: Movement<'_>) -> Result<View, AllocError>
+        requires rank { HasRank (movement_at movement) (vec_len self.axes) }
+        requires fits { moved_start (movement_at movement) self.start self.axes.items < 2 ^ 32 }
+        requires short { AreShort self.axes.items (2 ^ 32) }
+        ensures start { IfOk result (λ v.
+            v.start ≡ moved_start (movement_at movement.entry) self.start self.axes.items) }
+        ensures axes { IfOk result (λ v.
+            v.axes.items ≡ moved_axes (movement_at movement.entry) self.axes.items) }
+    {
+        Ok(View {
+            start: moved_start(movement, self.as_ref()),
+            axes: moved_axes(alloc, movement, self.axes)?,
+        })
+    }
+}
+
+/// The axes of all places of dims, in their order.
+fn whole_axes(alloc: Global, dims: &Dims) -> Result<Vec<Axis>, AllocError>
+    ensures axes { IfOk result (λ v. v.items ≡ axes_from 1 dims.now) }
+    ensures few { OnOk result (size_of dims.now ≤ most_elements) }
+    ensures short { IfOk result (λ v. AreShort v.items (2 ^ 32)) }
+{
+    let sizes = dims.as_slice();
+    let mut axes = Vec::new(alloc);
+    let mut step = 1;
+    for size in sizes {
+        let size = *size as usize;
+        axes.push(rising(size, step))?;
+        step *= size;
+    }
+    Ok(axes)
+}
+
+/// Where a movement of a view starts.
+fn moved_start(movement: Movement<'_>, view: ViewRef<'_>) -> usize
+    requires rank { HasRank (movement_at movement) (length view.axes.now) }
+    requires fits { moved_start (movement_at movement) view.start view.axes.now < 2 ^ 32 }
+    ensures { result ≡ moved_start (movement_at movement.entry) view.entry.start view.entry.axes.now }
+{
+    match movement {
+        Movement::Slice(offsets, _) => start_at(view, offsets),
+        Movement::Chip(offset, axis) => {
+            view.start + offset as usize * view.axes[axis as usize].step
+        }
+        Movement::Broadcast(_) => view.start,
+        Movement::Shuffle(_) => view.start,
+        Movement::Reshape(_) => view.start,
+        Movement::Reverse(_) => view.start,
+        Movement::Stride(_) => view.start,
+    }
+}
+
+/// The axes of a movement, from those of its operand.
+fn moved_axes(
+    alloc: Global,
+    movement: Movement<'_>,
+    axes: Vec<Axis>,
+) -> Result<Vec<Axis>, AllocError>
+    requires rank { HasRank (movement_at movement) (vec_len axes) }
+    requires short { AreShort axes.items (2 ^ 32) }
+    ensures { IfOk result (λ v. v.items ≡ moved_axes (movement_at movement.entry) axes.items) }
+{
+    match movement {
+        Movement::Broadcast(counts) => repeated_axes(alloc, &axes, counts),
+        Movement::Slice(_, extents) => cut_axes(alloc, &axes, extents),
+        Movement::Shuffle(order) => shuffled_axes(alloc, &axes, order),
+        Movement::Reshape(_) => Ok(axes),
+        Movement::Chip(_, axis) => {
+            let mut axes = axes;
+            axes.remove(axis as usize);
+            Ok(axes)
+        }
+        Movement::Reverse(flags) => turned_axes(alloc, &axes, flags),
+        Movement::Stride(steps) => strided_axes(alloc, &axes, steps),
+    }
+}
+
+/// An axis along which the places go up.
+fn rising(size: usize, step: usize) -> Axis
+    ensures { result ≡ rising size step }
+{
+    Axis {
+        size,
+        step,
+        falls: false,
+    }
+}
+
+/// A start, and the steps of an index list from there.
+fn start_at(view: ViewRef<'_>, index: &[u64]) -> usize
+    requires rank { length index.now ≡ length view.axes.now }
+    requires fits { view.start + by_steps view.axes.now index.now < 2 ^ 32 }
+    ensures { result ≡ view.entry.start + by_steps view.entry.axes.now index.now }
+{
+    let mut place = view.start;
+    for k in 0..index.len() {
+        place += index[k] as usize * view.axes[k].step;
+    }
+    place
+}
+
+/// Each axis, and then as often from its start.
+fn repeated_axes(alloc: Global, axes: &[Axis], counts: &[u64]) -> Result<Vec<Axis>, AllocError>
+    requires { length counts.now ≡ length axes.now }
+    ensures { IfOk result (λ v. v.items ≡ repeated_axes axes.now counts.now) }
+{
+    let mut repeated = Vec::new(alloc);
+    for k in 0..counts.len() {
+        repeated.push(axes[k])?;
+        repeated.push(rising(counts[k] as usize, 0))?;
+    }
+    Ok(repeated)
+}
+
+/// The axes, cut to sizes.
+fn cut_axes(alloc: Global, axes: &[Axis], sizes: &[u64]) -> Result<Vec<Axis>, AllocError>
+    requires { length sizes.now ≡ length axes.now }
+    ensures { IfOk result (λ v. v.items ≡ cut_axes axes.now sizes.now) }
+{
+    let mut cut = Vec::new(alloc);
+    for k in 0..sizes.len() {
+        cut.push(rising(sizes[k] as usize, axes[k].step))?;
+    }
+    Ok(cut)
+}
+
+/// The axes in another order.
+fn shuffled_axes(alloc: Global, axes: &[Axis], order: &[u64]) -> Result<Vec<Axis>, AllocError>
+    requires { (k : ℕ) → k < length order.now → slice_index order.now k < length axes.now }
+    ensures { IfOk result (λ v. v.items ≡ shuffled_axes axes.now order.now) }
+{
+    let mut shuffled = Vec::new(alloc);
+    for axis in order {
+        shuffled.push(axes[*axis as usize])?;
+    }
+    Ok(shuffled)
+}
+
+/// The axes, turned round where they are flagged.
+fn turned_axes(alloc: Global, axes: &[Axis], flags: &[bool]) -> Result<Vec<Axis>, AllocError>
+    requires { length flags.now ≡ length axes.now }
+    ensures { IfOk result (λ v. v.items ≡ turned_axes axes.now flags.now) }
+{
+    let mut turned = Vec::new(alloc);
+    for k in 0..flags.len() {
+        let axis = axes[k];
+        turned.push(Axis {
+            size: axis.size,
+            step: axis.step,
+            falls: flags[k],
+        })?;
+    }
+    Ok(turned)
+}
+
+/// The axes, of which only each so many-th place is reached. A step past the axis reaches its first
+/// place alone.
+fn strided_axes(alloc: Global, axes: &[Axis], steps: &[u64]) -> Result<Vec<Axis>, AllocError>
+    requires rank { length steps.now ≡ length axes.now }
+    requires some { (k : ℕ) → k < length steps.now → 0 < slice_index steps.now k }
+    requires short { AreShort axes.now (2 ^ 32) }
+    ensures { IfOk result (λ v. v.items ≡ strided_axes axes.now steps.now) }
+{
+    let mut strided = Vec::new(alloc);
+    for k in 0..steps.len() {
+        let axis = axes[k];
+        let step = steps[k] as usize;
+        strided.push(rising(axis.size.div_ceil(step), axis.step * step.min(axis.size)))?;
+    }
+    Ok(strided)
+}

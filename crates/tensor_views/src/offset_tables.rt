@@ -1,0 +1,98 @@
+//! The places of index lists that are 0 but at some axes.
+
+ghost use Rattle.std.specs.Prelude.{◌≡◌, ◌<◌, ◌≤◌, ◌+◌, ◌*◌, ◌/◌, ◌%◌, ◌^◌, ℕ, length, drop, slice_index};
+ghost use Rattle.std.specs.Prelude.{IsTrue, IfOk};
+ghost use Rattle.tensor_shape.specs.Index.{size_of, index_of};
+ghost use Rattle.tensor_shape.specs.Legal.{most_elements, IsLegal};
+ghost use Rattle.tensor_views.specs.Offsets.{offset_of, HasTables};
+ghost use Rattle.tensor_terms.specs.Reduction.{are_axes};
+ghost use Rattle.tensor_views.specs.Stepped.{stepped};
+ghost use Rattle.tensor_terms.specs.Woven.{dims_at};
+
+use std::alloc::{AllocError, Global};
+use tensor_shape::Dims;
+use tensor_terms::{others, shuffled};
+
+/// Where the rows of an operand of these dims start, whose paired axes are these, in their order, and
+/// how far the values of a row are from there. Takes a number for each row, and one for each value of
+/// a row.
+pub fn tables(
+    alloc: Global,
+    dims: &Dims,
+    axes: &[u64],
+) -> Result<(Vec<usize>, Vec<usize>), AllocError>
+    requires { IsTrue (are_axes (length dims.now) axes.now) }
+    ensures tables { IfOk result (λ t. HasTables t.0.items t.1.items axes.now dims.now) }
+    ensures few { IfOk result (λ t. length t.0.items ≤ most_elements) }
+    ensures short { IfOk result (λ t. length t.1.items ≤ most_elements) }
+{
+    let rank = dims.as_slice().len();
+    let kept = others(axes, 0, rank as u64);
+    let starts = offsets(alloc, dims, kept.as_slice())?;
+    Ok((starts, offsets(alloc, dims, axes)?))
+}
+
+/// The places of the index lists with all numbers at some axes and 0 at the others, the first of
+/// these axes the fastest. Added to the place of an index list that is 0 at these axes they are the
+/// places of all index lists that agree with it at the others. Takes a number for each.
+pub fn offsets(alloc: Global, dims: &Dims, axes: &[u64]) -> Result<Vec<usize>, AllocError>
+    requires { IsTrue (are_axes (length dims.now) axes.now) }
+    ensures len { IfOk result (λ v. length v.items ≡ size_of (dims_at axes.now dims.now)) }
+    ensures each { IfOk result (λ v. (p : ℕ) → p < size_of (dims_at axes.now dims.now)
+        → slice_index v.items p ≡ offset_of axes.now dims.now p) }
+    ensures small { IfOk result (λ v. (p : ℕ) → p < size_of (dims_at axes.now dims.now)
+        → slice_index v.items p < most_elements) }
+{
+    let sizes = shuffled(axes, dims.as_slice());
+    let strides = dims.strides();
+    let steps = shuffled(axes, strides.as_slice());
+    stepped_places(alloc, sizes.as_slice(), steps.as_slice(), 0)
+}
+
+/// For each index list of the sizes from an axis on, in order of their places, its numbers times
+/// the steps of their axes, added up. Takes a number for each.
+pub fn stepped_places(
+    alloc: Global,
+    sizes: &[u64],
+    steps: &[u64],
+    first: usize,
+) -> Result<Vec<usize>, AllocError>
+    requires legal { IsLegal sizes.now }
+    requires rank { length steps.now ≡ length sizes.now }
+    requires short { (k : ℕ) → k < length sizes.now
+        → slice_index sizes.now k * slice_index steps.now k ≤ most_elements }
+    requires first { first ≤ length sizes.now }
+    ensures len { IfOk result (λ v. length v.items ≡ size_of (drop first sizes.now)) }
+    ensures each { IfOk result (λ v. (p : ℕ) → p < size_of (drop first sizes.now)
+        → slice_index v.items p
+        ≡ stepped (drop first steps.now) (index_of (drop first sizes.now) p)) }
+{
+    let mut places = vec![in alloc; 0usize]?;
+    for k in (first..sizes.len()).rev() {
+        places = with_axis(alloc, &places, sizes[k] as usize, steps[k] as usize)?;
+    }
+    Ok(places)
+}
+
+/// The places under an axis before all others, whose indices are a step apart.
+fn with_axis(
+    alloc: Global,
+    places: &[usize],
+    size: usize,
+    step: usize,
+) -> Result<Vec<usize>, AllocError>
+    requires few { length places.now * size < 2 ^ 32 }
+    requires small { (k i : ℕ) → k < length places.now → i < size
+        → slice_index places.now k + i * step < 2 ^ 32 }
+    ensures len { IfOk result (λ v. length v.items ≡ length places.now * size) }
+    ensures each { IfOk result (λ v. (p : ℕ) → p < length places.now * size
+        → slice_index v.items p ≡ slice_index places.now (p / size) + p % size * step) }
+{
+    let mut moved = Vec::with_capacity(alloc, places.len() * size)?;
+    for place in places {
+        for index in 0..size {
+            moved.push_reserved(*place + index * step);
+        }
+    }
+    Ok(moved)
+}

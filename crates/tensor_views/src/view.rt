@@ -1,0 +1,104 @@
+//! Strided views: which places of an operand are read, in the order of the result's places.
+
+ghost use Rattle.std.specs.Prelude.{◌≡◌, ◌<◌, ◌^◌, ℕ, map, IfOk};
+ghost use Rattle.tensor_views.specs.Places.{places_of, AreBelow};
+ghost use Rattle.tensor_views.specs.View.{walk_size, reached};
+
+use crate::axis::{Axis, steps_to};
+use crate::listed_places::looked_up;
+use crate::places::Places;
+use crate::run_places::walked;
+use std::alloc::{AllocError, Global};
+
+/// The places that axes reach from a start.
+#[derive(Drop)]
+pub struct View {
+    pub start: usize,
+    pub axes: Vec<Axis>,
+}
+
+/// A view that is lent.
+#[derive(Clone, Copy, Drop)]
+pub struct ViewRef<'a> {
+    pub start: usize,
+    pub axes: &'a [Axis],
+}
+
+/// A list that is read along a view.
+#[derive(Clone, Copy, Drop)]
+pub struct Reading<'a> {
+    pub list: &'a [i64],
+    pub view: ViewRef<'a>,
+}
+
+impl View {
+    /// The same, lent.
+    #[inline(always)]
+    pub fn as_ref(&self) -> ViewRef<'_>
+        ensures start { result.start ≡ self.now.start }
+        ensures axes { result.axes.now ≡ self.now.axes.items }
+    {
+        ViewRef {
+            start: self.start,
+            axes: self.axes.as_slice(),
+        }
+    }
+}
+
+impl ViewRef<'_> {
+    /// The same in memory of its own.
+    pub fn copied(self, alloc: Global) -> Result<View, AllocError>
+        ensures start { IfOk result (λ v. v.start ≡ self.entry.start) }
+        ensures axes { IfOk result (λ v. v.axes.items ≡ self.entry.axes.now) }
+    {
+        let mut axes = Vec::with_capacity(alloc, self.axes.len())?;
+        axes.extend_from_slice(self.axes)?;
+        Ok(View {
+            start: self.start,
+            axes,
+        })
+    }
+
+    /// How many places it has.
+    pub fn size(self) -> usize
+        requires some { 0 < walk_size self.axes.now }
+        requires fits { walk_size self.axes.now < 2 ^ 32 }
+        ensures { result ≡ walk_size self.entry.axes.now }
+    {
+        let mut places = 1;
+        for axis in self.axes {
+            places *= axis.size;
+        }
+        places
+    }
+
+    /// The operand's place for one place.
+    #[inline(always)]
+    pub(crate) fn at(self, place: usize) -> usize
+        requires within { place < walk_size self.axes.now }
+        requires fits { reached self.start self.axes.now place < 2 ^ 32 }
+        ensures { result ≡ reached self.entry.start self.entry.axes.now place }
+    {
+        let mut rest = place;
+        let mut reached = 0;
+        for axis in self.axes {
+            reached += steps_to(*axis, rest % axis.size) * axis.step;
+            rest /= axis.size;
+        }
+        self.start + reached
+    }
+
+    /// The operand's places for places of the result.
+    pub fn places(self, alloc: Global, places: &Places<'_>) -> Result<Vec<u32>, AllocError>
+        requires within { AreBelow places.now (walk_size self.axes.now) }
+        requires fits { (p : ℕ) → p < walk_size self.axes.now
+            → reached self.start self.axes.now p < 2 ^ 32 }
+        ensures { IfOk result (λ v. v.items
+            ≡ map (reached self.entry.start self.entry.axes.now) (places_of places.now)) }
+    {
+        match places {
+            Places::Run(first, last) => walked(alloc, self, *first, *last),
+            Places::Listed(places) => looked_up(alloc, self, places),
+        }
+    }
+}

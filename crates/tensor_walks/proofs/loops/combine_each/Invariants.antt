@@ -1,6 +1,0 @@
--- The places of the row so far have their values, and the others are as they were.
-use Rattle.tensor_walks.specs.Loops.{CombinesRow}
-use Rattle.tensor_walks.proofs.loops.combine_each.Given as goal
-
-abbrev pub invariant-loop-k : goal.invariant-loop-k
-invariant-loop-k l = CombinesRow l.operation l.turned l.initial.values l.list l.row l.at l.k l.values

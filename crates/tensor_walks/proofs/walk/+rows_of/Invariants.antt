@@ -1,5 +1,0 @@
-use Rattle.std.proofs.Common.{length}
-use Rattle.tensor_walks.proofs.walk.+rows_of.Given as goal
-
-abbrev pub decreases-rows_of : goal.decreases-rows_of
-decreases-rows_of l = length l.axes.now
