@@ -13,9 +13,12 @@ use Rattle.tensor_kernels.proofs.HalfLanes.{joined-bits}
 use Rattle.tensor_kernels.proofs.ProductSums.{wrap-next}
 use Rattle.tensor_kernels.proofs.SimdLanes.{value_in-lanes}
 
--- a place of a row k rows after the first, with the offset before the row's number or after it
-pub turned : (x offset k r : ℕ) → x + offset + k + r ≡ x + k + r + offset
-turned x offset k r = omega arith
+-- a place of a row k + j + r rows after the first, with the offset before its number or behind it
+pub turned : (x offset k j r : ℕ) → x + offset + k + j + r ≡ x + (k + j + r) + offset
+turned x offset k j r = omega arith
+
+pub behind : (x offset k r : ℕ) → x + offset + k + r ≡ x + (k + r) + offset
+behind x offset k r = omega arith
 
 -- a product of the same factors
 pub same-factors : {x y x' y' : ℤ} → x ≡ x' → y ≡ y' → x *ℤ y ≡ x' *ℤ y'

@@ -5,5 +5,6 @@ pub mod PackedChunks
 pub mod PairedBands
 pub mod Pairs
 pub mod Quartering
+pub mod RowPairs
 pub mod Strassen
 pub mod Tiles

@@ -1,5 +1,6 @@
 //! Contractions row by row: for operands with few rows, which tiles would hold zeros for.
 
+pub(crate) mod row_pair;
 pub(crate) mod row_sums;
 pub(crate) mod sixteens;
 pub(crate) mod slid_dots;
@@ -11,8 +12,10 @@ ghost use Rattle.std.specs.Prelude.{◌≡◌, ℕ, ◌*◌, ◌+◌, ◌<◌, �
 ghost use Rattle.tensor_values.specs.Values.{value_in};
 ghost use Rattle.tensor_kernels.specs.Rows.{row_count, row_length, dot_at};
 
+use crate::dots::row_pair::Row;
 use crate::dots::row_sums::row_sums;
 use crate::rows::Rows;
+use crate::rows::part::RowsPart;
 
 /// Two operands whose rows have equally many values.
 #[derive(Drop)]
@@ -60,10 +63,16 @@ impl<'a> Dots<'a> {
         ensures each { (k : ℕ) → k < length out.old → value_in out.new k
             ≡ dots_value self.now (y * row_count self.now.first + (x + k)) }
     {
-        let (first, second) = (&self.first, &self.second);
-        let (a, b) = (first.values.as_slice(), second.values.as_slice());
-        let starts = &first.starts.as_slice()[x..x + out.len()];
-        let start = second.starts.as_slice()[y];
-        row_sums(a, starts, &first.offsets, b, start, &second.offsets, out);
+        let rows = RowsPart {
+            values: self.first.values.as_slice(),
+            starts: &self.first.starts.as_slice()[x..x + out.len()],
+            offsets: self.first.offsets.as_slice(),
+        };
+        let row = Row {
+            values: self.second.values.as_slice(),
+            start: self.second.starts.as_slice()[y],
+            offsets: self.second.offsets.as_slice(),
+        };
+        row_sums(&rows, &row, out);
     }
 }

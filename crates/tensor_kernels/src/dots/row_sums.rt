@@ -1,167 +1,106 @@
 //! Sums of the products of rows and one row: a row has the values at its start, moved by offsets.
 //! Rows that begin side by side are passed together.
 
-ghost use Rattle.std.specs.Prelude.{◌≡◌, ℕ, ◌+◌, ◌-◌, ◌<◌, ◌≤◌, ◌^◌, length, slice_index, IsTrue};
-ghost use Rattle.tensor_shape.specs.Wrap.{wrap};
-ghost use Rattle.tensor_kernels.specs.Panels.{AreInside, AreSmall};
+ghost use Rattle.std.specs.Prelude.{◌≡◌, ℕ, ◌+◌, ◌-◌, ◌<◌, ◌≤◌, length, slice_index, IsTrue};
 ghost use Rattle.tensor_values.specs.Values.{value_in};
-ghost use Rattle.tensor_kernels.specs.Products.{list_product};
+ghost use Rattle.tensor_kernels.specs.private.RowPairs.{HasRows, IsSmallPair, pair_dot, row_dot};
 
+use crate::dots::row_pair::{Row, RowPair};
 use crate::dots::sixteens::{small_sixteen, wide_sixteen};
 use crate::dots::small_eight::small_eight;
 use crate::dots::wide_eight::wide_eight;
+use crate::rows::part::RowsPart;
 use crate::rows::starts::side_by_side;
 use crate::tiling::tile::mul_add;
 
-/// The sums of the products of each row of a and the row of b at y.
-pub(crate) fn row_sums(
-    a: &[i64],
-    starts: &[usize],
-    offsets: &[usize],
-    b: &[i64],
-    y: usize,
-    others: &[usize],
-    out: &mut [i64],
-)
-    requires lengths { length offsets.now ≡ length others.now }
-    requires a { AreInside a.now starts.now offsets.now }
-    requires b { (q : ℕ) → q < length others.now → y + slice_index others.now q < length b.now }
-    requires out { length out.old ≡ length starts.now }
-    ensures len { length out.new ≡ length starts.now }
-    ensures each { (k : ℕ) → k < length starts.now → value_in out.new k ≡ wrap (list_product
-        a.now (slice_index starts.now k) offsets.now b.now y others.now (length offsets.now)) }
+/// The sums of the products of each of some rows and another row.
+pub(crate) fn row_sums<'a>(rows: &RowsPart<'a>, row: &Row<'a>, out: &mut [i64])
+    requires lengths { length rows.now.offsets.now ≡ length row.now.offsets.now }
+    requires inside { (q : ℕ) → q < length row.now.offsets.now
+        → row.now.start + slice_index row.now.offsets.now q < length row.now.values.now }
+    requires out { length out.old ≡ length rows.now.starts.now }
+    ensures len { length out.new ≡ length out.old }
+    ensures each { (k : ℕ) → k < length out.old → value_in out.new k ≡ row_dot rows.now row.now k }
 {
     let mut k = 0;
-    while k < starts.len() {
-        let count = side_by_side(starts, k);
-        sums_of_run(
-            a,
-            starts[k],
-            offsets,
-            b,
-            y,
-            others,
-            false,
-            &mut out[k..k + count],
-        );
+    while k < rows.starts.len() {
+        let count = side_by_side(rows.starts, k);
+        let first = Row {
+            values: rows.values,
+            start: rows.starts[k],
+            offsets: rows.offsets,
+        };
+        let pair = RowPair {
+            first,
+            second: *row,
+        };
+        sums_of_run(&pair, false, &mut out[k..k + count]);
         k += count;
     }
 }
 
-/// The same sums of rows that begin side by side, the first of them at x: sixteen at a time or
+/// The same sums of the rows that begin side by side with the first of a pair: sixteen at a time or
 /// eight, and then one by one. Who knows that all values fit 32 bits may say so, for a faster way.
-pub(crate) fn sums_of_run(
-    a: &[i64],
-    x: usize,
-    offsets: &[usize],
-    b: &[i64],
-    y: usize,
-    others: &[usize],
-    small: bool,
-    out: &mut [i64],
-)
-    requires small { IsTrue small → AreSmall a.now × AreSmall b.now }
-    requires lengths { length offsets.now ≡ length others.now }
-    requires a { (q : ℕ) → q < length offsets.now
-        → x + slice_index offsets.now q + length out.old ≤ length a.now }
-    requires place { x + length out.old ≤ 2 ^ 64 }
-    requires b { (q : ℕ) → q < length others.now → y + slice_index others.now q < length b.now }
+pub(crate) fn sums_of_run(pair: &RowPair<'_>, small: bool, out: &mut [i64])
+    requires small { IsTrue small → IsSmallPair pair.now }
+    requires rows { HasRows (length out.old) pair.now }
     ensures len { length out.new ≡ length out.old }
-    ensures each { (k : ℕ) → k < length out.old → value_in out.new k ≡ wrap (list_product
-        a.now (x + k) offsets.now b.now y others.now (length offsets.now)) }
+    ensures each { (k : ℕ) → k < length out.old → value_in out.new k ≡ pair_dot pair.now k }
 {
-    let together = fill_together(a, x, offsets, b, y, others, small, out);
+    let together = fill_together(pair, small, out);
     for k in together..out.len() {
-        out[k] = sum_of_products(a, x + k, offsets, b, y, others);
+        out[k] = sum_of_products(pair, k);
     }
 }
 
 /// Writes as many sums as can be made together, and tells how many those are.
-fn fill_together(
-    a: &[i64],
-    x: usize,
-    offsets: &[usize],
-    b: &[i64],
-    y: usize,
-    others: &[usize],
-    small: bool,
-    out: &mut [i64],
-) -> usize
-    requires small { IsTrue small → AreSmall a.now × AreSmall b.now }
-    requires lengths { length offsets.now ≡ length others.now }
-    requires a { (q : ℕ) → q < length offsets.now
-        → x + slice_index offsets.now q + length out.old ≤ length a.now }
-    requires place { x + length out.old ≤ 2 ^ 64 }
-    requires b { (q : ℕ) → q < length others.now → y + slice_index others.now q < length b.now }
+fn fill_together(pair: &RowPair<'_>, small: bool, out: &mut [i64]) -> usize
+    requires small { IsTrue small → IsSmallPair pair.now }
+    requires rows { HasRows (length out.old) pair.now }
     ensures few { result ≤ length out.old }
     ensures len { length out.new ≡ length out.old }
-    ensures each { (k : ℕ) → k < result → value_in out.new k ≡ wrap (list_product
-        a.now (x + k) offsets.now b.now y others.now (length offsets.now)) }
+    ensures each { (k : ℕ) → k < result → value_in out.new k ≡ pair_dot pair.now k }
 {
     let mut k = 0;
     while 8 <= out.len() - k {
         if 16 <= out.len() - k {
-            store(out, k, &sixteen(a, x + k, offsets, b, y, others, small));
+            store(out, k, &sixteen(pair, k, small));
             k += 16;
         } else {
-            store(out, k, &eight(a, x + k, offsets, b, y, others, small));
+            store(out, k, &eight(pair, k, small));
             k += 8;
         }
     }
     k
 }
 
-/// The sums of sixteen rows from x on.
+/// The sums of sixteen rows, from row k on.
 #[inline(always)]
-fn sixteen(
-    a: &[i64],
-    x: usize,
-    offsets: &[usize],
-    b: &[i64],
-    y: usize,
-    others: &[usize],
-    small: bool,
-) -> [i64; 16]
-    requires small { IsTrue small → AreSmall a.now × AreSmall b.now }
-    requires lengths { length offsets.now ≡ length others.now }
-    requires a { (q : ℕ) → q < length offsets.now
-        → x + slice_index offsets.now q + 16 ≤ length a.now }
-    requires b { (q : ℕ) → q < length others.now → y + slice_index others.now q < length b.now }
+fn sixteen(pair: &RowPair<'_>, k: usize, small: bool) -> [i64; 16]
+    requires small { IsTrue small → IsSmallPair pair.now }
+    requires rows { HasRows (k + 16) pair.now }
     ensures len { length result ≡ 16 }
-    ensures each { (t : ℕ) → t < 16 → value_in result t
-        ≡ wrap (list_product a.now (x + t) offsets.now b.now y others.now (length offsets.now)) }
+    ensures each { (t : ℕ) → t < 16 → value_in result t ≡ pair_dot pair.now (k + t) }
 {
     if small {
-        small_sixteen(a, x, offsets, b, y, others)
+        small_sixteen(pair, k)
     } else {
-        wide_sixteen(a, x, offsets, b, y, others)
+        wide_sixteen(pair, k)
     }
 }
 
-/// The sums of eight rows from x on.
+/// The sums of eight rows, from row k on.
 #[inline(always)]
-fn eight(
-    a: &[i64],
-    x: usize,
-    offsets: &[usize],
-    b: &[i64],
-    y: usize,
-    others: &[usize],
-    small: bool,
-) -> [i64; 8]
-    requires small { IsTrue small → AreSmall a.now × AreSmall b.now }
-    requires lengths { length offsets.now ≡ length others.now }
-    requires a { (q : ℕ) → q < length offsets.now
-        → x + slice_index offsets.now q + 8 ≤ length a.now }
-    requires b { (q : ℕ) → q < length others.now → y + slice_index others.now q < length b.now }
+fn eight(pair: &RowPair<'_>, k: usize, small: bool) -> [i64; 8]
+    requires small { IsTrue small → IsSmallPair pair.now }
+    requires rows { HasRows (k + 8) pair.now }
     ensures len { length result ≡ 8 }
-    ensures each { (t : ℕ) → t < 8 → value_in result t
-        ≡ wrap (list_product a.now (x + t) offsets.now b.now y others.now (length offsets.now)) }
+    ensures each { (t : ℕ) → t < 8 → value_in result t ≡ pair_dot pair.now (k + t) }
 {
     if small {
-        small_eight(a, x, offsets, b, y, others)
+        small_eight(pair, k)
     } else {
-        wide_eight(a, x, offsets, b, y, others)
+        wide_eight(pair, k)
     }
 }
 
@@ -178,24 +117,16 @@ fn store(out: &mut [i64], k: usize, sums: &[i64])
     }
 }
 
-/// The sum of the products of the row of a at x and that of b at y, modulo 2^64.
-fn sum_of_products(
-    a: &[i64],
-    x: usize,
-    offsets: &[usize],
-    b: &[i64],
-    y: usize,
-    others: &[usize],
-) -> i64
-    requires lengths { length offsets.now ≡ length others.now }
-    requires a { (q : ℕ) → q < length offsets.now → x + slice_index offsets.now q < length a.now }
-    requires b { (q : ℕ) → q < length others.now → y + slice_index others.now q < length b.now }
-    ensures { result ≡ wrap (list_product
-        a.now x offsets.now b.now y others.now (length offsets.now)) }
+/// The sum of the products of row k and the second row, modulo 2^64.
+fn sum_of_products(pair: &RowPair<'_>, k: usize) -> i64
+    requires { HasRows (k + 1) pair.now }
+    ensures { result ≡ pair_dot pair.now k }
 {
+    let (first, second) = (pair.first, pair.second);
     let mut sum = 0;
-    for q in 0..offsets.len() {
-        sum = mul_add(sum, a[x + offsets[q]], b[y + others[q]]);
+    for q in 0..first.offsets.len() {
+        let x = first.values[first.start + first.offsets[q] + k];
+        sum = mul_add(sum, x, second.values[second.start + second.offsets[q]]);
     }
     sum
 }

@@ -8,6 +8,7 @@ ghost use Rattle.tensor_kernels.specs.Products.{rows_dot};
 ghost use Rattle.tensor_kernels.specs.Rows.{row_count, row_length, row_value};
 ghost use Rattle.tensor_kernels.specs.SlidRuns.{slid_count, slid_length, slid_value};
 
+use crate::dots::row_pair::{Row, RowPair};
 use crate::dots::row_sums::sums_of_run;
 use crate::panels::are_small;
 use crate::rows::Rows;
@@ -73,19 +74,20 @@ impl<'a> SlidDots<'a> {
         ensures each { (k : ℕ) → k < length out.old → value_in out.new k
             ≡ slid_dots_value self.now (run * self.now.runs.width + (index + k)) }
     {
-        let (runs, kernel) = (&self.runs, &self.kernel);
-        let (a, b) = (runs.values.as_slice(), kernel.values.as_slice());
-        let start = runs.starts.as_slice()[run] + index;
-        let first = kernel.starts.as_slice()[0];
-        sums_of_run(
-            a,
-            start,
-            &runs.offsets,
-            b,
-            first,
-            &kernel.offsets,
-            self.small,
-            out,
-        );
+        let under = Row {
+            values: self.runs.values.as_slice(),
+            start: self.runs.starts.as_slice()[run] + index,
+            offsets: self.runs.offsets.as_slice(),
+        };
+        let kernel = Row {
+            values: self.kernel.values.as_slice(),
+            start: self.kernel.starts.as_slice()[0],
+            offsets: self.kernel.offsets.as_slice(),
+        };
+        let pair = RowPair {
+            first: under,
+            second: kernel,
+        };
+        sums_of_run(&pair, self.small, out);
     }
 }

@@ -1,12 +1,12 @@
 //! Sums of the products of eight rows that begin side by side and one row, all of numbers that fit
 //! 32 bits: two products an instruction.
 
-ghost use Rattle.std.specs.Prelude.{◌≡◌, ℕ, ◌+◌, ◌-◌, ◌<◌, ◌≤◌, length, slice_index};
-ghost use Rattle.tensor_shape.specs.Wrap.{wrap};
+ghost use Rattle.std.specs.Prelude.{◌≡◌, ℕ, ◌+◌, ◌<◌, length};
 ghost use Rattle.tensor_kernels.specs.Panels.{AreLanes, AreSmall};
 ghost use Rattle.tensor_values.specs.Values.{value_in};
-ghost use Rattle.tensor_kernels.specs.Products.{list_product};
+ghost use Rattle.tensor_kernels.specs.private.RowPairs.{HasRows, IsSmallPair, pair_dot};
 
+use crate::dots::row_pair::RowPair;
 use crate::tiling::small::{add_product, four_from};
 use std::simd::prelude::*;
 
@@ -21,32 +21,21 @@ pub(crate) fn spread_from(b: &[i64], i: usize) -> i64x4
     i64x4::splat(b[i]).cast::<i32>().cast::<i64>()
 }
 
-/// The sums of the products of the eight rows of a from x on and the row of b at y.
+/// The sums of the products of eight rows, from row k on, and the second row of a pair.
 #[inline(never)]
-pub(crate) fn small_eight(
-    a: &[i64],
-    x: usize,
-    offsets: &[usize],
-    b: &[i64],
-    y: usize,
-    others: &[usize],
-) -> [i64; 8]
-    requires small_a { AreSmall a.now }
-    requires small_b { AreSmall b.now }
-    requires lengths { length offsets.now ≡ length others.now }
-    requires a { (q : ℕ) → q < length offsets.now
-        → x + slice_index offsets.now q + 8 ≤ length a.now }
-    requires b { (q : ℕ) → q < length others.now → y + slice_index others.now q < length b.now }
-    ensures { (t : ℕ) → t < 8 → value_in result t
-        ≡ wrap (list_product a.now (x + t) offsets.now b.now y others.now (length offsets.now)) }
+pub(crate) fn small_eight(pair: &RowPair<'_>, k: usize) -> [i64; 8]
+    requires small { IsSmallPair pair.now }
+    requires rows { HasRows (k + 8) pair.now }
+    ensures { (t : ℕ) → t < 8 → value_in result t ≡ pair_dot pair.now (k + t) }
 {
+    let (rows, row) = (pair.first, pair.second);
     let mut low = i64x4::splat(0);
     let mut high = i64x4::splat(0);
-    for q in 0..offsets.len() {
-        let i = x + offsets[q];
-        let factor = spread_from(b, y + others[q]);
-        low = add_product(low, four_from(a, i), factor);
-        high = add_product(high, four_from(a, i + 4), factor);
+    for q in 0..rows.offsets.len() {
+        let i = rows.start + rows.offsets[q] + k;
+        let factor = spread_from(row.values, row.start + row.offsets[q]);
+        low = add_product(low, four_from(rows.values, i), factor);
+        high = add_product(high, four_from(rows.values, i + 4), factor);
     }
     joined(low, high)
 }

@@ -1,6 +1,6 @@
 //! Some rows of an operand, with some of the values of each.
 
-ghost use Rattle.std.specs.Prelude.{◌≤◌, length};
+ghost use Rattle.std.specs.Prelude.{◌<◌, ◌≤◌, ◌^◌, length};
 ghost use Rattle.tensor_shape.specs.Legal.{most_elements};
 ghost use Rattle.tensor_kernels.specs.Panels.{AreInside};
 
@@ -12,6 +12,7 @@ pub(crate) struct RowsPart<'a> {
     pub(crate) starts: &'a [usize],
     pub(crate) offsets: &'a [usize],
     ghost inside: { AreInside values.now starts.now offsets.now },
+    ghost fits: { length values.now < 2 ^ 60 },
     ghost few: { length starts.now ≤ most_elements },
     ghost short: { length offsets.now ≤ most_elements },
 }

@@ -26,10 +26,10 @@ dot_at-lists first second a b offsets others x y s t is_a is_b is_offsets is_oth
 pub returns-clause-each : goal.returns-clause-each
 returns-clause-each c k below =
     let x = c.args.x in
-    c.row_sums.ensures.each k (omega (arith, c.row_sums.ensures.len))
+    c.row_sums.ensures.each k below
     ∙ dot_at-lists c.args.self.now.first c.args.self.now.second _ _ _ _ (x + k) c.args.y _ _
-    c.as_slice-a.ensures.value c.as_slice-b.ensures.value c.deref.ensures.value
-    c.deref-2.ensures.value
-    (get_or-between c.as_slice.result.now x (x + length c.args.out.now) k 0 (omega arith)
-    ∙ ap (λ l. slice_index l (x + k)) c.as_slice.ensures.value)
-    (ap (λ l. slice_index l c.args.y) c.as_slice-2.ensures.value) (omega arith)
+    c.as_slice.ensures.value c.as_slice-4.ensures.value c.as_slice-3.ensures.value
+    c.as_slice-6.ensures.value
+    (get_or-between c.as_slice-2.result.now x (x + length c.args.out.now) k 0 (omega arith)
+    ∙ ap (λ l. slice_index l (x + k)) c.as_slice-2.ensures.value)
+    (ap (λ l. slice_index l c.args.y) c.as_slice-5.ensures.value) (omega arith)

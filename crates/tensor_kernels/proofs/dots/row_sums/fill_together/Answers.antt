@@ -1,8 +1,7 @@
 use Rattle.std.proofs.Common.{◌≡◌, ℕ, ◌+◌, ◌-◌, ◌<◌, ℤ, List, length, inl, inr, ap, sym, ◌∙◌, arith}
 use Rattle.std.proofs.lemmas.Bool.{cases_lt}
 use Rattle.tensor_values.specs.Values.{value_in}
-use Rattle.tensor_kernels.specs.Products.{list_product}
-use Rattle.tensor_shape.specs.Wrap.{wrap}
+use Rattle.tensor_kernels.specs.private.RowPairs.{pair_dot}
 use Rattle.tensor_kernels.proofs.dots.row_sums.fill_together.Goals as goal
 
 -- some sums more
@@ -23,33 +22,21 @@ together f before after sums k n long so_far stored kept is j below =
     ]
 
 pub loop-out-preserved-then-out-k-ge16 : goal.loop-out-preserved-then-out-k-ge16
-loop-out-preserved-then-out-k-ge16 c =
-    let a = c.args in
-    let k = c.loop-out.k in
-    let sum = λ (x : ℕ). wrap (list_product a.a.now x a.offsets.now a.b.now a.y a.others.now
-    (length a.offsets.now)) in
-    record {
-      below = omega (arith, c.store.ensures.len);
-      len = c.store.ensures.len ∙ c.loop-out.invariant.len;
-      each = together (λ j. sum (a.x + j)) c.loop-out.out c.store.new.out c.sixteen.result k 16
-          c.sixteen.ensures.len c.loop-out.invariant.each c.store.ensures.stored
-          c.store.ensures.kept
-          (λ t h. let place : a.x + k + t ≡ a.x + (k + t) = omega arith in
-          c.sixteen.ensures.each t h ∙ ap sum place);
-    }
+loop-out-preserved-then-out-k-ge16 c = record {
+  below = omega (arith, c.store.ensures.len);
+  len = c.store.ensures.len ∙ c.loop-out.invariant.len;
+  each = together (pair_dot c.args.pair.now) c.loop-out.out c.store.new.out c.sixteen.result
+      c.loop-out.k 16 c.sixteen.ensures.len c.loop-out.invariant.each c.store.ensures.stored
+      c.store.ensures.kept c.sixteen.ensures.each;
+}
 
 pub loop-out-preserved : goal.loop-out-preserved
 loop-out-preserved c =
-    let a = c.args in
-    let k = c.loop-out.k in
-    let sum = λ (x : ℕ). wrap (list_product a.a.now x a.offsets.now a.b.now a.y a.others.now
-    (length a.offsets.now)) in
+    let store = c.store-else-out-k-ge16 in
     record {
-      below = omega (arith, c.store-else-out-k-ge16.ensures.len);
-      len = c.store-else-out-k-ge16.ensures.len ∙ c.loop-out.invariant.len;
-      each = together (λ j. sum (a.x + j)) c.loop-out.out c.store-else-out-k-ge16.new.out c.eight.result k 8
-          c.eight.ensures.len c.loop-out.invariant.each c.store-else-out-k-ge16.ensures.stored
-          c.store-else-out-k-ge16.ensures.kept
-          (λ t h. let place : a.x + k + t ≡ a.x + (k + t) = omega arith in
-          c.eight.ensures.each t h ∙ ap sum place);
+      below = omega (arith, store.ensures.len);
+      len = store.ensures.len ∙ c.loop-out.invariant.len;
+      each = together (pair_dot c.args.pair.now) c.loop-out.out store.new.out c.eight.result
+          c.loop-out.k 8 c.eight.ensures.len c.loop-out.invariant.each store.ensures.stored
+          store.ensures.kept c.eight.ensures.each;
     }

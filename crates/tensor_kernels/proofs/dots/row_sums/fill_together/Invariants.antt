@@ -1,16 +1,14 @@
 -- The sums before k.
 use Rattle.std.proofs.Common.{◌≡◌, ℕ, ◌+◌, ◌-◌, ◌<◌, ◌≤◌, length}
-use Rattle.tensor_shape.specs.Wrap.{wrap}
 use Rattle.tensor_values.specs.Values.{value_in}
-use Rattle.tensor_kernels.specs.Products.{list_product}
+use Rattle.tensor_kernels.specs.private.RowPairs.{pair_dot}
 use Rattle.tensor_kernels.proofs.dots.row_sums.fill_together.Given as goal
 
 abbrev pub invariant-loop-out : goal.invariant-loop-out
 invariant-loop-out l = record {
   below : l.k ≤ length l.out;
   len : length l.out ≡ length l.initial.out;
-  each : (k : ℕ) → k < l.k → value_in l.out k ≡ wrap (list_product
-      l.a (l.x + k) l.offsets l.b l.y l.others (length l.offsets));
+  each : (k : ℕ) → k < l.k → value_in l.out k ≡ pair_dot l.pair k;
 }
 
 abbrev pub decreases-loop-out : goal.decreases-loop-out

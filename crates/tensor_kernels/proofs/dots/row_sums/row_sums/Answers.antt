@@ -9,12 +9,13 @@ use Rattle.tensor_kernels.proofs.dots.row_sums.row_sums.Goals as goal
 
 pub loop-k-preserved : goal.loop-k-preserved
 loop-k-preserved c =
-    let a = c.args in
+    let rows = c.args.rows.now in
+    let row = c.args.row.now in
     let k = c.loop-k.k in
     let count = c.side_by_side-count.result in
     let out = c.loop-k.out in
     let run = c.sums_of_run.new.out in
-    let within : k + count ≤ length a.starts.now = c.side_by_side-count.ensures.few in
+    let within : k + count ≤ length rows.starts.now = c.side_by_side-count.ensures.few in
     let room : k + count ≤ length out = omega (arith, c.loop-k.invariant.len) in
     let long : length run ≡ count = c.sums_of_run.ensures.len ∙ length-part k count out room in
     record {
@@ -33,9 +34,9 @@ loop-k-preserved c =
                 ap (value_in _) (sym here)
                 ∙ get_or-within k (k + count - k) out run (omega arith) j inside
                 ∙ c.sums_of_run.ensures.each j (omega (arith, c.sums_of_run.ensures.len))
-                ∙ ap (λ x. wrap (list_product a.a.now x a.offsets.now a.b.now a.y a.others.now
-                (length a.offsets.now)))
+                ∙ ap (λ x. wrap (list_product rows.values.now x rows.offsets.now row.values.now
+                row.start row.offsets.now (length rows.offsets.now)))
                 (sym (c.side_by_side-count.ensures.each j (omega arith))
-                ∙ ap (slice_index a.starts.now) here)
+                ∙ ap (slice_index rows.starts.now) here)
           ];
     }

@@ -1,13 +1,11 @@
 -- The sums before k.
 use Rattle.std.proofs.Common.{◌≡◌, ℕ, ◌+◌, ◌<◌, length}
-use Rattle.tensor_shape.specs.Wrap.{wrap}
 use Rattle.tensor_values.specs.Values.{value_in}
-use Rattle.tensor_kernels.specs.Products.{list_product}
+use Rattle.tensor_kernels.specs.private.RowPairs.{pair_dot}
 use Rattle.tensor_kernels.proofs.dots.row_sums.sums_of_run.Given as goal
 
 abbrev pub invariant-loop-k : goal.invariant-loop-k
 invariant-loop-k l = record {
   len : length l.out ≡ length l.initial.out;
-  each : (k : ℕ) → k < l.k → value_in l.out k ≡ wrap (list_product
-      l.a (l.x + k) l.offsets l.b l.y l.others (length l.offsets));
+  each : (k : ℕ) → k < l.k → value_in l.out k ≡ pair_dot l.pair k;
 }

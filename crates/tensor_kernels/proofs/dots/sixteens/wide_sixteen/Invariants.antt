@@ -4,7 +4,7 @@ use Rattle.std.specs.Int.{w64}
 use Rattle.tensor_shape.specs.Wrap.{wrap}
 use Rattle.tensor_kernels.specs.private.Halves.{AreWords, joined}
 use Rattle.tensor_kernels.specs.Panels.{AreLanes}
-use Rattle.tensor_kernels.specs.Products.{list_product}
+use Rattle.tensor_kernels.specs.private.RowPairs.{pair_sum}
 use Rattle.tensor_kernels.proofs.dots.sixteens.wide_sixteen.Given as goal
 
 abbrev pub invariant-loop-q : goal.invariant-loop-q
@@ -18,11 +18,11 @@ invariant-loop-q l = record {
   words_2 : AreWords l.c2;
   words_3 : AreWords l.c3;
   rows_0 : (r : ℕ) → r < 4 → joined (map (to_z w64) l.l0) l.c0 r
-      ≡ wrap (list_product l.a (l.x + r) l.offsets l.b l.y l.others l.q);
+      ≡ wrap (pair_sum l.pair (l.k + r) l.q);
   rows_1 : (r : ℕ) → r < 4 → joined (map (to_z w64) l.l1) l.c1 r
-      ≡ wrap (list_product l.a (l.x + 4 + r) l.offsets l.b l.y l.others l.q);
+      ≡ wrap (pair_sum l.pair (l.k + 4 + r) l.q);
   rows_2 : (r : ℕ) → r < 4 → joined (map (to_z w64) l.l2) l.c2 r
-      ≡ wrap (list_product l.a (l.x + 8 + r) l.offsets l.b l.y l.others l.q);
+      ≡ wrap (pair_sum l.pair (l.k + 8 + r) l.q);
   rows_3 : (r : ℕ) → r < 4 → joined (map (to_z w64) l.l3) l.c3 r
-      ≡ wrap (list_product l.a (l.x + 12 + r) l.offsets l.b l.y l.others l.q);
+      ≡ wrap (pair_sum l.pair (l.k + 12 + r) l.q);
 }

@@ -1,9 +1,8 @@
 use Rattle.std.proofs.Common.{ℕ, ◌+◌, ℤ, slice_index, map, to_z, ap, ◌∙◌}
-use Rattle.std.proofs.Math.Nat.{add_right_comm}
 use Rattle.std.specs.Int.{w64}
 use Rattle.tensor_values.specs.Values.{value_in}
-use Rattle.tensor_kernels.specs.Products.{product_of}
-use Rattle.tensor_kernels.proofs.LaneSums.{turned, same-factors, next_lane}
+use Rattle.tensor_kernels.specs.private.RowPairs.{pair_product}
+use Rattle.tensor_kernels.proofs.LaneSums.{behind, turned, same-factors, next_lane}
 use Rattle.tensor_kernels.proofs.SimdLanes.{lanes-bits}
 use Rattle.tensor_kernels.proofs.dots.small_eight.small_eight.Goals as goal
 
@@ -22,27 +21,27 @@ add_product-high-requires-clause-y c = lanes-bits _ c.spread_from-factor.ensures
 pub loop-q-preserved : goal.loop-q-preserved
 loop-q-preserved c =
     let q = c.loop-q.q in
-    let a = c.args.a.now in
-    let b = c.args.b.now in
-    let offset : ℕ = slice_index c.args.offsets.now q in
-    let f : ℕ → ℕ → ℤ = λ x. product_of a x c.args.offsets.now b c.args.y c.args.others.now in
+    let pair = c.args.pair.now in
+    let k = c.args.k in
+    let a = pair.first.values.now in
+    let offset : ℕ = slice_index pair.first.offsets.now q in
     let factor = c.spread_from-factor.ensures in
     record {
       lanes_low = lanes-bits _ c.add_product-low.ensures.lanes;
       lanes_high = lanes-bits _ c.add_product-high.ensures.lanes;
       low = λ r h.
-          let here = add_right_comm c.args.x offset r in
+          let here = behind pair.first.start offset k r in
           let left = c.four_from.ensures.each r h ∙ ap (value_in a) here in
           let right = factor.each r h in
-          next_lane (f (c.args.x + r)) (map (to_z w64) c.loop-q.low) c.four_from.result
+          next_lane (pair_product pair (k + r)) (map (to_z w64) c.loop-q.low) c.four_from.result
           c.spread_from-factor.result c.add_product-low.result r q h c.four_from.ensures.lanes
           factor.lanes c.add_product-low.ensures.lanes (c.loop-q.invariant.low r h) (same-factors left right)
           (c.add_product-low.ensures.each r h);
       high = λ r h.
-          let here = turned c.args.x offset 4 r in
+          let here = turned pair.first.start offset k 4 r in
           let left = c.four_from-in-loop-q.ensures.each r h ∙ ap (value_in a) here in
           let right = factor.each r h in
-          next_lane (f (c.args.x + 4 + r)) (map (to_z w64) c.loop-q.high)
+          next_lane (pair_product pair (k + 4 + r)) (map (to_z w64) c.loop-q.high)
           c.four_from-in-loop-q.result c.spread_from-factor.result c.add_product-high.result r q h
           c.four_from-in-loop-q.ensures.lanes factor.lanes c.add_product-high.ensures.lanes
           (c.loop-q.invariant.high r h) (same-factors left right) (c.add_product-high.ensures.each r h);

@@ -2,9 +2,9 @@
 use Rattle.std.proofs.Common.{◌≡◌, ℕ, ◌+◌, ◌*◌, ◌/◌, ◌%◌, ◌<◌}
 use Rattle.tensor_shape.specs.Wrap.{wrap}
 use Rattle.tensor_values.specs.Values.{value_in}
-use Rattle.tensor_kernels.specs.Products.{list_product}
+use Rattle.tensor_kernels.specs.private.RowPairs.{pair_sum}
 use Rattle.tensor_kernels.proofs.dots.wide_eight.dealt_eight.Given as goal
 
 abbrev pub invariant-loop-q : goal.invariant-loop-q
 invariant-loop-q l = (t : ℕ) → t < 8 → value_in l.sums t
-    ≡ wrap (list_product l.a (l.x + (t % 2 * 4 + t / 2)) l.offsets l.b l.y l.others l.q)
+    ≡ wrap (pair_sum l.pair (l.k + (t % 2 * 4 + t / 2)) l.q)

@@ -1,7 +1,6 @@
-use Rattle.std.proofs.Common.{◌≡◌, ◌+◌, ◌*◌, ◌/◌, ◌%◌, ◌<◌, ◌∙◌, length, length-set, arith}
-use Rattle.tensor_shape.specs.Wrap.{wrap}
+use Rattle.std.proofs.Common.{◌≡◌, ◌+◌, ◌*◌, ◌/◌, ◌%◌, ◌<◌, ◌∙◌, length-set, arith}
 use Rattle.tensor_values.specs.Values.{value_in}
-use Rattle.tensor_kernels.specs.Products.{list_product}
+use Rattle.tensor_kernels.specs.private.RowPairs.{pair_dot}
 use Rattle.tensor_kernels.proofs.ListWrites.{stored, set-next}
 use Rattle.tensor_kernels.proofs.dots.wide_eight.wide_eight.Goals as goal
 
@@ -14,8 +13,7 @@ loop-t-preserved c =
     let is = rw row at (c.dealt_eight-dealt.ensures s few) in (
       simp length-set (c.loop-t.invariant.0),
       set-next
-          (λ k. wrap (list_product c.args.a.now (c.args.x + k) c.args.offsets.now c.args.b.now
-          c.args.y c.args.others.now (length c.args.offsets.now)))
+          (λ s. pair_dot c.args.pair.now (c.args.k + s))
           c.loop-t.sums t _ (omega arith) c.loop-t.invariant.1
           (stored (value_in c.dealt_eight-dealt.result s) _ is ∙ is),
     )

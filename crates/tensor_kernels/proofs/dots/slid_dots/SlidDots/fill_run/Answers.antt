@@ -55,43 +55,22 @@ value-lists d a b offsets others run index k s t is_a is_b is_offsets is_others 
     )
     refl
 
-pub overflow_add-start : goal.overflow_add-start
-overflow_add-start c =
+pub overflow_add-under : goal.overflow_add-under
+overflow_add-under c =
     let r = c.args.self.now.runs in
     let below = inside-run r c.args.run c.args.index 0 c.requires.run
     (omega (arith, c.requires.within, c.requires.some)) r.some in
-    let start : slice_index c.as_slice.result.now c.args.run
-    ≡ slice_index r.starts.items c.args.run = ap (λ l. slice_index l c.args.run) c.as_slice.ensures.value in
+    let start : slice_index c.as_slice-2.result.now c.args.run
+    ≡ slice_index r.starts.items c.args.run = ap (λ l. slice_index l c.args.run) c.as_slice-2.ensures.value in
     record {
-      fits = omega (
-        arith,
-        below,
-        start,
-        c.as_slice-a.type_inv.0,
-        ap length c.as_slice-a.ensures.value,
-      );
+      fits = omega (arith, below, start, c.as_slice.type_inv.0, ap length c.as_slice.ensures.value);
     }
 
-pub sums_of_run-requires-clause-place : goal.sums_of_run-requires-clause-place
-sums_of_run-requires-clause-place c =
-    let r = c.args.self.now.runs in
-    let last : ℕ = c.args.index + length c.args.out.now - 1 in
-    let inside = inside-run r c.args.run last 0 c.requires.run
-    (omega (arith, c.requires.within, c.requires.some)) r.some in
-    omega (
-      arith,
-      inside,
-      c.requires.some,
-      ap (λ l. slice_index l c.args.run) c.as_slice.ensures.value,
-      c.as_slice-a.type_inv.0,
-      ap length c.as_slice-a.ensures.value,
-    )
-
-pub sums_of_run-requires-clause-a : goal.sums_of_run-requires-clause-a
-sums_of_run-requires-clause-a c q below =
+pub sums_of_run-requires-clause-rows : goal.sums_of_run-requires-clause-rows
+sums_of_run-requires-clause-rows c q below =
     let r = c.args.self.now.runs in
     let value : q < length r.offsets.items =
-    omega (arith, below, ap length c.deref.ensures.value) in
+    omega (arith, below, ap length c.as_slice-3.ensures.value) in
     let last : ℕ = c.args.index + length c.args.out.now - 1 in
     let inside = inside-run r c.args.run last q c.requires.run
     (omega (arith, c.requires.within, c.requires.some)) value in
@@ -99,16 +78,16 @@ sums_of_run-requires-clause-a c q below =
       arith,
       inside,
       c.requires.some,
-      ap (λ l. slice_index l c.args.run) c.as_slice.ensures.value,
-      ap (λ l. slice_index l q) c.deref.ensures.value,
-      ap length c.as_slice-a.ensures.value,
+      ap (λ l. slice_index l c.args.run) c.as_slice-2.ensures.value,
+      ap (λ l. slice_index l q) c.as_slice-3.ensures.value,
+      ap length c.as_slice.ensures.value,
     )
 
 pub returns-clause-each : goal.returns-clause-each
 returns-clause-each c k below =
     c.sums_of_run.ensures.each k below
     ∙ value-lists c.args.self.now _ _ _ _ c.args.run c.args.index k _ _
-    c.as_slice-a.ensures.value c.as_slice-b.ensures.value c.deref.ensures.value
-    c.deref-2.ensures.value (ap (λ l. slice_index l c.args.run) c.as_slice.ensures.value)
-    (ap (λ l. slice_index l 0) c.as_slice-2.ensures.value) c.requires.run
+    c.as_slice.ensures.value c.as_slice-4.ensures.value c.as_slice-3.ensures.value
+    c.as_slice-6.ensures.value (ap (λ l. slice_index l c.args.run) c.as_slice-2.ensures.value)
+    (ap (λ l. slice_index l 0) c.as_slice-5.ensures.value) c.requires.run
     (omega (arith, c.requires.within))
