@@ -10,14 +10,15 @@ use Rattle.std.specs.Int.{w64}
 use Rattle.tensor_shape.specs.Wrap.{wrap}
 use Rattle.tensor_kernels.specs.private.Cells.{HoldsRows}
 use Rattle.tensor_kernels.specs.Chunks.{chunk_start, chunk, before}
-use Rattle.tensor_kernels.specs.Panels.{AreInside, cell_of}
+use Rattle.tensor_dots.specs.Inside.{AreInside}
+use Rattle.tensor_kernels.specs.Panels.{cell_of}
 use Rattle.tensor_values.specs.Values.{value_in}
-use Rattle.tensor_kernels.specs.Products.{dot, sum_to}
-use Rattle.tensor_kernels.specs.Rows.{row_count, row_length, row_value}
-use Rattle.tensor_kernels.specs.declared.rows.Rows.{Rows}
+use Rattle.tensor_dots.specs.Products.{dot, sum_to}
+use Rattle.tensor_dots.specs.Rows.{row_count, row_length, row_value}
+use Rattle.tensor_dots.specs.declared.rows.Rows.{Rows}
 use Rattle.tensor_kernels.proofs.PanelPlaces.{are_cells-row}
-use Rattle.tensor_kernels.proofs.Parts.{get_or-part}
-use Rattle.tensor_kernels.proofs.ProductSums.{sum_to-ext, sum_to-append}
+use Rattle.tensor_dots.proofs.Parts.{get_or-part}
+use Rattle.tensor_dots.proofs.ProductSums.{sum_to-ext, sum_to-append}
 
 -- so many terms more, where the sum so far was taken modulo 2^64
 pub wrap-chunk : (f : ℕ → ℤ) (a m b : ℕ) (v so_far more : ℤ) → a + m ≡ b

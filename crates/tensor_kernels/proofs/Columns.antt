@@ -2,7 +2,7 @@
 use Rattle.std.proofs.Common.{◌≡◌, ℕ, ◌+◌, ◌*◌, ◌-◌, ◌/◌, ◌%◌, ◌<◌, ◌≤◌, List, length, take, drop, ap}
 use Rattle.std.proofs.Common.{sym, subst, arith, length-drop, length-take, div-add-mod'}
 use Rattle.std.specs.Int.{div_ceil}
-use Rattle.tensor_kernels.specs.Rows.{row_count}
+use Rattle.tensor_dots.specs.Rows.{row_count}
 use Rattle.tensor_kernels.specs.Tiling.{tiled_count}
 use Rattle.tensor_kernels.specs.declared.tiling.Tiled.{Tiled}
 use Rattle.tensor_kernels.proofs.TilePlaces.{columns-inside}

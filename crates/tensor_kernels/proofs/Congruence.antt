@@ -6,7 +6,7 @@ use Rattle.std.proofs.lemmas.Int.{int_wrap-add_same, int_wrap-sub_right, int_wra
 use Rattle.std.proofs.lemmas.Int.{int_wrap_fits, SFits-int_wrap, int_wrap-add_left}
 use Rattle.std.specs.Int.{w64}
 use Rattle.tensor_shape.specs.Wrap.{wrap}
-use Rattle.tensor_kernels.specs.Products.{dot}
+use Rattle.tensor_dots.specs.Products.{dot}
 
 -- to wrap once more changes nothing
 pub wrap-wrap : (z : ℤ) → wrap (wrap z) ≡ wrap z

@@ -5,7 +5,9 @@ use Rattle.std.proofs.lemmas.Grind.{div_ceil_times}
 use Rattle.std.proofs.lemmas.Nat.{div_below, mod_below}
 use Rattle.std.specs.Int.{w32, div_ceil}
 use Rattle.tensor_values.specs.Values.{value_in}
-use Rattle.tensor_kernels.specs.Panels.{panel_place, AreCells, AreInside, AreSmall}
+use Rattle.tensor_kernels.specs.Panels.{panel_place, AreCells}
+use Rattle.tensor_dots.specs.Inside.{AreInside}
+use Rattle.tensor_dots.specs.Lanes.{AreSmall}
 use Rattle.tensor_kernels.proofs.PanelPlaces.{panel_place-of}
 use Rattle.tensor_values.proofs.Factors.{some_factor, some_size}
 

@@ -8,13 +8,13 @@ use Rattle.std.specs.Int.{w64, int_wrap}
 use lib.Lanes.{zip2}
 use Rattle.tensor_values.specs.Values.{value_in}
 use Rattle.tensor_shape.specs.Wrap.{wrap}
-use Rattle.tensor_kernels.specs.private.Halves.{AreWords, joined, word_in}
+use Rattle.tensor_dots.specs.Halves.{AreWords, joined, word_in}
 use Rattle.tensor_kernels.specs.private.Pairs.{pairs_dot}
-use Rattle.tensor_kernels.specs.Panels.{AreLanes}
-use Rattle.tensor_kernels.proofs.HalfProducts.{wrap-bits}
-use Rattle.tensor_kernels.proofs.HalfLanes.{length-bits, at-bits, length-both, at-both, joined-bits}
-use Rattle.tensor_kernels.proofs.ProductSums.{wrap-next_from}
-use Rattle.tensor_kernels.proofs.SimdLanes.{value_in-lanes}
+use Rattle.tensor_dots.specs.Lanes.{AreLanes}
+use Rattle.tensor_dots.proofs.HalfProducts.{wrap-bits}
+use Rattle.tensor_dots.proofs.HalfLanes.{length-bits, at-bits, length-both, at-both, joined-bits}
+use Rattle.tensor_dots.proofs.ProductSums.{wrap-next_from}
+use Rattle.tensor_dots.proofs.SimdLanes.{value_in-lanes}
 
 -- a sum of bits, read as a number
 pub bits-sum : (x y : ℤ) → FitsSigned w64 x → FitsSigned w64 y

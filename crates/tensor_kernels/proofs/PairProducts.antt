@@ -6,7 +6,7 @@ use Rattle.std.proofs.Math.IntN.{+ℤ_idl, zero-*ℤ, suc_ℤ-+ℤ, suc_ℤ-*ℤ
 use Rattle.std.specs.Int.{w64}
 use Rattle.tensor_shape.specs.Wrap.{wrap}
 use Rattle.tensor_kernels.specs.private.Pairs.{own_pairs, pairs_dot}
-use Rattle.tensor_kernels.specs.Products.{dot}
+use Rattle.tensor_dots.specs.Products.{dot}
 
 after : (m n k : ℤ) → (m +ℤ n) +ℤ k ≡ (m +ℤ k) +ℤ n
 after m n k = omega (arith, ints)

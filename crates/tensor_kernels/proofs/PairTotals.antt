@@ -1,11 +1,11 @@
 -- The sum of the products of two chunks.
 use Rattle.std.proofs.Common.{◌≡◌, ℕ, ◌+◌, ◌*◌, ◌/◌, ◌%◌, ◌<◌, ℤ, ◌+ℤ◌, ap, sym, ◌∙◌, arith}
-use Rattle.tensor_kernels.specs.Products.{dot, sum_to}
-use Rattle.tensor_kernels.specs.Rows.{row_count, row_value}
+use Rattle.tensor_dots.specs.Products.{dot, sum_to}
+use Rattle.tensor_dots.specs.Rows.{row_count, row_value}
 use Rattle.tensor_kernels.specs.Tiling.{product_at, pair_total}
 use Rattle.tensor_kernels.specs.declared.tiling.Tiled.{Tiled}
-use Rattle.tensor_kernels.proofs.LaneSums.{same-factors}
-use Rattle.tensor_kernels.proofs.ProductSums.{sum_to-ext, sum_to-append}
+use Rattle.tensor_dots.proofs.LaneSums.{same-factors}
+use Rattle.tensor_dots.proofs.ProductSums.{sum_to-ext, sum_to-append}
 
 -- is that of those of the one and that of those of the other
 pub pair-split : (t : Tiled) (c p : ℕ) (f g f' g' : ℕ → ℤ)

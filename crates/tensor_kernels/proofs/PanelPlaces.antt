@@ -14,7 +14,7 @@ use Rattle.tensor_shape.specs.Wrap.{wrap}
 use Rattle.tensor_values.specs.Values.{value_in}
 use Rattle.tensor_kernels.specs.private.Pairs.{own_pairs, lane, ArePairSums}
 use Rattle.tensor_kernels.specs.Panels.{panel_place, cell_of, part_value, AreCells}
-use Rattle.tensor_kernels.proofs.ProductSums.{sum_to-ext}
+use Rattle.tensor_dots.proofs.ProductSums.{sum_to-ext}
 
 -- row j of panel p is row p * h + j
 pub panel_place-row : (h n p j q : ℕ) → j < h

@@ -6,7 +6,7 @@ use Rattle.std.proofs.lemmas.Nat.{div-mul-add, mod-mul-add}
 use Rattle.tensor_shape.specs.Wrap.{wrap}
 use Rattle.tensor_values.specs.Values.{value_in}
 use Rattle.tensor_kernels.specs.Panels.{cell_of, panel_place}
-use Rattle.tensor_kernels.specs.Products.{dot}
+use Rattle.tensor_dots.specs.Products.{dot}
 use Rattle.tensor_kernels.specs.private.Quartering.{half_size}
 use Rattle.tensor_kernels.specs.private.Strassen.{cell, sum_of, difference_of, IsFactor, product_sum}
 use Rattle.tensor_kernels.specs.private.Strassen.{AreFirstFactors}
@@ -20,9 +20,9 @@ use Rattle.tensor_kernels.specs.declared.tiling.strassen.quarters.Quarter.TheVar
 use Rattle.tensor_kernels.specs.declared.tiling.strassen.quarters.Quarter.TheVariants.{SecondLater}
 use Rattle.tensor_kernels.specs.declared.tiling.strassen.quarters.Quarters.{Quarters}
 use Rattle.tensor_kernels.proofs.Congruence.{same-add, same-sub, same-dot}
-use Rattle.tensor_kernels.proofs.LaneSums.{same-factors}
+use Rattle.tensor_dots.proofs.LaneSums.{same-factors}
 use Rattle.tensor_kernels.proofs.PanelPlaces.{panel_place-inside}
-use Rattle.tensor_kernels.proofs.ProductSums.{sum_to-ext}
+use Rattle.tensor_dots.proofs.ProductSums.{sum_to-ext}
 use Rattle.tensor_kernels.proofs.Strassen.{AreSeven, first_first, first_second, second_first}
 use Rattle.tensor_kernels.proofs.Strassen.{second_second}
 

@@ -5,7 +5,8 @@ use Rattle.std.specs.Int.{div_ceil}
 use Rattle.std.proofs.lemmas.Nat.{div-mul-add, mod-mul-add}
 use Rattle.tensor_values.specs.Values.{value_in}
 use Rattle.tensor_kernels.specs.Chunks.{chunk, chunk_start}
-use Rattle.tensor_kernels.specs.Panels.{AreCells, AreInside, cell_of}
+use Rattle.tensor_kernels.specs.Panels.{AreCells, cell_of}
+use Rattle.tensor_dots.specs.Inside.{AreInside}
 use Rattle.tensor_kernels.proofs.ChunkSums.{length-chunk, slice_index-chunk}
 use Rattle.tensor_kernels.proofs.PanelPlaces.{are_cells-row}
 

@@ -5,7 +5,7 @@ use Rattle.std.proofs.Common.{◌≡◌, ℕ, zero, suc, ℤ, ◌+ℤ◌, ◌-�
 use Rattle.std.proofs.lemmas.Int.{ints}
 use Rattle.tensor_shape.specs.Wrap.{wrap}
 use Rattle.tensor_kernels.specs.Chunks.{before}
-use Rattle.tensor_kernels.specs.Products.{dot}
+use Rattle.tensor_dots.specs.Products.{dot}
 use Rattle.tensor_kernels.specs.private.Strassen.{quadrant_sum}
 use Rattle.tensor_kernels.proofs.Congruence.{same-add, same-sub}
 use Rattle.tensor_kernels.proofs.DotLaws.{dot-add, dot-sub, dot-add_right, dot-sub_right}

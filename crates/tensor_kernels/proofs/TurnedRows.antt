@@ -3,8 +3,8 @@ use Rattle.std.proofs.Common.{◌≡◌, ℕ, ℤ, ◌*ℤ◌, ◌/◌, ◌%◌,
 use Rattle.std.proofs.Math.IntN.{*ℤ_comm}
 use Rattle.std.proofs.Math.Nat.{div-eq_of_lt, mod-eq_of_lt}
 use Rattle.tensor_shape.specs.Wrap.{wrap}
-use Rattle.tensor_kernels.specs.Products.{sum_to, rows_dot}
-use Rattle.tensor_kernels.proofs.ProductSums.{sum_to-ext}
+use Rattle.tensor_dots.specs.Products.{sum_to, rows_dot}
+use Rattle.tensor_dots.proofs.ProductSums.{sum_to-ext}
 
 -- where the first has one row, its products are the same the other way round
 pub rows_dot-turned : (m n w n' : ℕ) (first second : ℕ → ℕ → ℤ) (p : ℕ) → n ≡ n' → m ≡ 1 → p < w

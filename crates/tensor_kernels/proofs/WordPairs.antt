@@ -11,9 +11,9 @@ use Rattle.std.proofs.lemmas.Nat.{shl-shr}
 use Rattle.std.proofs.lemmas.Simd.{get_or_wider, get_or-chunk, Each1-chunk}
 use lib.Lanes.{Each1, number_l, digits_l, chunk}
 use Rattle.tensor_values.specs.Values.{value_in}
-use Rattle.tensor_kernels.specs.Panels.{AreSmall}
-use Rattle.tensor_kernels.proofs.HalfWords.{each-below, number-below, number-digits}
-use Rattle.tensor_kernels.proofs.SimdLanes.{wide}
+use Rattle.tensor_dots.specs.Lanes.{AreSmall}
+use Rattle.tensor_dots.proofs.HalfWords.{each-below, number-below, number-digits}
+use Rattle.tensor_dots.proofs.SimdLanes.{wide}
 
 -- a lane after a shift by half of it to the left, and one back that copies the sign
 abbrev pub low_kept : ℕ → ℤ

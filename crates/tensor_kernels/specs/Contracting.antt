@@ -1,8 +1,8 @@
 -- What a contraction gives that was made ready.
 use Rattle.std.specs.Prelude.{ℕ, ℤ}
-use Rattle.tensor_kernels.specs.Dots.{dots_count, dots_value}
-use Rattle.tensor_kernels.specs.SlidDots.{slid_dots_count, slid_dots_value}
-use Rattle.tensor_kernels.specs.StripDots.{strip_dots_count, strip_dots_value}
+use Rattle.tensor_dots.specs.Dots.{dots_count, dots_value}
+use Rattle.tensor_dots.specs.SlidDots.{slid_dots_count, slid_dots_value}
+use Rattle.tensor_dots.specs.StripDots.{strip_dots_count, strip_dots_value}
 use Rattle.tensor_kernels.specs.Tiling.{tiled_count, tiled_value}
 use Rattle.tensor_kernels.specs.declared.contraction.Contraction.{Contraction}
 use Rattle.tensor_kernels.specs.declared.contraction.Contraction.TheVariants.{InTiles, InDots, InStrips}

@@ -1,12 +1,9 @@
+pub use Rattle.tensor_dots.specs.Products
+pub use Rattle.tensor_dots.specs.Rows
+pub use Rattle.tensor_dots.specs.SlidRuns
+pub use Rattle.tensor_dots.specs.Strips
 pub mod Chunks
 pub mod Contracting
-pub mod Dots
 pub mod Panels
-pub mod Products
-pub mod Rows
-pub mod SlidDots
-pub mod SlidRuns
-pub mod StripDots
-pub mod Strips
 pub mod Tiling
 pub mod private

@@ -1,9 +1,9 @@
 -- Contractions tile by tile.
 use Rattle.std.specs.Prelude.{ℕ, ℤ, ◌+◌, ◌-◌, ◌*◌, ◌/◌, ◌%◌, ◌*ℤ◌, length, min}
 use Rattle.tensor_kernels.specs.Chunks.{chunk, chunk_start}
-use Rattle.tensor_kernels.specs.Products.{sum_to}
-use Rattle.tensor_kernels.specs.Rows.{row_count, row_length, row_value, dot_at}
-use Rattle.tensor_kernels.specs.declared.rows.Rows.{Rows}
+use Rattle.tensor_dots.specs.Products.{sum_to}
+use Rattle.tensor_dots.specs.Rows.{row_count, row_length, row_value, dot_at}
+use Rattle.tensor_dots.specs.declared.rows.Rows.{Rows}
 use Rattle.tensor_kernels.specs.declared.tiling.Tiled.{Tiled}
 
 -- how many values the result has

@@ -1,6 +1,5 @@
 -- What private clauses and proofs of this crate cite, and no other crate.
 pub mod Cells
-pub mod Halves
 pub mod PackedChunks
 pub mod PairedBands
 pub mod Pairs

@@ -3,19 +3,14 @@
 ghost use Rattle.std.specs.Prelude.{◌≡◌, ◌<◌, ◌≤◌, ◌+◌, ◌*◌, ◌-◌, ℕ, length, map, IfOk, OnOk};
 ghost use Rattle.std.specs.List.{range_with_len};
 ghost use Rattle.tensor_values.specs.Values.{value_in};
-ghost use Rattle.tensor_kernels.specs.Products.{rows_dot};
-ghost use Rattle.tensor_kernels.specs.Rows.{row_count, row_length, row_value, dot_at};
-ghost use Rattle.tensor_kernels.specs.SlidRuns.{slid_count, slid_length, slid_value};
-ghost use Rattle.tensor_kernels.specs.Strips.{strip_count, strip_length, strip_value};
+ghost use Rattle.tensor_dots.specs.Products.{rows_dot};
+ghost use Rattle.tensor_dots.specs.Rows.{row_count, row_length, row_value, dot_at};
+ghost use Rattle.tensor_dots.specs.SlidRuns.{slid_count, slid_length, slid_value};
+ghost use Rattle.tensor_dots.specs.Strips.{strip_count, strip_length, strip_value};
 
-use crate::dots::Dots;
-use crate::dots::slid_dots::SlidDots;
-use crate::dots::strip_dots::StripDots;
-use crate::rows::Rows;
-use crate::rows::slid_runs::SlidRuns;
-use crate::rows::strips::Strips;
 use crate::tiling::Tiled;
 use std::alloc::{AllocError, Allocator, Global};
+use tensor_dots::{Dots, Rows, SlidDots, SlidRuns, StripDots, Strips};
 
 /// From so many rows of the second operand on tiles are used, whose packing takes longer than so few
 /// sums.

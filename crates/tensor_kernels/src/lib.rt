@@ -1,15 +1,17 @@
-//! Sums of products of rows of wrapping 64-bit integers: contractions and convolutions of lists
-//! whose rows are told by places, with no dims and no expressions.
+//! Contractions and convolutions of lists of wrapping 64-bit integers whose rows are told by places,
+//! with no dims and no expressions. One is made ready once, and then asked for ranges of its values:
+//!
+//! ```text
+//! rows, strips, or runs under a kernel (tensor_dots)
+//!  │ Contraction     few rows: row by row (tensor_dots); many rows: tiles
+//!  │ values, fill    by who wants these places: bands of columns packed in panels, and tile by tile
+//! values of a range
+//! ```
 #![tactic(auto)]
 
 mod contraction;
-mod dots;
 mod panels;
-mod rows;
 mod tiling;
 
 pub use contraction::Contraction;
-pub use dots::strip_dots::sum_with_products;
-pub use rows::Rows;
-pub use rows::slid_runs::SlidRuns;
-pub use rows::strips::Strips;
+pub use tensor_dots::{Rows, SlidRuns, Strips, sum_with_products};

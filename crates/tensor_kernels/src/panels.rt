@@ -6,14 +6,14 @@ pub(crate) mod height;
 pub(crate) mod packing;
 pub(crate) mod pair_sums;
 
-ghost use Rattle.std.specs.Prelude.{◌↔◌, ◌<◌, ◌≤◌, length, IfOk, IsTrue};
+ghost use Rattle.std.specs.Prelude.{◌<◌, ◌≤◌, length, IfOk, IsTrue};
 ghost use Rattle.std.specs.Int.{div_ceil};
-ghost use Rattle.tensor_kernels.specs.Panels.{AreSmall};
+ghost use Rattle.tensor_dots.specs.Lanes.{AreSmall};
 
 use crate::panels::packing::packed;
 use crate::panels::pair_sums::pair_sums;
-use crate::rows::part::RowsPart;
 use std::alloc::{AllocError, Global};
+use tensor_dots::RowsPart;
 
 /// Rows in panels of one height, and beside them what products two by two take off: of each row the
 /// sum of the products of its own pairs, or none where numbers fit 32 bits.
@@ -51,16 +51,4 @@ impl Panels {
         };
         Ok(Panels { cells, sums })
     }
-}
-
-/// Whether all values fit 32 bits.
-pub(crate) fn are_small(values: &[i64]) -> bool
-    ensures { IsTrue result ↔ AreSmall values.now }
-{
-    for value in values {
-        if *value < -2147483648 || *value > 2147483647 {
-            return false;
-        }
-    }
-    true
 }

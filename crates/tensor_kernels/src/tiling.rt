@@ -1,7 +1,6 @@
 //! Ranges of a contraction's values, tile by tile. A tile holds a panel's rows, sixteen or four, of
 //! one column of the result, whose places lie side by side; a band has up to 32, 128 or 512 columns.
 
-pub(crate) mod halves;
 pub(crate) mod packed_chunk;
 pub(crate) mod pairs;
 pub(crate) mod placing;
@@ -14,17 +13,17 @@ ghost use Rattle.std.specs.Prelude.{IfOk, IsTrue, OnOk};
 ghost use Rattle.std.specs.Cow.{cow_slice_items};
 ghost use Rattle.tensor_values.specs.Values.{value_in};
 ghost use Rattle.tensor_kernels.specs.private.Cells.{AreChunks, AreChunks-prop, IsChunk};
-ghost use Rattle.tensor_kernels.specs.Panels.{AreSmall};
-ghost use Rattle.tensor_kernels.specs.Rows.{row_count, row_length, dot_at};
+ghost use Rattle.tensor_dots.specs.Lanes.{AreSmall};
+ghost use Rattle.tensor_dots.specs.Rows.{row_count, row_length, dot_at};
 
+use crate::panels::Panels;
 use crate::panels::chunks::{chunk_count, chunk_of};
 use crate::panels::height::Height;
-use crate::panels::{Panels, are_small};
-use crate::rows::Rows;
-use crate::rows::part::RowsPart;
 use crate::tiling::packed_chunk::PackedChunk;
 use crate::tiling::strassen::{groups_of, pairs_of};
 use std::alloc::{AllocError, Global};
+use tensor_dots::lanes::small::are_small;
+use tensor_dots::{Rows, RowsPart};
 
 /// How many columns are packed together: so many that a panel of the first operand's rows is used
 /// again and again while it is near, and so few that they stay beside it.

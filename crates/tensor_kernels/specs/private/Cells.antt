@@ -7,12 +7,13 @@ use Rattle.std.specs.Int.{div_ceil}
 use mir.ValLaws.{SFits-prop}
 use Rattle.tensor_kernels.specs.Chunks.{chunk}
 use Rattle.tensor_kernels.specs.private.Pairs.{ArePairSums}
-use Rattle.tensor_kernels.specs.Panels.{AreCells, AreSmall}
-use Rattle.tensor_kernels.specs.Rows.{row_count}
+use Rattle.tensor_kernels.specs.Panels.{AreCells}
+use Rattle.tensor_dots.specs.Lanes.{AreSmall}
+use Rattle.tensor_dots.specs.Rows.{row_count}
 use Rattle.tensor_kernels.specs.declared.panels.Panels.{Panels}
 use Rattle.tensor_kernels.specs.declared.panels.height.Height.{Height}
 use Rattle.tensor_kernels.specs.declared.panels.height.Height.TheVariants.{Sixteen, Four}
-use Rattle.tensor_kernels.specs.declared.rows.Rows.{Rows}
+use Rattle.tensor_dots.specs.declared.rows.Rows.{Rows}
 use Rattle.tensor_kernels.specs.declared.tiling.Packing.{Packing}
 
 -- how many rows a panel has

@@ -6,7 +6,7 @@ use Rattle.tensor_shape.specs.Wrap.{wrap}
 use Rattle.tensor_kernels.specs.private.Cells.{height_of, AreReady}
 use Rattle.tensor_kernels.specs.Chunks.{before}
 use Rattle.tensor_kernels.specs.Panels.{cell_of}
-use Rattle.tensor_kernels.specs.Products.{dot}
+use Rattle.tensor_dots.specs.Products.{dot}
 use Rattle.tensor_kernels.specs.declared.tiling.packed_chunk.PackedChunk.{PackedChunk}
 
 -- the sum of its products for a row and a column

@@ -5,7 +5,7 @@ use Rattle.std.specs.Int.{div_ceil}
 use Rattle.tensor_shape.specs.Wrap.{wrap}
 use Rattle.tensor_kernels.specs.Chunks.{before}
 use Rattle.tensor_kernels.specs.Panels.{cell_of}
-use Rattle.tensor_kernels.specs.Rows.{row_count, row_value}
+use Rattle.tensor_dots.specs.Rows.{row_count, row_value}
 use Rattle.tensor_kernels.specs.private.Strassen.{AreSecondFactors, sum_at}
 use Rattle.tensor_kernels.specs.Tiling.{gathered_total, group_pairs, group_total}
 use Rattle.tensor_kernels.specs.declared.tiling.Tiled.{Tiled}

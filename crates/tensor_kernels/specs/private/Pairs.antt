@@ -5,7 +5,7 @@ use Rattle.std.specs.Prelude.{◌≡◌, ℕ, ℤ, pos, ◌+ℤ◌, ◌-ℤ◌, 
 use Rattle.tensor_shape.specs.Wrap.{wrap}
 use Rattle.tensor_values.specs.Values.{value_in}
 use Rattle.tensor_kernels.specs.Panels.{cell_of}
-use Rattle.tensor_kernels.specs.Products.{sum_to}
+use Rattle.tensor_dots.specs.Products.{sum_to}
 
 -- the sum of the products of the first n pairs of a row's values
 abbrev pub own_pairs : (ℕ → ℤ) → ℕ → ℤ

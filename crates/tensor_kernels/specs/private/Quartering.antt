@@ -2,7 +2,7 @@
 use Rattle.std.specs.Prelude.{◌≡◌, ℕ, ℤ, ◌+◌, ◌*◌, ◌<◌, List, length, slice_index}
 use Rattle.tensor_values.specs.Values.{value_in}
 use Rattle.tensor_kernels.specs.Panels.{cell_of}
-use Rattle.tensor_kernels.specs.declared.rows.part.RowsPart.{RowsPart}
+use Rattle.tensor_dots.specs.declared.rows.part.RowsPart.{RowsPart}
 use Rattle.tensor_kernels.specs.declared.tiling.strassen.half.Half.{Half}
 
 -- how many cells a quarter has

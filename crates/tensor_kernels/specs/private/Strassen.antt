@@ -9,7 +9,7 @@ use Rattle.tensor_values.specs.Values.{value_in}
 use Rattle.tensor_kernels.specs.private.Cells.{AreReady}
 use Rattle.tensor_kernels.specs.Chunks.{before}
 use Rattle.tensor_kernels.specs.Panels.{cell_of}
-use Rattle.tensor_kernels.specs.Products.{dot}
+use Rattle.tensor_dots.specs.Products.{dot}
 use Rattle.tensor_kernels.specs.private.Quartering.{half_size}
 use Rattle.tensor_kernels.specs.declared.panels.Panels.{Panels}
 use Rattle.tensor_kernels.specs.declared.tiling.strassen.block.Block.{Block}

@@ -7,9 +7,8 @@ ghost use Rattle.std.specs.Int.{div_ceil};
 ghost use Rattle.tensor_kernels.specs.Panels.{AreCells};
 ghost use Rattle.tensor_values.specs.Values.{value_in};
 
-use crate::rows::part::RowsPart;
-use crate::rows::starts::side_by_side;
 use std::alloc::{AllocError, Global};
+use tensor_dots::{RowsPart, side_by_side};
 
 /// The rows of an operand in panels of a height. Row x has the values at its start, moved by each
 /// of the offsets. In the last panel the last row stands again where there is none.

@@ -3,14 +3,14 @@
 ghost use Rattle.std.specs.Prelude.{◌≡◌, ℕ, ◌*◌, ◌+◌, ◌%◌, ◌<◌, ◌≤◌, ◌^◌, length, IfOk, vec_len};
 ghost use Rattle.tensor_shape.specs.Wrap.{wrap};
 ghost use Rattle.tensor_kernels.specs.private.Pairs.{own_pairs, lane, ArePairSums};
-ghost use Rattle.tensor_kernels.specs.private.Halves.{AreWords, joined};
-ghost use Rattle.tensor_kernels.specs.Panels.{AreLanes};
+ghost use Rattle.tensor_dots.specs.Halves.{AreWords, joined};
+ghost use Rattle.tensor_dots.specs.Lanes.{AreLanes};
 ghost use Rattle.tensor_values.specs.Values.{value_in};
 
-use crate::tiling::halves::{add_products, rows_from, store};
-use crate::tiling::tile::mul_add;
 use std::alloc::{AllocError, Global};
 use std::simd::prelude::*;
+use tensor_dots::lanes::halves::{add_products, rows_from, store};
+use tensor_dots::lanes::mul_add;
 
 /// The sums of the rows of so many panels of a height, whose rows have n values each. Takes a number
 /// for each row.

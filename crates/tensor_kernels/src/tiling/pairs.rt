@@ -7,13 +7,13 @@ ghost use Rattle.std.specs.Prelude.{◌≡◌, ℕ, ◌*◌, ◌+◌, ◌/◌, �
 ghost use Rattle.std.specs.Prelude.{◌*ℤ◌};
 ghost use Rattle.tensor_values.specs.Values.{value_in};
 ghost use Rattle.tensor_shape.specs.Wrap.{wrap};
-ghost use Rattle.tensor_kernels.specs.private.Halves.{AreWords, joined};
+ghost use Rattle.tensor_dots.specs.Halves.{AreWords, joined};
 ghost use Rattle.tensor_kernels.specs.private.Pairs.{lane, own_pairs, without_own};
-ghost use Rattle.tensor_kernels.specs.Panels.{AreLanes};
-ghost use Rattle.tensor_kernels.specs.Products.{dot};
+ghost use Rattle.tensor_dots.specs.Lanes.{AreLanes};
+ghost use Rattle.tensor_dots.specs.Products.{dot};
 
-use crate::tiling::halves::{add_products, rows_from, spread, store};
 use std::simd::prelude::*;
+use tensor_dots::lanes::halves::{add_products, rows_from, spread, store};
 
 /// What begins with a panel: its cells, and the sums of the products of its rows' pairs.
 #[derive(Clone, Copy, Drop)]

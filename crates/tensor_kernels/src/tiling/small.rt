@@ -1,39 +1,15 @@
 //! Sums of products of a panel's rows and a column, of numbers that fit 32 bits: two products an
 //! instruction, or four on a processor of wider vectors.
 
-ghost use Rattle.std.specs.Prelude.{◌≡◌, ℕ, ◌*◌, ◌+◌, ◌/◌, ◌%◌, ◌≤◌, ◌<◌, length, ◌+ℤ◌, ◌*ℤ◌};
+ghost use Rattle.std.specs.Prelude.{◌≡◌, ℕ, ◌*◌, ◌≤◌, ◌<◌, length};
 ghost use Rattle.tensor_shape.specs.Wrap.{wrap};
 ghost use Rattle.tensor_kernels.specs.private.Pairs.{lane};
-ghost use Rattle.tensor_kernels.specs.Panels.{AreLanes, AreSmall};
-ghost use Rattle.tensor_kernels.specs.Products.{dot};
+ghost use Rattle.tensor_dots.specs.Lanes.{AreLanes, AreSmall};
+ghost use Rattle.tensor_dots.specs.Products.{dot};
 ghost use Rattle.tensor_values.specs.Values.{value_in};
 
 use std::simd::prelude::*;
-
-/// One product more for each of four sums.
-#[inline(always)]
-pub(crate) fn add_product(sums: i64x4, x: i64x4, y: i64x4) -> i64x4
-    requires sums { AreLanes sums }
-    requires x { AreLanes x }
-    requires y { AreLanes y }
-    ensures lanes { AreLanes result }
-    ensures each { (r : ℕ) → r < 4
-        → value_in result r ≡ wrap (value_in sums r +ℤ (value_in x r *ℤ value_in y r)) }
-{
-    sums + x * y
-}
-
-/// The four values from place i on. By way of 32 bits, so that their products are of such numbers.
-#[inline(always)]
-pub(crate) fn four_from(a: &[i64], i: usize) -> i64x4
-    requires small { AreSmall a.now }
-    requires inside { i + 4 ≤ length a.now }
-    ensures lanes { AreLanes result }
-    ensures each { (r : ℕ) → r < 4 → value_in result r ≡ value_in a.now (i + r) }
-{
-    let four = i64x4::from_array([a[i], a[i + 1], a[i + 2], a[i + 3]]);
-    four.cast::<i32>().cast::<i64>()
-}
+use tensor_dots::lanes::small::{add_product, four_from, store};
 
 /// The values at the even places of eight. A product of numbers of 32 bits reads the low half of
 /// each lane alone, so this takes no instruction.
@@ -105,18 +81,4 @@ pub(crate) fn small_four(a: &[i64], b: &[i64], n: usize) -> [i64; 16]
     let mut sums = [0i64; 16];
     store(&mut sums, 0, lanes);
     sums
-}
-
-/// Stores four rows of a tile, from row 4 j on. The rows before them stay.
-#[inline(always)]
-pub(crate) fn store(sums: &mut [i64; 16], j: usize, lanes: i64x4)
-    requires four { j < 4 }
-    requires lanes { AreLanes lanes }
-    ensures stored { (r : ℕ) → r < 4 → value_in sums.new (4 * j + r) ≡ value_in lanes r }
-    ensures kept { (s : ℕ) → s < 4 * j → value_in sums.new s ≡ value_in sums.old s }
-{
-    let values = lanes.to_array();
-    for r in 0..4 {
-        sums[4 * j + r] = values[r];
-    }
 }

@@ -20,10 +20,9 @@ pub(crate) mod quarters;
 ghost use Rattle.std.specs.Prelude.{◌≡◌, ℕ, ◌*◌, ◌+◌, ◌+ℤ◌, ◌%◌, ◌<◌, ◌≤◌, length};
 ghost use Rattle.std.specs.Prelude.{IfOk, OnOk};
 ghost use Rattle.std.specs.Int.{div_ceil};
-ghost use Rattle.tensor_kernels.specs.Rows.{row_count, row_length};
+ghost use Rattle.tensor_dots.specs.Rows.{row_count, row_length};
 ghost use Rattle.tensor_values.specs.Values.{value_in};
 
-use crate::rows::part::RowsPart;
 use crate::tiling::Tiled;
 use crate::tiling::strassen::block::Block;
 use crate::tiling::strassen::factors::Factors;
@@ -31,6 +30,7 @@ use crate::tiling::strassen::half::Half;
 use crate::tiling::strassen::products::Products;
 use crate::tiling::strassen::quarters::Quarters;
 use std::alloc::{AllocError, Global};
+use tensor_dots::RowsPart;
 
 /// From so many rows on seven products of halves take less time than eight do: with fewer, the sums
 /// and differences of a band's columns take as long as the product that they spare.

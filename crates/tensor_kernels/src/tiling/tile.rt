@@ -1,25 +1,17 @@
 //! Sums of products of a panel's rows and one column.
 
-ghost use Rattle.std.specs.Prelude.{◌≡◌, ℕ, ◌*◌, ◌+◌, ◌/◌, ◌≤◌, ◌<◌, length, ◌+ℤ◌, ◌*ℤ◌};
+ghost use Rattle.std.specs.Prelude.{◌≡◌, ℕ, ◌*◌, ◌+◌, ◌/◌, ◌≤◌, ◌<◌, length};
 ghost use Rattle.tensor_shape.specs.Wrap.{wrap};
 ghost use Rattle.tensor_kernels.specs.private.Cells.{height_of};
 ghost use Rattle.tensor_kernels.specs.private.Pairs.{own_pairs, lane};
-ghost use Rattle.tensor_kernels.specs.Panels.{AreSmall};
-ghost use Rattle.tensor_kernels.specs.Products.{dot};
+ghost use Rattle.tensor_dots.specs.Lanes.{AreSmall};
+ghost use Rattle.tensor_dots.specs.Products.{dot};
 ghost use Rattle.tensor_values.specs.Values.{value_in};
 
 use crate::panels::height::Height;
 use crate::tiling::pairs::{Panel, pairs_of_four, pairs_of_sixteen};
 use crate::tiling::small::{small_four, small_sixteen};
-
-/// A sum and one product more, modulo 2^64.
-#[inline(always)]
-pub(crate) fn mul_add(sum: i64, x: i64, y: i64) -> i64
-    ensures { result ≡ wrap (sum +ℤ (x *ℤ y)) }
-{
-    let product = x.wrapping_mul(y);
-    sum.wrapping_add(product)
-}
+use tensor_dots::lanes::mul_add;
 
 /// The sums of the n products of each row of a panel and a column, of numbers of 32 bits.
 pub(crate) fn small_tile(height: Height, a: &[i64], b: &[i64], n: usize) -> [i64; 16]

@@ -1,6 +1,6 @@
 use Rattle.std.proofs.Common.{sym, ◌∙◌, arith}
 use Rattle.tensor_kernels.specs.private.Cells.{IsChunk}
-use Rattle.tensor_kernels.proofs.Parts.{each-next}
+use Rattle.tensor_dots.proofs.Parts.{each-next}
 use Rattle.tensor_kernels.proofs.tiling.panels_of.Goals as goal
 
 pub loop-c-preserved : goal.loop-c-preserved

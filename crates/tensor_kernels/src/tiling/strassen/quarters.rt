@@ -7,9 +7,9 @@ ghost use Rattle.tensor_kernels.specs.private.Quartering.{half_size, HasChunk};
 
 use crate::panels::chunks::chunk_of;
 use crate::panels::packing::{packed, padded};
-use crate::rows::part::RowsPart;
 use crate::tiling::strassen::half::Half;
 use std::alloc::{AllocError, Global};
+use tensor_dots::RowsPart;
 
 /// Which quarter: of the first half of the rows or of the second, in the earlier chunk or the later.
 #[derive(Clone, Copy, Drop)]

@@ -1,5 +1,5 @@
 use Rattle.std.proofs.Common.{◌≡◌, ◌*◌, ◌∙◌, arith}
-use Rattle.tensor_kernels.specs.Rows.{row_count, row_length, row_value}
+use Rattle.tensor_dots.specs.Rows.{row_count, row_length, row_value}
 use Rattle.tensor_kernels.proofs.TurnedRows.{rows_dot-turned}
 use Rattle.tensor_kernels.proofs.contraction.Contraction.of_rows.Goals as goal
 

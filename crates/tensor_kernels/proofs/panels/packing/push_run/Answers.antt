@@ -2,7 +2,7 @@ use Rattle.std.proofs.Common.{◌≡◌, ℕ, ◌+◌, ◌-◌, ◌<◌, ◌≤�
 use Rattle.std.proofs.Common.{slice_index, refl, ap, sym, ◌∙◌, arith}
 use Rattle.std.proofs.lemmas.List.{ext_get_or, get_or-map, length-map}
 use Rattle.tensor_values.specs.Values.{value_in}
-use Rattle.tensor_kernels.proofs.Parts.{get_or-part, length-part}
+use Rattle.tensor_dots.proofs.Parts.{get_or-part, length-part}
 use Rattle.tensor_kernels.proofs.panels.packing.push_run.Goals as goal
 
 -- a run of values is what is at places side by side

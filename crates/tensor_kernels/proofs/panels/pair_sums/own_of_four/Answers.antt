@@ -4,8 +4,8 @@ use Rattle.std.specs.Int.{w64}
 use Rattle.tensor_shape.specs.Wrap.{wrap}
 use Rattle.tensor_values.specs.Values.{value_in}
 use Rattle.tensor_kernels.specs.private.Pairs.{own_pairs, lane}
-use Rattle.tensor_kernels.proofs.LaneSums.{next_joined, same-factors}
-use Rattle.tensor_kernels.proofs.SimdLanes.{lanes-bits}
+use Rattle.tensor_dots.proofs.LaneSums.{next_joined, same-factors}
+use Rattle.tensor_dots.proofs.SimdLanes.{lanes-bits}
 use Rattle.tensor_kernels.proofs.panels.pair_sums.own_of_four.Goals as goal
 
 pub add_products-requires-clause-x : goal.add_products-requires-clause-x

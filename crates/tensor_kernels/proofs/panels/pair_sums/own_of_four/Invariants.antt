@@ -2,9 +2,9 @@
 use Rattle.std.proofs.Common.{◌≡◌, ℕ, ◌+◌, ◌<◌, map, to_z}
 use Rattle.std.specs.Int.{w64}
 use Rattle.tensor_shape.specs.Wrap.{wrap}
-use Rattle.tensor_kernels.specs.private.Halves.{AreWords, joined}
+use Rattle.tensor_dots.specs.Halves.{AreWords, joined}
 use Rattle.tensor_kernels.specs.private.Pairs.{own_pairs, lane}
-use Rattle.tensor_kernels.specs.Panels.{AreLanes}
+use Rattle.tensor_dots.specs.Lanes.{AreLanes}
 use Rattle.tensor_kernels.proofs.panels.pair_sums.own_of_four.Given as goal
 
 abbrev pub invariant-loop-k : goal.invariant-loop-k

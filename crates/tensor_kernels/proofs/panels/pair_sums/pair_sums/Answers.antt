@@ -5,7 +5,7 @@ use Rattle.tensor_shape.specs.Wrap.{wrap}
 use Rattle.tensor_values.specs.Values.{value_in}
 use Rattle.tensor_kernels.specs.private.Pairs.{own_pairs, ArePairSums}
 use Rattle.tensor_kernels.specs.Panels.{cell_of}
-use Rattle.tensor_kernels.proofs.ListWrites.{stored}
+use Rattle.tensor_dots.proofs.ListWrites.{stored}
 use Rattle.tensor_kernels.proofs.PanelPlaces.{panel_place-inside, row-place, pairs-row}
 use Rattle.tensor_kernels.proofs.panels.pair_sums.pair_sums.Goals as goal
 

@@ -2,8 +2,8 @@ use Rattle.std.proofs.Common.{◌≡◌, ◌+◌, ◌*◌, ◌+ℤ◌, ◌*ℤ�
 use Rattle.std.proofs.lemmas.Int.{to_z-of_z}
 use Rattle.tensor_shape.specs.Wrap.{wrap}
 use Rattle.tensor_kernels.specs.private.Pairs.{lane}
-use Rattle.tensor_kernels.proofs.ListWrites.{stored}
-use Rattle.tensor_kernels.proofs.ProductSums.{wrap-next}
+use Rattle.tensor_dots.proofs.ListWrites.{stored}
+use Rattle.tensor_dots.proofs.ProductSums.{wrap-next}
 use Rattle.tensor_kernels.proofs.panels.pair_sums.sum_of_pairs.Goals as goal
 
 pub loop-k-preserved : goal.loop-k-preserved

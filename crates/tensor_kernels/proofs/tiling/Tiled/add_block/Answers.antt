@@ -7,7 +7,7 @@ use Rattle.tensor_kernels.specs.Tiling.{gathered_total, group_total}
 use Rattle.tensor_values.specs.Values.{value_in}
 use Rattle.tensor_kernels.proofs.ChunkSums.{before-later}
 use Rattle.tensor_kernels.proofs.Congruence.{same-add}
-use Rattle.tensor_kernels.proofs.Parts.{line-place}
+use Rattle.tensor_dots.proofs.Parts.{line-place}
 use Rattle.tensor_kernels.proofs.tiling.Tiled.add_block.Goals as goal
 
 pub returns-clause-each : goal.returns-clause-each

@@ -9,8 +9,8 @@ use Rattle.tensor_shape.specs.Wrap.{wrap}
 use Rattle.tensor_kernels.specs.Chunks.{before}
 use Rattle.tensor_kernels.specs.private.PairedBands.{IsOfColumns, HasColumns}
 use Rattle.tensor_kernels.specs.Panels.{cell_of}
-use Rattle.tensor_kernels.specs.Products.{sum_to}
-use Rattle.tensor_kernels.specs.Rows.{row_count, row_value}
+use Rattle.tensor_dots.specs.Products.{sum_to}
+use Rattle.tensor_dots.specs.Rows.{row_count, row_value}
 use Rattle.tensor_kernels.specs.private.Strassen.{AreFirstFactors, AreAdded, product_sum, quadrant_value, sum_at}
 use Rattle.tensor_kernels.specs.Tiling.{product_at, pair_total, gathered_total}
 use Rattle.tensor_values.specs.Values.{value_in}
@@ -21,7 +21,7 @@ use Rattle.tensor_kernels.specs.declared.tiling.strassen.quarters.Quarters.{Quar
 use Rattle.tensor_kernels.proofs.ChunkSums.{before-later}
 use Rattle.tensor_kernels.proofs.Congruence.{same-add, wrap-wrap}
 use Rattle.tensor_kernels.proofs.PairTotals.{pair-split}
-use Rattle.tensor_kernels.proofs.ProductSums.{sum_to-ext, sum_to-append}
+use Rattle.tensor_dots.proofs.ProductSums.{sum_to-ext, sum_to-append}
 use Rattle.tensor_kernels.proofs.Quadrants.{factors_quadrant, quadrant-total}
 use Rattle.tensor_kernels.proofs.Strassen.{before-quadrant, quadrant-add}
 use Rattle.tensor_kernels.proofs.tiling.Tiled.add_products.Goals as goal

@@ -2,11 +2,11 @@ use Rattle.std.proofs.Common.{◌≡◌, ℕ, ◌+◌, ◌*◌, ◌-◌, ◌<◌
 use Rattle.std.proofs.Common.{slice_index, ap, ◌∙◌, arith}
 use Rattle.std.specs.Cow.{cow_slice_items}
 use Rattle.tensor_kernels.specs.Panels.{cell_of}
-use Rattle.tensor_kernels.specs.Rows.{row_count, row_value}
+use Rattle.tensor_dots.specs.Rows.{row_count, row_value}
 use Rattle.tensor_values.specs.Values.{value_in}
 use Rattle.tensor_kernels.specs.declared.tiling.Tiled.{Tiled}
 use Rattle.tensor_kernels.proofs.Columns.{length-columns}
-use Rattle.tensor_kernels.proofs.Parts.{get_or-part}
+use Rattle.tensor_dots.proofs.Parts.{get_or-part}
 use Rattle.tensor_kernels.proofs.tiling.Tiled.factors_at.Goals as goal
 
 -- a column of the band's cells is one of the operand's

@@ -1,6 +1,6 @@
 use Rattle.std.proofs.Common.{◌+◌, sym, ◌∙◌, arith}
 use Rattle.tensor_kernels.specs.private.PairedBands.{IsOfColumns}
-use Rattle.tensor_kernels.proofs.Parts.{each-next}
+use Rattle.tensor_dots.proofs.Parts.{each-next}
 use Rattle.tensor_kernels.proofs.tiling.Tiled.factors_of.Goals as goal
 
 pub loop-i-preserved : goal.loop-i-preserved

@@ -1,7 +1,7 @@
 use Rattle.std.proofs.Common.{◌+◌, ◌≤◌, length, sym, subst, ◌∙◌}
 use Rattle.std.proofs.Common.{le_trans, le-add_right}
 use Rattle.tensor_kernels.specs.Tiling.{tiled_value}
-use Rattle.tensor_kernels.proofs.Parts.{length-written, get_or-written, places-below}
+use Rattle.tensor_dots.proofs.Parts.{length-written, get_or-written, places-below}
 use Rattle.tensor_kernels.proofs.tiling.Tiled.fill.Goals as goal
 
 pub loop-place-preserved : goal.loop-place-preserved

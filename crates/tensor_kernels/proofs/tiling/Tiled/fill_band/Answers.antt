@@ -2,8 +2,8 @@ use Rattle.std.proofs.Common.{◌≡◌, ◌+◌, ◌*◌, ◌<◌, length, refl
 use Rattle.tensor_shape.specs.Wrap.{wrap}
 use Rattle.tensor_kernels.specs.Chunks.{before, chunk, chunk_start}
 use Rattle.tensor_values.specs.Values.{value_in}
-use Rattle.tensor_kernels.specs.Products.{sum_to}
-use Rattle.tensor_kernels.specs.Rows.{row_length}
+use Rattle.tensor_dots.specs.Products.{sum_to}
+use Rattle.tensor_dots.specs.Rows.{row_length}
 use Rattle.tensor_kernels.specs.Tiling.{product_at, chunk_total}
 use Rattle.tensor_kernels.proofs.ChunkSums.{wrap-chunk, before-later, before-twice, length-chunk}
 use Rattle.tensor_kernels.proofs.tiling.Tiled.fill_band.Goals as goal

@@ -3,8 +3,8 @@ use Rattle.std.proofs.Common.{◌≡◌, ℕ, ◌+◌, ◌<◌, length}
 use Rattle.tensor_shape.specs.Wrap.{wrap}
 use Rattle.tensor_kernels.specs.Chunks.{before, chunk_start}
 use Rattle.tensor_values.specs.Values.{value_in}
-use Rattle.tensor_kernels.specs.Products.{sum_to}
-use Rattle.tensor_kernels.specs.Rows.{row_length}
+use Rattle.tensor_dots.specs.Products.{sum_to}
+use Rattle.tensor_dots.specs.Rows.{row_length}
 use Rattle.tensor_kernels.specs.Tiling.{product_at}
 use Rattle.tensor_kernels.proofs.tiling.Tiled.fill_band.Given as goal
 

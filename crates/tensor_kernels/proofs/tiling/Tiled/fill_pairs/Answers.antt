@@ -4,7 +4,7 @@ use Rattle.std.specs.Int.{div_ceil}
 use Rattle.tensor_shape.specs.Wrap.{wrap}
 use Rattle.tensor_kernels.specs.Chunks.{before}
 use Rattle.tensor_values.specs.Values.{value_in}
-use Rattle.tensor_kernels.specs.Products.{sum_to}
+use Rattle.tensor_dots.specs.Products.{sum_to}
 use Rattle.tensor_kernels.specs.Tiling.{product_at, group_pairs, group_total}
 use Rattle.tensor_kernels.proofs.ChunkSums.{wrap-chunk, before-later}
 use Rattle.tensor_kernels.proofs.tiling.Tiled.fill_pairs.Goals as goal

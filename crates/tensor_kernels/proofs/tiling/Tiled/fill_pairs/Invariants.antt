@@ -3,7 +3,7 @@ use Rattle.std.proofs.Common.{◌≡◌, ℕ, ◌+◌, ◌*◌, ◌<◌, length,
 use Rattle.tensor_shape.specs.Wrap.{wrap}
 use Rattle.tensor_kernels.specs.Chunks.{before}
 use Rattle.tensor_values.specs.Values.{value_in}
-use Rattle.tensor_kernels.specs.Products.{sum_to}
+use Rattle.tensor_dots.specs.Products.{sum_to}
 use Rattle.tensor_kernels.specs.Tiling.{product_at}
 use Rattle.tensor_kernels.proofs.tiling.Tiled.fill_pairs.Given as goal
 

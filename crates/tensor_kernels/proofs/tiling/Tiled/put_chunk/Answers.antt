@@ -7,17 +7,18 @@ use Rattle.std.specs.Cow.{cow_slice_items}
 use Rattle.tensor_kernels.specs.private.Cells.{height_of, AreReady, HoldsRows}
 use Rattle.tensor_kernels.specs.Chunks.{before, chunk, chunk_start}
 use Rattle.tensor_shape.specs.Wrap.{wrap}
-use Rattle.tensor_kernels.specs.Panels.{AreInside, cell_of}
+use Rattle.tensor_dots.specs.Inside.{AreInside}
+use Rattle.tensor_kernels.specs.Panels.{cell_of}
 use Rattle.tensor_values.specs.Values.{value_in}
-use Rattle.tensor_kernels.specs.Products.{dot, sum_to}
-use Rattle.tensor_kernels.specs.Rows.{row_count, row_length, row_value}
+use Rattle.tensor_dots.specs.Products.{dot, sum_to}
+use Rattle.tensor_dots.specs.Rows.{row_count, row_length, row_value}
 use Rattle.tensor_kernels.specs.Tiling.{product_at, chunk_total}
-use Rattle.tensor_kernels.specs.declared.rows.Rows.{Rows}
+use Rattle.tensor_dots.specs.declared.rows.Rows.{Rows}
 use Rattle.tensor_kernels.proofs.ChunkSums.{length-chunk}
 use Rattle.tensor_kernels.proofs.ChunkSums.{are_inside-chunk, are_inside-part, dot-chunk}
 use Rattle.tensor_kernels.proofs.Columns.{length-columns, columns-few, place-columns}
 use Rattle.tensor_kernels.proofs.Heights.{height-some}
-use Rattle.tensor_kernels.proofs.Parts.{get_or-part, line-place}
+use Rattle.tensor_dots.proofs.Parts.{get_or-part, line-place}
 use Rattle.tensor_kernels.proofs.TilePlaces.{part-of}
 use Rattle.tensor_kernels.proofs.tiling.Tiled.put_chunk.Goals as goal
 

@@ -2,9 +2,9 @@ use Rattle.std.proofs.Common.{◌≡◌, ◌+◌, ◌+ℤ◌, ◌*ℤ◌, map, t
 use Rattle.std.specs.Int.{w64}
 use Rattle.tensor_values.specs.Values.{value_in}
 use Rattle.tensor_shape.specs.Wrap.{wrap}
-use Rattle.tensor_kernels.specs.private.Halves.{joined}
-use Rattle.tensor_kernels.proofs.SimdLanes.{lanes-bits, value_in-lanes}
-use Rattle.tensor_kernels.proofs.HalfLanes.{joined-bits}
+use Rattle.tensor_dots.specs.Halves.{joined}
+use Rattle.tensor_dots.proofs.SimdLanes.{lanes-bits, value_in-lanes}
+use Rattle.tensor_dots.proofs.HalfLanes.{joined-bits}
 use Rattle.tensor_kernels.proofs.PairLanes.{wrap-product}
 use Rattle.tensor_kernels.proofs.tiling.pairs.add_pair.Goals as goal
 

@@ -1,8 +1,8 @@
 use Rattle.std.proofs.Common.{◌∙◌}
 use Rattle.std.proofs.lemmas.List.{length-map}
 use Rattle.tensor_values.specs.Values.{value_in}
-use Rattle.tensor_kernels.proofs.SimdLanes.{wrapped_fits}
-use Rattle.tensor_kernels.proofs.HalfLanes.{length-bits, length-both}
+use Rattle.tensor_dots.proofs.SimdLanes.{wrapped_fits}
+use Rattle.tensor_dots.proofs.HalfLanes.{length-bits, length-both}
 use Rattle.tensor_kernels.proofs.PairLanes.{at-two, bits-difference}
 use Rattle.tensor_kernels.proofs.tiling.pairs.differences_of.Goals as goal
 

@@ -3,10 +3,10 @@ use Rattle.std.specs.Int.{w64}
 use Rattle.tensor_values.specs.Values.{value_in}
 use Rattle.tensor_shape.specs.Wrap.{wrap}
 use Rattle.tensor_kernels.specs.private.Pairs.{lane, own_pairs, pairs_dot, without_own}
-use Rattle.tensor_kernels.specs.Products.{dot}
+use Rattle.tensor_dots.specs.Products.{dot}
 use Rattle.tensor_kernels.proofs.PairLanes.{next_pair, none_joined, none_words}
 use Rattle.tensor_kernels.proofs.PairProducts.{pairs-split, wrap-rest}
-use Rattle.tensor_kernels.proofs.SimdLanes.{lanes-bits}
+use Rattle.tensor_dots.proofs.SimdLanes.{lanes-bits}
 use Rattle.tensor_kernels.proofs.tiling.pairs.pairs_of_four.Goals as goal
 
 pub add_pair-requires-clause-x : goal.add_pair-requires-clause-x

@@ -4,9 +4,9 @@ use Rattle.std.proofs.Common.{◌≡◌, ℕ, ◌<◌, ◌+ℤ◌, map, to_z}
 use Rattle.std.specs.Int.{w64}
 use Rattle.tensor_values.specs.Values.{value_in}
 use Rattle.tensor_shape.specs.Wrap.{wrap}
-use Rattle.tensor_kernels.specs.private.Halves.{AreWords, joined}
+use Rattle.tensor_dots.specs.Halves.{AreWords, joined}
 use Rattle.tensor_kernels.specs.private.Pairs.{lane, pairs_dot, without_own}
-use Rattle.tensor_kernels.specs.Panels.{AreLanes}
+use Rattle.tensor_dots.specs.Lanes.{AreLanes}
 use Rattle.tensor_kernels.proofs.tiling.pairs.pairs_of_four.Given as goal
 
 abbrev pub invariant-loop-q : goal.invariant-loop-q

@@ -4,7 +4,7 @@ use Rattle.std.proofs.lemmas.Int.{int_wrap-add_left}
 use Rattle.std.specs.Int.{w64}
 use Rattle.tensor_values.specs.Values.{value_in}
 use Rattle.tensor_shape.specs.Wrap.{wrap}
-use Rattle.tensor_kernels.proofs.SimdLanes.{lanes-bits, value_in-lanes}
+use Rattle.tensor_dots.proofs.SimdLanes.{lanes-bits, value_in-lanes}
 use Rattle.tensor_kernels.proofs.tiling.pairs.without_own.Goals as goal
 
 -- four zeros

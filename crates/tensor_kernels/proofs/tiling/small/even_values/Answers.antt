@@ -1,6 +1,6 @@
 use Rattle.std.proofs.Common.{◌*◌, FitsSigned, refl, sym, subst, arith}
 use Rattle.std.specs.Int.{w64}
-use Rattle.tensor_kernels.proofs.SimdLanes.{wide}
+use Rattle.tensor_dots.proofs.SimdLanes.{wide}
 use Rattle.tensor_kernels.proofs.WordPairs.{even-value}
 use Rattle.tensor_kernels.proofs.tiling.small.even_values.Goals as goal
 

@@ -2,8 +2,8 @@ use Rattle.std.proofs.Common.{ℕ, ℤ, ◌*ℤ◌, map, to_z}
 use Rattle.std.specs.Int.{w64}
 use Rattle.tensor_values.specs.Values.{value_in}
 use Rattle.tensor_kernels.specs.private.Pairs.{lane}
-use Rattle.tensor_kernels.proofs.LaneSums.{same-factors, next_lane}
-use Rattle.tensor_kernels.proofs.SimdLanes.{lanes-bits}
+use Rattle.tensor_dots.proofs.LaneSums.{same-factors, next_lane}
+use Rattle.tensor_dots.proofs.SimdLanes.{lanes-bits}
 use Rattle.tensor_kernels.proofs.tiling.small.small_four.Goals as goal
 
 pub add_product-lanes-requires-clause-x : goal.add_product-lanes-requires-clause-x

@@ -3,9 +3,9 @@ use Rattle.std.specs.Int.{w64}
 use Rattle.tensor_values.specs.Values.{value_in}
 use Rattle.tensor_shape.specs.Wrap.{wrap}
 use Rattle.tensor_kernels.specs.private.Pairs.{lane}
-use Rattle.tensor_kernels.specs.Products.{dot}
-use Rattle.tensor_kernels.proofs.LaneSums.{same-factors, next_lane, by_fours_here}
-use Rattle.tensor_kernels.proofs.SimdLanes.{lanes-bits}
+use Rattle.tensor_dots.specs.Products.{dot}
+use Rattle.tensor_dots.proofs.LaneSums.{same-factors, next_lane, by_fours_here}
+use Rattle.tensor_dots.proofs.SimdLanes.{lanes-bits}
 use Rattle.tensor_kernels.proofs.tiling.small.small_sixteen.Goals as goal
 
 -- the place of row k + r

@@ -4,8 +4,8 @@ use Rattle.std.specs.Int.{w64}
 use Rattle.tensor_values.specs.Values.{value_in}
 use Rattle.tensor_shape.specs.Wrap.{wrap}
 use Rattle.tensor_kernels.specs.private.Pairs.{lane}
-use Rattle.tensor_kernels.specs.Panels.{AreLanes}
-use Rattle.tensor_kernels.specs.Products.{dot}
+use Rattle.tensor_dots.specs.Lanes.{AreLanes}
+use Rattle.tensor_dots.specs.Products.{dot}
 use Rattle.tensor_kernels.proofs.tiling.small.small_sixteen.Given as goal
 
 abbrev pub invariant-loop-q : goal.invariant-loop-q

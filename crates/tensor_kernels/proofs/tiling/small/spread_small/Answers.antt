@@ -2,7 +2,7 @@ use Rattle.std.proofs.Common.{to_z, of_z, ap, ◌∙◌}
 use Rattle.std.specs.Int.{w32, w64}
 use Rattle.std.proofs.lemmas.Int.{to_z-of_z}
 use Rattle.tensor_values.specs.Values.{value_in}
-use Rattle.tensor_kernels.proofs.SimdLanes.{wide, lanes-bits, value_in-lanes, value_in-spread}
+use Rattle.tensor_dots.proofs.SimdLanes.{wide, lanes-bits, value_in-lanes, value_in-spread}
 use Rattle.tensor_kernels.proofs.tiling.small.spread_small.Goals as goal
 
 pub returns-clause-lanes : goal.returns-clause-lanes

@@ -4,10 +4,10 @@ use Rattle.tensor_values.specs.Values.{value_in}
 use Rattle.tensor_shape.specs.Wrap.{wrap}
 use Rattle.tensor_kernels.specs.private.Cells.{height_of}
 use Rattle.tensor_kernels.specs.private.Pairs.{lane}
-use Rattle.tensor_kernels.specs.Products.{dot}
+use Rattle.tensor_dots.specs.Products.{dot}
 use Rattle.tensor_kernels.proofs.Heights.{height-low}
-use Rattle.tensor_kernels.proofs.ListWrites.{stored, set-next}
-use Rattle.tensor_kernels.proofs.ProductSums.{wrap-next}
+use Rattle.tensor_dots.proofs.ListWrites.{stored, set-next}
+use Rattle.tensor_dots.proofs.ProductSums.{wrap-next}
 use Rattle.tensor_kernels.proofs.tiling.tile.with_last.Goals as goal
 
 pub loop-t-preserved : goal.loop-t-preserved

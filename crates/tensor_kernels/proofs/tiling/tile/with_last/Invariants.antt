@@ -4,7 +4,7 @@ use Rattle.tensor_values.specs.Values.{value_in}
 use Rattle.tensor_shape.specs.Wrap.{wrap}
 use Rattle.tensor_kernels.specs.private.Cells.{height_of}
 use Rattle.tensor_kernels.specs.private.Pairs.{lane}
-use Rattle.tensor_kernels.specs.Products.{dot}
+use Rattle.tensor_dots.specs.Products.{dot}
 use Rattle.tensor_kernels.proofs.tiling.tile.with_last.Given as goal
 
 abbrev pub invariant-loop-t : goal.invariant-loop-t

@@ -9,11 +9,11 @@ use Rattle.tensor_shape.specs.Wrap.{wrap}
 use Rattle.tensor_kernels.specs.private.Cells.{height_of, AreReady}
 use Rattle.tensor_kernels.specs.private.Pairs.{lane}
 use Rattle.tensor_kernels.specs.Panels.{cell_of, panel_place}
-use Rattle.tensor_kernels.specs.Products.{dot}
+use Rattle.tensor_dots.specs.Products.{dot}
 use Rattle.tensor_values.specs.Values.{value_in}
 use Rattle.tensor_kernels.proofs.Heights.{height-some}
-use Rattle.tensor_kernels.proofs.ListWrites.{value_in-from}
-use Rattle.tensor_kernels.proofs.ProductSums.{sum_to-ext}
+use Rattle.tensor_dots.proofs.ListWrites.{value_in-from}
+use Rattle.tensor_dots.proofs.ProductSums.{sum_to-ext}
 use Rattle.tensor_kernels.proofs.TilePlaces.{part-below}
 use Rattle.tensor_kernels.proofs.tiling.packed_chunk.PackedChunk.tile.Goals as goal
 

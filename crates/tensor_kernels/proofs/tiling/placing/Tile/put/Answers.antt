@@ -12,8 +12,8 @@ use Rattle.tensor_kernels.specs.private.Tiles.{IsPut, start_of, end_of}
 use Rattle.tensor_values.specs.Values.{value_in}
 use Rattle.tensor_kernels.specs.declared.tiling.placing.Tile.{Tile}
 use Rattle.tensor_kernels.proofs.Heights.{height-some}
-use Rattle.tensor_kernels.proofs.ListWrites.{value_in-from}
-use Rattle.tensor_kernels.proofs.Parts.{get_or-before, get_or-within, get_or-after}
+use Rattle.tensor_dots.proofs.ListWrites.{value_in-from}
+use Rattle.tensor_dots.proofs.Parts.{get_or-before, get_or-within, get_or-after}
 use Rattle.tensor_kernels.proofs.TilePlaces.{tile-place, IsInTile, is_in_tile}
 use Rattle.tensor_kernels.proofs.tiling.placing.Tile.put.Goals as goal
 

@@ -2,7 +2,7 @@ use Rattle.std.proofs.Common.{◌≡◌, ◌+◌, ◌+ℤ◌, ◌-ℤ◌, rules,
 use Rattle.std.proofs.lemmas.Int.{wraps}
 use Rattle.tensor_shape.specs.Wrap.{wrap}
 use Rattle.tensor_values.specs.Values.{value_in}
-use Rattle.tensor_kernels.proofs.ListWrites.{stored, set-next}
+use Rattle.tensor_dots.proofs.ListWrites.{stored, set-next}
 use Rattle.tensor_kernels.proofs.tiling.strassen.block.three_less_one.Goals as goal
 
 pub loop-t-preserved : goal.loop-t-preserved

@@ -3,7 +3,7 @@ use Rattle.std.proofs.lemmas.Int.{wraps}
 use Rattle.tensor_shape.specs.Wrap.{wrap}
 use Rattle.tensor_values.specs.Values.{value_in}
 use Rattle.tensor_kernels.proofs.Congruence.{wrap-wrap}
-use Rattle.tensor_kernels.proofs.ListWrites.{stored, push-next}
+use Rattle.tensor_dots.proofs.ListWrites.{stored, push-next}
 use Rattle.tensor_kernels.proofs.tiling.strassen.factors.sum.Goals as goal
 
 pub loop-p-preserved : goal.loop-p-preserved

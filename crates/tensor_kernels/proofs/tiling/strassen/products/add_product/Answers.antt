@@ -9,11 +9,11 @@ use borrow.Rule.Slice.PartMut.{put_mid}
 use Rattle.tensor_shape.specs.Wrap.{wrap}
 use Rattle.tensor_kernels.specs.Chunks.{before}
 use Rattle.tensor_kernels.specs.Panels.{cell_of}
-use Rattle.tensor_kernels.specs.Products.{dot}
+use Rattle.tensor_dots.specs.Products.{dot}
 use Rattle.tensor_kernels.specs.private.Strassen.{product_sum}
 use Rattle.tensor_values.specs.Values.{value_in}
 use Rattle.tensor_kernels.specs.declared.panels.Panels.{Panels}
-use Rattle.tensor_kernels.proofs.Parts.{get_or-before, get_or-within, get_or-after, length-put_mid}
+use Rattle.tensor_dots.proofs.Parts.{get_or-before, get_or-within, get_or-after, length-put_mid}
 use Rattle.tensor_kernels.proofs.tiling.strassen.products.add_product.Goals as goal
 
 -- the sum of a row of one column, where it stands among those of all

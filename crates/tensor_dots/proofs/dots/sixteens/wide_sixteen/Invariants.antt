@@ -1,0 +1,28 @@
+-- The products before q, four rows in each vector.
+use Rattle.std.proofs.Common.{◌≡◌, ℕ, ◌+◌, ◌<◌, map, to_z}
+use Rattle.std.specs.Int.{w64}
+use Rattle.tensor_shape.specs.Wrap.{wrap}
+use Rattle.tensor_dots.specs.Halves.{AreWords, joined}
+use Rattle.tensor_dots.specs.Lanes.{AreLanes}
+use Rattle.tensor_dots.specs.private.RowPairs.{pair_sum}
+use Rattle.tensor_dots.proofs.dots.sixteens.wide_sixteen.Given as goal
+
+abbrev pub invariant-loop-q : goal.invariant-loop-q
+invariant-loop-q l = record {
+  lanes_0 : AreLanes (map (to_z w64) l.l0);
+  lanes_1 : AreLanes (map (to_z w64) l.l1);
+  lanes_2 : AreLanes (map (to_z w64) l.l2);
+  lanes_3 : AreLanes (map (to_z w64) l.l3);
+  words_0 : AreWords l.c0;
+  words_1 : AreWords l.c1;
+  words_2 : AreWords l.c2;
+  words_3 : AreWords l.c3;
+  rows_0 : (r : ℕ) → r < 4 → joined (map (to_z w64) l.l0) l.c0 r
+      ≡ wrap (pair_sum l.pair (l.k + r) l.q);
+  rows_1 : (r : ℕ) → r < 4 → joined (map (to_z w64) l.l1) l.c1 r
+      ≡ wrap (pair_sum l.pair (l.k + 4 + r) l.q);
+  rows_2 : (r : ℕ) → r < 4 → joined (map (to_z w64) l.l2) l.c2 r
+      ≡ wrap (pair_sum l.pair (l.k + 8 + r) l.q);
+  rows_3 : (r : ℕ) → r < 4 → joined (map (to_z w64) l.l3) l.c3 r
+      ≡ wrap (pair_sum l.pair (l.k + 12 + r) l.q);
+}

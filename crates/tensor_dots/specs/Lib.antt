@@ -1,0 +1,11 @@
+pub mod Dots
+pub mod Halves
+pub mod Inside
+pub mod Lanes
+pub mod Products
+pub mod Rows
+pub mod SlidDots
+pub mod SlidRuns
+pub mod StripDots
+pub mod Strips
+pub mod private
