@@ -14,7 +14,7 @@ use tensor_dots::{Dots, Rows, SlidDots, SlidRuns, StripDots, Strips};
 
 /// From so many rows of the second operand on tiles are used, whose packing takes longer than so few
 /// sums.
-const TILE: usize = 4;
+pub const TILED_ROWS: usize = 4;
 
 /// A contraction made ready to be evaluated by ranges of places. It is made once; all who work on
 /// ranges of it share it.
@@ -60,7 +60,7 @@ impl<'a> Contraction<'a> {
         ensures each { IfOk result (λ c. (p : ℕ) → p < contraction_count c
             → contraction_value c p ≡ dot_at first.entry second.entry p) }
     {
-        if second.starts.len() < TILE {
+        if second.starts.len() < TILED_ROWS {
             return Ok(Contraction::InDots(Dots::of(first, second)));
         }
         if first.starts.len() == 1 {

@@ -27,15 +27,15 @@ use tensor_dots::{Rows, RowsPart};
 
 /// How many columns are packed together: so many that a panel of the first operand's rows is used
 /// again and again while it is near, and so few that they stay beside it.
-const BAND: usize = 32;
+pub const BAND_COLUMNS: usize = 32;
 
 /// How many where the first operand is packed for each band anew. A result of at most so many
 /// columns is such a one: to store the panels would take longer than to make them again.
-const WIDE_BAND: usize = 128;
+pub const WIDE_BAND_COLUMNS: usize = 128;
 
 /// How many where chunks are taken two by two: so many that to pack the factors of both operands
 /// costs little beside their products.
-const PAIRED_BAND: usize = 512;
+const PAIRED_BAND_COLUMNS: usize = 512;
 
 /// How the first operand is packed: how high its panels are, and whether all numbers fit 32 bits.
 #[derive(Clone, Copy, Drop)]
@@ -98,7 +98,7 @@ impl<'a> Tiled<'a> {
         } else {
             pairs_of(rows, second.starts.len(), first.offsets.len())
         };
-        let stored = if pairs > 0 || second.starts.len() <= WIDE_BAND {
+        let stored = if pairs > 0 || second.starts.len() <= WIDE_BAND_COLUMNS {
             0
         } else {
             chunks
@@ -141,11 +141,11 @@ impl<'a> Tiled<'a> {
         ensures few { result ≤ 512 }
     {
         if self.pairs > 0 {
-            PAIRED_BAND
+            PAIRED_BAND_COLUMNS
         } else if self.packed.is_empty() {
-            WIDE_BAND
+            WIDE_BAND_COLUMNS
         } else {
-            BAND
+            BAND_COLUMNS
         }
     }
 

@@ -34,11 +34,11 @@ use tensor_dots::RowsPart;
 
 /// From so many rows on seven products of halves take less time than eight do: with fewer, the sums
 /// and differences of a band's columns take as long as the product that they spare.
-const ROWS: usize = 256;
+const PAIRED_ROWS: usize = 256;
 
 /// From so many columns on, of which each range has many: each packs all of the first operand for
 /// itself, where else it is packed once.
-const COLUMNS: usize = 1024;
+pub const PAIRED_COLUMNS: usize = 1024;
 
 /// How many products two chunks have.
 const PAIR: usize = 256;
@@ -52,7 +52,7 @@ const GROUP: usize = 2;
 pub(crate) fn pairs_of(rows: usize, columns: usize, products: usize) -> usize
     ensures { result * 256 ≤ products }
 {
-    if rows < ROWS || columns < COLUMNS {
+    if rows < PAIRED_ROWS || columns < PAIRED_COLUMNS {
         0
     } else {
         products / PAIR
