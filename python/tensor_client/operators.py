@@ -2,7 +2,7 @@
 
 from __future__ import annotations
 
-from typing import TYPE_CHECKING, Any, Callable, NoReturn, Optional, Sequence
+from typing import TYPE_CHECKING, Any, Callable, NoReturn, Optional, Sequence, Tuple
 
 from .rules import Dims
 from .values import is_bool, is_several, whole
@@ -45,6 +45,14 @@ class Operators:
         or_: Callable[[Any], Expr]
         cwise_max: Callable[[Any], Expr]
         cwise_min: Callable[[Any], Expr]
+        floor_divide: Callable[[Any], Expr]
+        remainder: Callable[[Any], Expr]
+        bit_and: Callable[[Any], Expr]
+        bit_or: Callable[[Any], Expr]
+        bit_xor: Callable[[Any], Expr]
+        bit_not: Callable[[], Expr]
+        shift_left: Callable[[Any], Expr]
+        shift_right: Callable[[Any], Expr]
         slice: Callable[..., Expr]
         stride: Callable[..., Expr]
         shuffle: Callable[..., Expr]
@@ -117,7 +125,7 @@ class Operators:
         [32, 243]
         """
         if modulo is not None:
-            raise TypeError("the runtime has no remainders")
+            raise TypeError("the runtime has no powers of a modulus")
         if hasattr(exponent, "shape") and exponent.shape != ():
             raise TypeError("the runtime has no powers by values: the exponent is a number")
         number = whole(exponent)
@@ -132,54 +140,70 @@ class Operators:
         power: Expr = found
         return power
 
+    # Bit by bit; where all values are 0 and 1 by operations that a text has too.
+
     def __invert__(self) -> Expr:
-        if not self.truth:
-            raise TypeError("the runtime has no bitwise ~: x.not_() is 1 where x is 0")
-        return self.not_()
+        return self.not_() if self.truth else self.bit_not()
 
     def __and__(self, other: Any) -> Expr:
-        self._are_truths("&", "x.and_(y) asks whether values are 0", other)
-        return self.and_(other)
+        return self.and_(other) if self._are_truths(other) else self.bit_and(other)
 
     def __or__(self, other: Any) -> Expr:
-        self._are_truths("|", "x.or_(y) asks whether values are 0", other)
-        return self.or_(other)
+        return self.or_(other) if self._are_truths(other) else self.bit_or(other)
 
     def __xor__(self, other: Any) -> Expr:
-        self._are_truths("^", "x != y tells where values differ", other)
-        return self.ne(other)
+        return self.ne(other) if self._are_truths(other) else self.bit_xor(other)
 
     __rand__, __ror__, __rxor__ = __and__, __or__, __xor__
 
-    def __lshift__(self, count: int) -> Expr:
-        """The product with a power of 2, by a number of binary places; of 64 and more, 0.
+    def __lshift__(self, count: Any) -> Expr:
+        """The product with a power of 2, by so many binary places; by 64 and more, and below 0, 0.
 
         >>> run(tensor([1, -2]) << 3).values
         [8, -16]
         """
         if is_several(count):
-            raise TypeError("the runtime has no shifts by values: the count is a number")
+            return self.shift_left(count)
         places = whole(count)
-        if places < 0:
-            raise ValueError("the runtime has no shifts back")
-        return self.mul((2**places + 2**63) % 2**64 - 2**63 if places < 64 else 0)
+        return self.mul((2**places + 2**63) % 2**64 - 2**63 if 0 <= places < 64 else 0)
 
-    def _are_truths(self, sign: str, instead: str, other: Any) -> None:
-        """Refuses what is not known to be 0 and 1, where bit by bit and as a whole differ."""
+    def __rshift__(self, count: Any) -> Expr:
+        return self.shift_right(count)
+
+    def __rlshift__(self, other: Any) -> Expr:
+        return self._beside(other).shift_left(self)
+
+    def __rrshift__(self, other: Any) -> Expr:
+        return self._beside(other).shift_right(self)
+
+    def _are_truths(self, other: Any) -> bool:
+        """Whether both are known to be 0 and 1, where bit by bit and as a whole are the same."""
         from .tensors import an_expr
 
         theirs = is_bool(other) or (not isinstance(other, int) and an_expr(other).truth)
-        if not (self.truth and theirs):
-            raise TypeError(
-                f"the runtime has no bitwise {sign}, which stands for comparisons alone: {instead}"
-            )
+        return self.truth and theirs
 
-    __rlshift__ = none("shifts by values")
-    __rshift__ = __rrshift__ = none("shifts")
-    __truediv__ = __rtruediv__ = none("division")
-    __floordiv__ = __rfloordiv__ = none("division")
-    __mod__ = __rmod__ = none("remainders")
-    __divmod__ = __rdivmod__ = none("division")
+    # Division, rounded down.
+
+    def __floordiv__(self, other: Any) -> Expr:
+        return self.floor_divide(other)
+
+    def __mod__(self, other: Any) -> Expr:
+        return self.remainder(other)
+
+    def __divmod__(self, other: Any) -> Tuple[Expr, Expr]:
+        return self.floor_divide(other), self.remainder(other)
+
+    def __rfloordiv__(self, other: Any) -> Expr:
+        return self._beside(other).floor_divide(self)
+
+    def __rmod__(self, other: Any) -> Expr:
+        return self._beside(other).remainder(self)
+
+    def __rdivmod__(self, other: Any) -> Tuple[Expr, Expr]:
+        return self._beside(other).__divmod__(self)
+
+    __truediv__ = __rtruediv__ = none("quotients that are fractions", "x // y is rounded down")
     __rpow__ = none("powers by values")
 
     def _beside(self, other: Any) -> Expr:

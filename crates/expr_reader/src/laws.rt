@@ -19,8 +19,7 @@ use crate::fault::Fault;
 /// same fault, whichever versions there are.
 pub fn frames_mean_texts()
     ensures { (versions : Versions) (header text : Data) (values : List ℤ)
-        → All (FitsSigned w64) values
-        → filled_text values header ≡ Some text
+        → All (FitsSigned w64) values → filled_text values header ≡ Some text
         → unlocated (data_asked versions (frame_inputs values) header)
         ≡ unlocated (data_asked versions inputs_in text) }
 {}
