@@ -6,7 +6,6 @@ from __future__ import annotations
 from typing import TYPE_CHECKING, Any, Optional, Sequence
 
 from . import rules
-from .integers import OnIntegers
 from .methods import NumpyMethods
 from .rules import Dims
 from .spreading import alike
@@ -15,7 +14,7 @@ from .values import flag, is_bool, listed, value_of, whole
 MANY = 1_000_000_000
 
 
-class Expr(NumpyMethods, OnIntegers):
+class Expr(NumpyMethods):
     """An operation on expressions, which `run` has answered. Each operation of the request is a
     method by its own name, each that numpy has by numpy's name too.
 

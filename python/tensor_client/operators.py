@@ -21,7 +21,7 @@ def none(name: str, instead: str = "") -> Callable[..., NoReturn]:
 
 
 class Operators:
-    """What an expression does beside an operator. Expr has the request's own operations."""
+    """What an expression does beside an operator. Expr has the operations of a text."""
 
     __slots__ = ()
 
@@ -45,14 +45,6 @@ class Operators:
         or_: Callable[[Any], Expr]
         cwise_max: Callable[[Any], Expr]
         cwise_min: Callable[[Any], Expr]
-        floor_divide: Callable[[Any], Expr]
-        remainder: Callable[[Any], Expr]
-        bit_and: Callable[[Any], Expr]
-        bit_or: Callable[[Any], Expr]
-        bit_xor: Callable[[Any], Expr]
-        bit_not: Callable[[], Expr]
-        shift_left: Callable[[Any], Expr]
-        shift_right: Callable[[Any], Expr]
         slice: Callable[..., Expr]
         stride: Callable[..., Expr]
         shuffle: Callable[..., Expr]
@@ -205,6 +197,80 @@ class Operators:
 
     __truediv__ = __rtruediv__ = none("quotients that are fractions", "x // y is rounded down")
     __rpow__ = none("powers by values")
+
+    # The operations behind some of these, which frames and the library alone have.
+
+    def floor_divide(self, other: Any) -> Expr:
+        """The quotients, rounded down: x // y. By 0 they are 0, as numpy's.
+
+        >>> run(tensor([7, -7, 7]) // [2, 2, 0]).values
+        [3, -4, 0]
+        """
+        return self._pairwise("floor_divide", other)
+
+    def remainder(self, other: Any) -> Expr:
+        """What those leave, of the sign of y: x % y. By 0 it is 0, as numpy's.
+
+        >>> run(tensor([7, -7, 7]) % [2, 2, 0]).values
+        [1, 1, 0]
+        """
+        return self._pairwise("remainder", other)
+
+    def bit_and(self, other: Any) -> Expr:
+        """The bits that both have: x & y.
+
+        >>> run(tensor([12, -1]) & 10).values
+        [8, 10]
+        """
+        return self._pairwise("bit_and", other)
+
+    def bit_or(self, other: Any) -> Expr:
+        """The bits that one has: x | y.
+
+        >>> run(tensor([12, -1]) | 10).values
+        [14, -1]
+        """
+        return self._pairwise("bit_or", other)
+
+    def bit_xor(self, other: Any) -> Expr:
+        """The bits that one alone has: x ^ y.
+
+        >>> run(tensor([12, -1]) ^ 10).values
+        [6, -11]
+        """
+        return self._pairwise("bit_xor", other)
+
+    def shift_left(self, other: Any) -> Expr:
+        """The bits moved up by so many places: x << y. 0 by 64 and more, and below 0, as numpy's.
+
+        >>> run(tensor([1, 1, 1]).shift_left([3, 63, 64])).values
+        [8, -9223372036854775808, 0]
+        """
+        return self._pairwise("shift_left", other)
+
+    def shift_right(self, other: Any) -> Expr:
+        """The bits moved down, the sign's beside them: x >> y. Of the sign alone by 64 and more, and
+        below 0, as numpy's.
+
+        >>> run(tensor([9, -9, -9]) >> [1, 1, 64]).values
+        [4, -5, -1]
+        """
+        return self._pairwise("shift_right", other)
+
+    def bit_not(self) -> Expr:
+        """Each bit turned: ~x, which is -x - 1.
+
+        >>> run(~tensor([0, 5])).values
+        [-1, -6]
+        """
+        from .expressions import Expr
+
+        return Expr("bit_not", [self], dims=self.dims)  # type: ignore[list-item]
+
+    def _pairwise(self, operation: str, other: Any) -> Expr:
+        from .expressions import elementwise
+
+        return elementwise(operation, self, other)  # type: ignore[arg-type]
 
     def _beside(self, other: Any) -> Expr:
         from .tensors import beside

@@ -1,6 +1,6 @@
 //! The operations without their arguments, and their numbers.
 
-ghost use Rattle.std.specs.Prelude.{◌≡◌, ◌≢◌, IfSome, IfNone};
+ghost use Rattle.std.specs.Prelude.{◌≡◌, ◌≢◌, ◌<◌, IfSome, IfNone};
 ghost use Rattle.prepared_expressions.specs.declared.kind.Kind.{Kind};
 ghost use Rattle.prepared_expressions.specs.Numbers.{number_of};
 
@@ -58,6 +58,9 @@ impl Kind {
         ensures known { IfSome result (λ kind. number_of kind ≡ number) }
         ensures unknown { IfNone result ((kind : Kind) → number_of kind ≢ number) }
     {
+        if number > 28 {
+            return Kind::later(number);
+        }
         Some(match number {
             0 => Kind::Input,
             1 => Kind::One(UnaryKind::Each(UnaryScalar::Neg)),
@@ -88,6 +91,17 @@ impl Kind {
             26 => Kind::One(UnaryKind::Stride),
             27 => Kind::One(UnaryKind::Pad),
             28 => Kind::Two(BinaryKind::Concat),
+            _ => return None,
+        })
+    }
+
+    /// The one of a greater number: a reduction, a product, or an operation on whole numbers.
+    fn later(number: u64) -> Option<Kind>
+        requires { 28 < number }
+        ensures known { IfSome result (λ kind. number_of kind ≡ number) }
+        ensures unknown { IfNone result ((kind : Kind) → number_of kind ≢ number) }
+    {
+        Some(match number {
             29 => Kind::One(UnaryKind::Reduce(Reducer::Sum)),
             30 => Kind::One(UnaryKind::Reduce(Reducer::Prod)),
             31 => Kind::One(UnaryKind::Reduce(Reducer::Max)),
