@@ -7,7 +7,8 @@
       "expr":["add","a","b"]}
 
    The values are those of the tensors, one tensor after the other in the order of their names by
-   bytes, each column-major: the first index runs fastest. It asks for what the text asks for in
+   bytes, each column-major: the first index runs fastest. Its version may also be 3, which has
+   operations on whole numbers (docs/FRAMES.md). It asks for what the text asks for in
    which each tensor also has its values in `data`, however long that text would be, and has the
    same fault. All work is done on the thread that calls; `workers` and `block` are checked, and
    change nothing.

@@ -18,7 +18,7 @@ sys.dont_write_bytecode = True
 
 from fuzzing import reference, sharing
 from fuzzing.operations import size
-from fuzzing.rules import FAULTS
+from fuzzing.rules import FAULTS, FRAME_VERSIONS
 
 SIZES = struct.Struct("<QQ")
 MOST, MOST_PLACES = 16_777_216, 10_000_000
@@ -54,7 +54,7 @@ def answered(header, values):
         text = header
     if text is None:
         return BAD_TENSOR, []
-    line = reference.answer(text, MOST_PLACES)[0].rstrip(b"\n")
+    line = reference.answer(text, MOST_PLACES, FRAME_VERSIONS)[0].rstrip(b"\n")
     if line.startswith(b"error "):
         return line, []
     found = json.loads(line)

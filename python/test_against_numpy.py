@@ -36,6 +36,17 @@ ELEMENTWISE = {
     "or": lambda a, b: (a != 0) | (b != 0),
     "select": lambda c, a, b: numpy.where(c != 0, a, b),
 }
+# What frames alone have.
+ON_INTEGERS = {
+    "floor_divide": lambda a, b: a // b,
+    "remainder": lambda a, b: a % b,
+    "bit_and": lambda a, b: a & b,
+    "bit_or": lambda a, b: a | b,
+    "bit_xor": lambda a, b: a ^ b,
+    "bit_not": lambda a: ~a,
+    "shift_left": lambda a, b: a << b,
+    "shift_right": lambda a, b: a >> b,
+}
 REDUCTIONS = {
     "sum": lambda a, axes: a.sum(axis=axes),
     "prod": lambda a, axes: a.prod(axis=axes),
@@ -125,6 +136,19 @@ class AgainstNumpy(OneWay):
                 arrays = [source.array(dims) for _ in range(wanted.__code__.co_argcount)]
                 expr = method(tensor(arrays[0]), operation)(*map(tensor, arrays[1:]))
                 self.agree(expr, wanted(*arrays), source)
+
+    def test_on_integers(self):
+        if self.way in ("process", "lines"):
+            self.skipTest("no text has them")
+        for operation, wanted in ON_INTEGERS.items():
+            for source in self.each_trial(operation):
+                dims = source.dims()
+                arrays = [source.array(dims) for _ in range(wanted.__code__.co_argcount)]
+                counts = [arrays[0], *(it % 70 for it in arrays[1:])]
+                for some in (arrays, counts):
+                    expr = method(tensor(some[0]), operation)(*map(tensor, some[1:]))
+                    with numpy.errstate(all="ignore"):
+                        self.agree(expr, wanted(*some), source)
 
     def test_reductions(self):
         for operation, wanted in REDUCTIONS.items():
@@ -227,7 +251,7 @@ class AgainstNumpy(OneWay):
             self.agree(contract(left, right, list(zip(ours, theirs))), wanted, source)
 
     def test_every_operation_is_here(self):
-        alone = documented() - {*ELEMENTWISE, *REDUCTIONS}
+        alone = documented() - {*ELEMENTWISE, *ON_INTEGERS, *REDUCTIONS}
         self.assertLessEqual({f"test_{it}" for it in alone}, set(dir(self)))
 
     def test_operators_with_arrays(self):

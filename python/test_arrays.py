@@ -183,6 +183,9 @@ class Functions(unittest.TestCase):
                 lambda it: numpy.linalg.matrix_power(it[:, :2], 3),
                 lambda it: numpy.add.reduce(it),
                 lambda it: numpy.maximum.accumulate(it, axis=1),
+                lambda it: numpy.floor_divide(array, it),
+                lambda it: -array % it,
+                lambda it: array >> it,
             ):
                 found = call(x)
                 self.assertIsInstance(found, Expr)
@@ -193,8 +196,8 @@ class Functions(unittest.TestCase):
             lambda: numpy.unique(x),
             lambda: numpy.sqrt(array, out=x),
             lambda: numpy.add(array, x, out=array),
-            lambda: numpy.floor_divide(array, x),
-            lambda: array // x,
+            lambda: numpy.true_divide(array, x),
+            lambda: array / x,
             lambda: numpy.asarray(x),
         ):
             self.assertRaisesRegex(TypeError, r"run\(", wrong)

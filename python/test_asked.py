@@ -35,8 +35,9 @@ def text_of(name):
 
 
 def documented():
-    """The operations of the table in docs/REQUEST.md."""
-    cells = re.findall(r'(?m)^\| (`\["\w+", [^|]*) \|', text_of("REQUEST.md"))
+    """The operations of the tables in docs/REQUEST.md and docs/FRAMES.md."""
+    tables = text_of("REQUEST.md") + text_of("FRAMES.md")
+    cells = re.findall(r'(?m)^\| (`\["\w+", [^|]*) \|', tables)
     return {name for cell in cells for name in re.findall(r'"(\w+)"', cell)}
 
 

@@ -104,6 +104,15 @@ def framed(text):
     return frame(written(request).encode(), values)
 
 
+def is_frames_own(text):
+    """Whether a text says a version that frames alone have, so that a frame of it says more."""
+    try:
+        request = value_of(text)
+    except NoFrame:
+        return False
+    return isinstance(request, dict) and request.get("version") == "3"
+
+
 def answered(line):
     """The frame that says what an answer's line does, as its header and values."""
     if line.startswith("error "):

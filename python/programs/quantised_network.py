@@ -1,5 +1,5 @@
 """A quantised network of two layers: weights and activations of 8 bits, sums of 64, a cut at 0
-and at 127. It scales by a comparison with each bound, since there is no shift."""
+and at 127. It scales by a comparison with each bound, which a text has too."""
 
 BOUNDS = range(1, 128)
 SCALE = 64

@@ -1,5 +1,5 @@
-"""XOR checksums of rows of bytes, by comparisons, since nothing goes bit by bit: a bit of a number
-is how often the number has passed a multiple of that power of 2, counted up and down in turn."""
+"""XOR checksums of rows of bytes, by comparisons, which a text has too: a bit of a number is
+how often the number has passed a multiple of that power of 2, counted up and down in turn."""
 
 BITS = range(8)
 # How much each bound from 1 to 255 that is reached changes each bit.

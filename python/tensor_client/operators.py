@@ -2,7 +2,7 @@
 
 from __future__ import annotations
 
-from typing import TYPE_CHECKING, Any, Callable, NoReturn, Optional, Sequence
+from typing import TYPE_CHECKING, Any, Callable, NoReturn, Optional, Sequence, Tuple
 
 from .rules import Dims
 from .values import is_bool, is_several, whole
@@ -21,7 +21,7 @@ def none(name: str, instead: str = "") -> Callable[..., NoReturn]:
 
 
 class Operators:
-    """What an expression does beside an operator. Expr has the request's own operations."""
+    """What an expression does beside an operator. Expr has the operations of a text."""
 
     __slots__ = ()
 
@@ -117,7 +117,7 @@ class Operators:
         [32, 243]
         """
         if modulo is not None:
-            raise TypeError("the runtime has no remainders")
+            raise TypeError("the runtime has no powers of a modulus")
         if hasattr(exponent, "shape") and exponent.shape != ():
             raise TypeError("the runtime has no powers by values: the exponent is a number")
         number = whole(exponent)
@@ -132,55 +132,145 @@ class Operators:
         power: Expr = found
         return power
 
+    # Bit by bit; where all values are 0 and 1 by operations that a text has too.
+
     def __invert__(self) -> Expr:
-        if not self.truth:
-            raise TypeError("the runtime has no bitwise ~: x.not_() is 1 where x is 0")
-        return self.not_()
+        return self.not_() if self.truth else self.bit_not()
 
     def __and__(self, other: Any) -> Expr:
-        self._are_truths("&", "x.and_(y) asks whether values are 0", other)
-        return self.and_(other)
+        return self.and_(other) if self._are_truths(other) else self.bit_and(other)
 
     def __or__(self, other: Any) -> Expr:
-        self._are_truths("|", "x.or_(y) asks whether values are 0", other)
-        return self.or_(other)
+        return self.or_(other) if self._are_truths(other) else self.bit_or(other)
 
     def __xor__(self, other: Any) -> Expr:
-        self._are_truths("^", "x != y tells where values differ", other)
-        return self.ne(other)
+        return self.ne(other) if self._are_truths(other) else self.bit_xor(other)
 
     __rand__, __ror__, __rxor__ = __and__, __or__, __xor__
 
-    def __lshift__(self, count: int) -> Expr:
-        """The product with a power of 2, by a number of binary places; of 64 and more, 0.
+    def __lshift__(self, count: Any) -> Expr:
+        """The product with a power of 2, by so many binary places; by 64 and more, and below 0, 0.
 
         >>> run(tensor([1, -2]) << 3).values
         [8, -16]
         """
         if is_several(count):
-            raise TypeError("the runtime has no shifts by values: the count is a number")
+            return self.shift_left(count)
         places = whole(count)
-        if places < 0:
-            raise ValueError("the runtime has no shifts back")
-        return self.mul((2**places + 2**63) % 2**64 - 2**63 if places < 64 else 0)
+        return self.mul((2**places + 2**63) % 2**64 - 2**63 if 0 <= places < 64 else 0)
 
-    def _are_truths(self, sign: str, instead: str, other: Any) -> None:
-        """Refuses what is not known to be 0 and 1, where bit by bit and as a whole differ."""
+    def __rshift__(self, count: Any) -> Expr:
+        return self.shift_right(count)
+
+    def __rlshift__(self, other: Any) -> Expr:
+        return self._beside(other).shift_left(self)
+
+    def __rrshift__(self, other: Any) -> Expr:
+        return self._beside(other).shift_right(self)
+
+    def _are_truths(self, other: Any) -> bool:
+        """Whether both are known to be 0 and 1, where bit by bit and as a whole are the same."""
         from .tensors import an_expr
 
         theirs = is_bool(other) or (not isinstance(other, int) and an_expr(other).truth)
-        if not (self.truth and theirs):
-            raise TypeError(
-                f"the runtime has no bitwise {sign}, which stands for comparisons alone: {instead}"
-            )
+        return self.truth and theirs
 
-    __rlshift__ = none("shifts by values")
-    __rshift__ = __rrshift__ = none("shifts")
-    __truediv__ = __rtruediv__ = none("division")
-    __floordiv__ = __rfloordiv__ = none("division")
-    __mod__ = __rmod__ = none("remainders")
-    __divmod__ = __rdivmod__ = none("division")
+    # Division, rounded down.
+
+    def __floordiv__(self, other: Any) -> Expr:
+        return self.floor_divide(other)
+
+    def __mod__(self, other: Any) -> Expr:
+        return self.remainder(other)
+
+    def __divmod__(self, other: Any) -> Tuple[Expr, Expr]:
+        return self.floor_divide(other), self.remainder(other)
+
+    def __rfloordiv__(self, other: Any) -> Expr:
+        return self._beside(other).floor_divide(self)
+
+    def __rmod__(self, other: Any) -> Expr:
+        return self._beside(other).remainder(self)
+
+    def __rdivmod__(self, other: Any) -> Tuple[Expr, Expr]:
+        return self._beside(other).__divmod__(self)
+
+    __truediv__ = __rtruediv__ = none("quotients that are fractions", "x // y is rounded down")
     __rpow__ = none("powers by values")
+
+    # The operations behind some of these, which frames and the library alone have.
+
+    def floor_divide(self, other: Any) -> Expr:
+        """The quotients, rounded down: x // y. By 0 they are 0, as numpy's.
+
+        >>> run(tensor([7, -7, 7]) // [2, 2, 0]).values
+        [3, -4, 0]
+        """
+        return self._pairwise("floor_divide", other)
+
+    def remainder(self, other: Any) -> Expr:
+        """What those leave, of the sign of y: x % y. By 0 it is 0, as numpy's.
+
+        >>> run(tensor([7, -7, 7]) % [2, 2, 0]).values
+        [1, 1, 0]
+        """
+        return self._pairwise("remainder", other)
+
+    def bit_and(self, other: Any) -> Expr:
+        """The bits that both have: x & y.
+
+        >>> run(tensor([12, -1]) & 10).values
+        [8, 10]
+        """
+        return self._pairwise("bit_and", other)
+
+    def bit_or(self, other: Any) -> Expr:
+        """The bits that one has: x | y.
+
+        >>> run(tensor([12, -1]) | 10).values
+        [14, -1]
+        """
+        return self._pairwise("bit_or", other)
+
+    def bit_xor(self, other: Any) -> Expr:
+        """The bits that one alone has: x ^ y.
+
+        >>> run(tensor([12, -1]) ^ 10).values
+        [6, -11]
+        """
+        return self._pairwise("bit_xor", other)
+
+    def shift_left(self, other: Any) -> Expr:
+        """The bits moved up by so many places: x << y. 0 by 64 and more, and below 0, as numpy's.
+
+        >>> run(tensor([1, 1, 1]).shift_left([3, 63, 64])).values
+        [8, -9223372036854775808, 0]
+        """
+        return self._pairwise("shift_left", other)
+
+    def shift_right(self, other: Any) -> Expr:
+        """The bits moved down, the sign's beside them: x >> y. Of the sign alone by 64 and more, and
+        below 0, as numpy's.
+
+        >>> run(tensor([9, -9, -9]) >> [1, 1, 64]).values
+        [4, -5, -1]
+        """
+        return self._pairwise("shift_right", other)
+
+    def bit_not(self) -> Expr:
+        """Each bit turned: ~x, which is -x - 1.
+
+        >>> run(~tensor([0, 5])).values
+        [-1, -6]
+        """
+        from .expressions import Expr
+
+        return Expr("bit_not", [self], dims=self.dims)  # type: ignore[list-item]
+
+    def _pairwise(self, operation: str, other: Any) -> Expr:
+        from .expressions import elementwise
+
+        return elementwise(operation, self, other)  # type: ignore[arg-type]
 
     def _beside(self, other: Any) -> Expr:
         from .tensors import beside

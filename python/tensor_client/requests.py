@@ -8,7 +8,7 @@ from operator import itemgetter
 from typing import Any, Callable, Dict, Iterable, List, NamedTuple, Optional, Tuple, Union
 
 from .expressions import Expr
-from .faults import Fault, TooLong, fault_made
+from .faults import BadVersion, Fault, TooLong, fault_made
 from .length import (
     MAX_TEXT,
     MAX_VALUES,
@@ -24,8 +24,14 @@ from .values import whole
 
 # What version 1 of the request allows; more is asked for by version 2.
 FIRST_RANK, FIRST_WORKERS = 6, 64
-# The version of a request that has an operation, where that isn't 1.
+# The version of a request that has an operation, where that isn't 1; frames alone have the third.
 VERSIONS = dict.fromkeys("stride pad concat convolve".split(), 2)
+VERSIONS.update(
+    dict.fromkeys(
+        "floor_divide remainder bit_and bit_or bit_xor bit_not shift_left shift_right".split(), 3
+    )
+)
+LAST_OF_TEXTS = 2
 # So many arrays in one another a text may have, its own object and an argument's two left out.
 DEEPEST = 120
 # So many bytes a node of an expression has in a text at least: a name, and a comma behind it.
@@ -34,6 +40,7 @@ SUMS = frozenset(("add", "sub"))
 # Operations whose chains may be grouped in any way, and what else stands in such a chain: modulo
 # 2**64 the values are the same.
 GROUPED = {it: frozenset((it,)) for it in "mul cwise_max cwise_min and or".split()}
+GROUPED.update({it: frozenset((it,)) for it in "bit_and bit_or bit_xor".split()})
 GROUPED.update(dict.fromkeys(SUMS, SUMS))
 
 
@@ -192,6 +199,8 @@ def request(expr: Any, workers: int = 1, block: int = 4096, version: Optional[in
     {"version":1,"workers":1,"block":4096,"inputs":{"x0":{"dims":[],"data":[5]}},"expr":"x0"}
     """
     found = text_of(an_expr(expr))
+    if version is None and found.version > LAST_OF_TEXTS:
+        raise BadVersion(f"no text has version {found.version}: the library and frames do")
     inputs = (
         f'{name[1:]}:{{{dims_text(it.dims or ())},"data":[{commas(it.values)}]}}'
         for name, it in found.names.values()

@@ -2,7 +2,8 @@
 it is to have, from the root down.
 
 A new operation is a call of Grammar with its name in MAKERS, or in MAKERS_OF for version 2; on
-values a name in UNARY or BINARY instead, a reduction one in REDUCTIONS.
+values a name in UNARY or BINARY instead, or in UNARY_OF or BINARY_OF for version 3, a reduction one
+in REDUCTIONS.
 """
 
 import math
@@ -27,11 +28,17 @@ BLOCKS = [1, 1, 2, 3, 4, 7, 16, 64, 1_048_576]
 UNARY = ["neg", "abs", "square", "not"]
 BINARY = ["add", "sub", "mul", "cwise_max", "cwise_min", "lt", "le", "eq", "ne", "gt", "ge"]
 BINARY += ["and", "or"]
+UNARY_OF = {1: UNARY, 2: UNARY, 3: UNARY + ["bit_not"] * 2}
+OF_BITS = ["bit_and", "bit_or", "bit_xor", "shift_left", "shift_right"]
+BINARY_OF = {1: BINARY, 2: BINARY, 3: BINARY + (["floor_divide", "remainder"] + OF_BITS) * 2}
 REDUCTIONS = ["sum", "prod", "maximum", "minimum", "all", "any"]
 # The calls of a grammar that make an operation, the more often the more operations they stand for.
 MAKERS = ["unary"] * 2 + ["binary"] * 5 + ["select", "constant", "broadcast", "slice", "shuffle"]
 MAKERS += ["reshape", "chip", "reverse", "chain"] + ["reduction"] * 4 + ["contraction"] * 3
 MAKERS_OF = {1: MAKERS, 2: MAKERS + ["stride", "pad", "concat", "convolution"] * 2}
+MAKERS_OF[3] = MAKERS_OF[2] + ["binary"] * 5
+# Counts of a shift: from below 0 to past 63.
+COUNTS = range(-2, 67)
 
 
 def value(random):
@@ -72,9 +79,15 @@ class Grammar:
         name = self.random.choice(NAMES)
         while name in self.inputs:
             name += self.random.choice("abxyz")
-        data = [value(self.random) for _ in range(math.prod(dims))]
+        data = [self.value() for _ in range(math.prod(dims))]
         self.inputs[name] = {"dims": dims, "data": data}
         return name
+
+    def value(self):
+        """A value of an input, in version 3 at times one that counts places."""
+        if self.version.number == 3 and self.random.random() < 0.2:
+            return self.random.choice(COUNTS)
+        return value(self.random)
 
     def fits(self, dims):
         is_rank = len(dims) <= self.version.most_rank
@@ -88,10 +101,14 @@ class Grammar:
         return getattr(self, maker)(list(dims), depth - 1) or self.leaf(dims)
 
     def unary(self, dims, depth):
-        return [self.random.choice(UNARY), self.node(dims, depth)]
+        return [self.random.choice(UNARY_OF[self.version.number]), self.node(dims, depth)]
 
     def binary(self, dims, depth):
-        return [self.random.choice(BINARY), self.node(dims, depth), self.node(dims, depth)]
+        return [self.one_binary(), self.node(dims, depth), self.node(dims, depth)]
+
+    def one_binary(self):
+        """The name of an operation on two values."""
+        return self.random.choice(BINARY_OF[self.version.number])
 
     def chain(self, dims, depth):
         """Operations one after the other, most of them with one and the same operand."""
@@ -99,7 +116,7 @@ class Grammar:
         for _ in range(self.random.randint(2, 5)):
             sides = [expr, operand if self.random.random() < 0.9 else self.leaf(dims)]
             self.random.shuffle(sides)
-            expr = [self.random.choice(BINARY), *sides]
+            expr = [self.one_binary(), *sides]
         return expr
 
     def select(self, dims, depth):
@@ -210,9 +227,9 @@ class Grammar:
         return ["contract", self.node(left, depth), self.node(right, depth), pairs]
 
 
-def request(random):
-    """A valid request, as a JSON value."""
-    version = random.choice(list(VERSIONS.values()))
+def request(random, versions=VERSIONS):
+    """A valid request of one of these versions, as a JSON value."""
+    version = random.choice(list(versions.values()))
     grammar = Grammar(random, version)
     expr = grammar.node(grammar.dims(), random.randint(1, DEEPEST))
     while random.random() < 0.2:

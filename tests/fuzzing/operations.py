@@ -2,12 +2,13 @@
 another, as docs/REQUEST.md has them.
 
 A new one is a line of OPERATIONS, or of ADDED for version 2; on values a line of POINTWISE instead,
-a reduction one of REDUCTIONS here and in grammar.py. A version is a line of OPERATIONS_OF and of
-VERSIONS in rules.py.
+or of ON_INTEGERS for version 3, a reduction one of REDUCTIONS here and in grammar.py. A version is a
+line of OPERATIONS_OF and of VERSIONS in rules.py.
 """
 
 import itertools
 import math
+import operator
 
 from .rules import MOST_PRODUCTS, VALUES, are_legal, need
 
@@ -303,6 +304,17 @@ POINTWISE = {
     "or": (2, lambda x, y: x != 0 or y != 0),
     "select": (3, lambda c, x, y: x if c != 0 else y),
 }
+# Those that version 3 adds.
+ON_INTEGERS = {
+    "floor_divide": (2, lambda x, y: x // y if y else 0),
+    "remainder": (2, lambda x, y: x % y if y else 0),
+    "bit_and": (2, operator.and_),
+    "bit_or": (2, operator.or_),
+    "bit_xor": (2, operator.xor),
+    "bit_not": (1, operator.invert),
+    "shift_left": (2, lambda x, y: x << y if 0 <= y < 64 else 0),
+    "shift_right": (2, lambda x, y: x >> y if 0 <= y < 64 else -(x < 0)),
+}
 REDUCTIONS = {
     "sum": sum,
     "prod": math.prod,
@@ -316,6 +328,10 @@ for _name, (_operands, _function) in POINTWISE.items():
 for _name, _combine in REDUCTIONS.items():
     OPERATIONS[_name] = (1, ["sizes"], *reduction(_combine))
 OPERATIONS_OF = {1: OPERATIONS, 2: {**OPERATIONS, **ADDED}}
+OPERATIONS_OF[3] = {
+    **OPERATIONS_OF[2],
+    **{name: (it[0], [], *pointwise(it[1])) for name, it in ON_INTEGERS.items()},
+}
 
 
 def cost_of(name, dims, operands, arguments):

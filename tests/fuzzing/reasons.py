@@ -108,9 +108,11 @@ def unknown_input(inputs, name):
 def unknown_operation(version, name):
     if not isinstance(name, str):
         return f"a node begins with the name of its operation, and not with {found(name)}"
-    if name in OPERATIONS_OF[max(VERSIONS)]:
+    first = next((it for it, known in OPERATIONS_OF.items() if name in known), None)
+    if first is not None:
+        whose = "" if first in VERSIONS else ", which frames alone have"
         this = f"this is a text of version {version.number}"
-        return f"{found(name)} is an operation of version {max(VERSIONS)}, and {this}"
+        return f"{found(name)} is an operation of version {first}{whose}, and {this}"
     meant = f": {MEANT[name]}" if name in MEANT else ""
     return f"no operation of version {version.number} is named {quoted(name)}{meant}"
 

@@ -131,12 +131,12 @@ class Walk:
         return dims, lambda: work(dims, *(then() for _, then in below), *arguments)
 
 
-def read(text):
+def read(text, versions=VERSIONS):
     """The dims of a text's answer, the function that works it out, and the walk over its tree."""
     fields = parse(text)
     need(isinstance(fields, dict) and fields.keys() == FIELDS, 3)
-    need(is_whole(fields["version"], min(VERSIONS), max(VERSIONS)), 4)
-    version = VERSIONS[fields["version"]]
+    need(is_whole(fields["version"], min(versions), max(versions)), 4)
+    version = versions[fields["version"]]
     need(is_whole(fields["workers"], 1, version.most_workers), 5)
     need(is_whole(fields["block"], 1, MOST_BLOCK), 6)
     inputs = fields["inputs"]
@@ -145,10 +145,11 @@ def read(text):
     return *walk.node(fields["expr"]), walk
 
 
-def answer(text, most_places):
-    """The line that answers a text, and its status; None for one of more places than are wanted."""
+def answer(text, most_places, versions=VERSIONS):
+    """The line that answers a text, and its status; None for one of more places than are wanted.
+    A frame of the same values has the versions of a frame."""
     try:
-        dims, work, walk = read(text)
+        dims, work, walk = read(text, versions)
     except Fault as fault:
         return f"error {fault.number} {FAULTS[fault.number]}\n".encode(), 1
     if walk.places > most_places:

@@ -40,7 +40,9 @@ class Version(NamedTuple):
     most_workers: int
 
 
+# Those of a text, and those of a frame.
 VERSIONS = {it.number: it for it in (Version(1, 6, 64), Version(2, 8, 256))}
+FRAME_VERSIONS = {**VERSIONS, 3: Version(3, 8, 256)}
 
 
 class Fault(Exception):

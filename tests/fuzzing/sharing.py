@@ -8,7 +8,7 @@ import json
 
 from .operations import size
 from .reference import Walk
-from .rules import VERSIONS
+from .rules import FRAME_VERSIONS
 
 COMBINING = frozenset("sum prod maximum minimum all any contract convolve".split())
 MOVEMENTS = frozenset("broadcast slice shuffle reshape chip reverse stride".split())
@@ -54,6 +54,6 @@ def shared(header):
     """How many values each part of the answer to a frame with this header works out anew, where
     there is an answer."""
     request = json.loads(header)
-    walk = Sizes(VERSIONS[request["version"]], request["inputs"])
+    walk = Sizes(FRAME_VERSIONS[request["version"]], request["inputs"])
     walk.node(request["expr"])
     return below(walk, request["expr"])

@@ -17,7 +17,8 @@ MOST_NODES, SMALL = 1_000, 8
 ENDS = [0, 1, 5, 6, 7, 8, 9, 1_024, 1_048_576, 1_048_577, 2**63 - 1, 2**63]
 WORDS = ["neg", "add", "select", "constant", "broadcast", "slice", "shuffle", "reshape", "chip"]
 WORDS += ["reverse", "sum", "prod", "all", "contract", "div", "Add", "stride", "pad", "concat"]
-WORDS += ["convolve", "version", "workers", "block", "inputs", "expr", "dims", "data", "x"]
+WORDS += ["convolve", "bit_not", "remainder", "version", "workers", "block", "inputs", "expr"]
+WORDS += ["dims", "data", "x"]
 ODD_NUMBERS = ["1.0", "1e0", "-0", "0.0", "1E2", "10e-1", "18446744073709551616", "1e400"]
 ODD_NUMBERS += ["-1e-400", "01", "+1", "1.", ".5", "--1", "1e", "0x10", "NaN", "Infinity"]
 ODD_NUMBERS += ["9" * 400]
@@ -105,7 +106,7 @@ def with_changes(random, request):
 
 def of_other_version(random, request):
     """A request that says the other version, at times with workers or a rank at the limits."""
-    request["version"] = 3 - request["version"]
+    request["version"] = 1 if request["version"] == 3 else 3 - request["version"]
     if random.random() < 0.3:
         request["workers"] = random.choice([64, 65, 256, 257])
     if random.random() < 0.3:

@@ -13,7 +13,8 @@ WORDS = {
     "Prim": "tt = (); ◌,◌ = {0}, {1}",
     "Prim.Native.Nat": "zero = 0; suc = {0} + 1; ◌+◌ = {0} + {1}; ◌-◌ = max({0} - {1}, 0); "
     "◌*◌ = {0} * {1}; ◌/◌ = {0} // {1} if {1} else 0; ◌%◌ = {0} % {1} if {1} else {0}; "
-    "◌^◌ = {0} ** {1}; min = min({0}, {1}); max = max({0}, {1})",
+    "◌^◌ = {0} ** {1}; min = min({0}, {1}); max = max({0}, {1}); "
+    "bit_and = {0} & {1}; bit_or = {0} | {1}; bit_xor = {0} ^ {1}",
     "lib.Dec": "leb = {0} <= {1}; ltb = {0} < {1}; eqb = {0} == {1}",
     "mathlib.Core.Bool": "true = True; false = False; not = not {0}; cond = {1} if {0} else {2}; "
     "◌&&◌ = {0} and {1}; ◌||◌ = {0} or {1}",

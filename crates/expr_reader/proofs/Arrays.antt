@@ -15,6 +15,7 @@ use Rattle.expr_reader.specs.Arrays.{places_in, places_of_each, header_sizes}
 use Rattle.expr_reader.specs.Fields.{Fields, whole_of, cons_of, list_in, fields_of}
 use Rattle.expr_reader.specs.Frame.{dims_alone, dealt, framed_tensor, framed_tensors, bad_framed, framed_in, frame_inputs}
 use Rattle.expr_reader.specs.Place.{here, unlocated}
+use Rattle.expr_reader.specs.Profile.{Versions}
 use Rattle.expr_reader.specs.Request.{Naming, data_asked}
 use Rattle.expr_reader.specs.Tensors.{named_by}
 use Rattle.expr_reader.specs.declared.fault.Fault.TheVariants.{BadTensor}
@@ -104,17 +105,17 @@ array_tensors-joined rank (member name d ms) (array ∷ arrays) is =
     ap (cons_of (array_tensor rank array d)) (array_tensors-joined rank ms arrays both.1)
     ∙ sym (framed_tensors-sized rank array d (has_size d (length array) both.0) (joined arrays) name ms)
 
-pub arrays-frame : (header : Data) (arrays : List (List ℤ)) → header_sizes header ≡ Some (map length arrays)
-    → unlocated (data_asked (array_inputs arrays) header) ≡ unlocated (data_asked (frame_inputs (joined arrays)) header)
-arrays-frame header arrays is = by_fields (fields_of header) refl is
+pub arrays-frame : (versions : Versions) (header : Data) (arrays : List (List ℤ)) → header_sizes header ≡ Some (map length arrays)
+    → unlocated (data_asked versions (array_inputs arrays) header) ≡ unlocated (data_asked versions (frame_inputs (joined arrays)) header)
+arrays-frame versions header arrays is = by_fields (fields_of header) refl is
   where
     by_inputs : (f : Fields) (ms : Option Members) → fields_of header ≡ Some f → as_object f.inputs ≡ ms
         → option_and_then places_of_each ms ≡ Some (map length arrays)
-        → unlocated (data_asked (array_inputs arrays) header) ≡ unlocated (data_asked (frame_inputs (joined arrays)) header)
+        → unlocated (data_asked versions (array_inputs arrays) header) ≡ unlocated (data_asked versions (frame_inputs (joined arrays)) header)
     by_inputs f None there found is = (cc)
     by_inputs f (Some ms) there found is =
         rw there
-        (fields_asked-same (array_inputs arrays) (frame_inputs (joined arrays)) f f.inputs (λ rank.
+        (fields_asked-same versions (array_inputs arrays) (frame_inputs (joined arrays)) f f.inputs (λ rank.
         let same : named_by (array_tensors rank arrays) f.inputs ≡ framed_in (joined arrays) rank f.inputs =
         rw (found, array_tensors-joined rank ms arrays is) refl in
         or_place-same (bad_array rank arrays) (bad_framed rank (joined arrays)) f.inputs f.inputs
@@ -122,7 +123,7 @@ arrays-frame header arrays is = by_fields (fields_of header) refl is
 
     by_fields : (f : Option Fields) → fields_of header ≡ f
         → option_and_then (λ f. option_and_then places_of_each (as_object f.inputs)) f ≡ Some (map length arrays)
-        → unlocated (data_asked (array_inputs arrays) header) ≡ unlocated (data_asked (frame_inputs (joined arrays)) header)
+        → unlocated (data_asked versions (array_inputs arrays) header) ≡ unlocated (data_asked versions (frame_inputs (joined arrays)) header)
     by_fields None there is = (cc)
     by_fields (Some f) there is = by_inputs f (as_object f.inputs) there refl is
 
@@ -182,13 +183,13 @@ places_of_each-tensors rank (member name d ms) (array ∷ arrays) ts is =
 abbrev no_inputs : Naming
 no_inputs rank inputs = Err (here BadTensor)
 
-pub arrays-no_frame : (header : Data) (arrays : List (List ℤ)) → header_sizes header ≢ Some (map length arrays)
-    → unlocated (data_asked (array_inputs arrays) header) ≡ unlocated (data_asked no_inputs header)
-arrays-no_frame header arrays other = by_fields (fields_of header) refl
+pub arrays-no_frame : (versions : Versions) (header : Data) (arrays : List (List ℤ)) → header_sizes header ≢ Some (map length arrays)
+    → unlocated (data_asked versions (array_inputs arrays) header) ≡ unlocated (data_asked versions no_inputs header)
+arrays-no_frame versions header arrays other = by_fields (fields_of header) refl
   where
     unread : (f : Fields) → fields_of header ≡ Some f → ((rank : ℕ) → named_by (array_tensors rank arrays) f.inputs ≡ None)
-        → unlocated (data_asked (array_inputs arrays) header) ≡ unlocated (data_asked no_inputs header)
-    unread f there none = rw there (fields_asked-same (array_inputs arrays) no_inputs f f.inputs (λ rank. rw (none rank) refl))
+        → unlocated (data_asked versions (array_inputs arrays) header) ≡ unlocated (data_asked versions no_inputs header)
+    unread f there none = rw there (fields_asked-same versions (array_inputs arrays) no_inputs f f.inputs (λ rank. rw (none rank) refl))
 
     none_of : (f : Fields) (ms : Members) → fields_of header ≡ Some f → as_object f.inputs ≡ Some ms
         → (rank : ℕ) (ts : Option (List Contents)) → array_tensors rank arrays ms ≡ ts → array_tensors rank arrays ms ≡ None
@@ -198,12 +199,12 @@ arrays-no_frame header arrays other = by_fields (fields_of header) refl
         absurd (other sizes)
 
     by_inputs : (f : Fields) (ms : Option Members) → fields_of header ≡ Some f → as_object f.inputs ≡ ms
-        → unlocated (data_asked (array_inputs arrays) header) ≡ unlocated (data_asked no_inputs header)
+        → unlocated (data_asked versions (array_inputs arrays) header) ≡ unlocated (data_asked versions no_inputs header)
     by_inputs f None there found = unread f there (λ rank. rw found refl)
     by_inputs f (Some ms) there found =
         unread f there (λ rank. rw (found, none_of f ms there found rank (array_tensors rank arrays ms) refl) refl)
 
     by_fields : (f : Option Fields) → fields_of header ≡ f
-        → unlocated (data_asked (array_inputs arrays) header) ≡ unlocated (data_asked no_inputs header)
+        → unlocated (data_asked versions (array_inputs arrays) header) ≡ unlocated (data_asked versions no_inputs header)
     by_fields None there = rw there refl
     by_fields (Some f) there = by_inputs f (as_object f.inputs) there refl

@@ -25,6 +25,7 @@ use Rattle.expr_reader.specs.Filled.{with_other, with_inputs, filled_text}
 use Rattle.expr_reader.specs.Frame.{dims_alone, dealt, framed_tensor, framed_tensors, bad_framed, framed_in, frame_inputs}
 use Rattle.expr_reader.specs.Limits.{greatest_block}
 use Rattle.expr_reader.specs.Place.{Step, field, Located, here, at, below, unlocated}
+use Rattle.expr_reader.specs.Profile.{Versions}
 use Rattle.expr_reader.specs.Request.{Asked, Naming, profile_in}
 use Rattle.expr_reader.specs.Request.{fields_asked, data_asked}
 use Rattle.expr_reader.specs.Steps.{and_then}
@@ -275,11 +276,11 @@ below-same i (Ok n) (Err l) next is = (cc)
 below-same i (Err k) (Ok m) next is = (cc)
 below-same i (Err k) (Err l) next is = let same : k.fault ≡ l.fault = cc in ap Err same
 
-pub fields_asked-same : (read other : Naming) (f : Fields) (inputs : Data)
+pub fields_asked-same : (versions : Versions) (read other : Naming) (f : Fields) (inputs : Data)
     → ((rank : ℕ) → unlocated (read rank f.inputs) ≡ unlocated (other rank inputs))
-    → unlocated (fields_asked read f) ≡ unlocated (fields_asked other (record f { inputs = inputs }))
-fields_asked-same read other f inputs same =
-    and_then-same (ok_or (profile_in f) (at (field (codes "version")) BadVersion))
+    → unlocated (fields_asked versions read f) ≡ unlocated (fields_asked versions other (record f { inputs = inputs }))
+fields_asked-same versions read other f inputs same =
+    and_then-same (ok_or (profile_in versions f) (at (field (codes "version")) BadVersion))
     (workers_asked read f) (workers_asked other (record f { inputs = inputs }))
     (λ p. and_then-same (ok_or (within 1 p.workers f.workers) (at (field (codes "workers")) BadWorkers))
     (block_asked read f p) (block_asked other (record f { inputs = inputs }) p)
@@ -299,19 +300,19 @@ or_place-same place other d e named same is =
     by_names (Some n) = refl
 
 -- a frame is read as its text is
-pub frame-text : (header text : Data) (values : List ℤ) → All (FitsSigned w64) values → filled_text values header ≡ Some text
-    → unlocated (data_asked (frame_inputs values) header) ≡ unlocated (data_asked inputs_in text)
-frame-text header text values fits is = by_fields (fields_of header) refl is
+pub frame-text : (versions : Versions) (header text : Data) (values : List ℤ) → All (FitsSigned w64) values → filled_text values header ≡ Some text
+    → unlocated (data_asked versions (frame_inputs values) header) ≡ unlocated (data_asked versions inputs_in text)
+frame-text versions header text values fits is = by_fields (fields_of header) refl is
   where
     by_members : (f : Fields) (ms : Members) (filled_ms : Option Members) → fields_of header ≡ Some f → as_object f.inputs ≡ Some ms
         → filled_members values ms ≡ filled_ms → option_map (λ inputs. with_inputs inputs header) filled_ms ≡ Some text
-        → unlocated (data_asked (frame_inputs values) header) ≡ unlocated (data_asked inputs_in text)
+        → unlocated (data_asked versions (frame_inputs values) header) ≡ unlocated (data_asked versions inputs_in text)
     by_members f ms None there found all is = (cc)
     by_members f ms (Some inputs) there found all is =
         let same : with_inputs inputs header ≡ text = cc in
-        subst (λ t. unlocated (data_asked (frame_inputs values) header) ≡ unlocated (data_asked inputs_in t)) same
+        subst (λ t. unlocated (data_asked versions (frame_inputs values) header) ≡ unlocated (data_asked versions inputs_in t)) same
         (rw (there, fields_of-with_inputs inputs header f there)
-        (fields_asked-same (frame_inputs values) inputs_in f (object inputs) (λ rank.
+        (fields_asked-same versions (frame_inputs values) inputs_in f (object inputs) (λ rank.
         let both = same_tensors rank ms values fits inputs all in
         let same : framed_in values rank f.inputs ≡ named_in rank (object inputs) = rw (found, both.tensors, both.names) refl in
         or_place-same (bad_framed rank values) (bad_member rank) f.inputs (object inputs)
@@ -319,13 +320,13 @@ frame-text header text values fits is = by_fields (fields_of header) refl is
 
     by_inputs : (f : Fields) (ms : Option Members) → fields_of header ≡ Some f → as_object f.inputs ≡ ms
         → option_and_then (λ ms. option_map (λ inputs. with_inputs inputs header) (filled_members values ms)) ms ≡ Some text
-        → unlocated (data_asked (frame_inputs values) header) ≡ unlocated (data_asked inputs_in text)
+        → unlocated (data_asked versions (frame_inputs values) header) ≡ unlocated (data_asked versions inputs_in text)
     by_inputs f None there found is = (cc)
     by_inputs f (Some ms) there found is = by_members f ms (filled_members values ms) there found refl is
 
     by_fields : (f : Option Fields) → fields_of header ≡ f
         → option_and_then (λ f. option_and_then (λ ms. option_map (λ inputs. with_inputs inputs header) (filled_members values ms)) (as_object f.inputs)) f ≡ Some text
-        → unlocated (data_asked (frame_inputs values) header) ≡ unlocated (data_asked inputs_in text)
+        → unlocated (data_asked versions (frame_inputs values) header) ≡ unlocated (data_asked versions inputs_in text)
     by_fields None there is = (cc)
     by_fields (Some f) there is = by_inputs f (as_object f.inputs) there refl is
 
@@ -333,28 +334,28 @@ frame-text header text values fits is = by_fields (fields_of header) refl is
 abbrev no_inputs : Naming
 no_inputs rank inputs = Err (here BadTensor)
 
-pub frame-no_text : (header : Data) (values : List ℤ) → filled_text values header ≡ None
-    → unlocated (data_asked (frame_inputs values) header) ≡ unlocated (data_asked no_inputs header)
-frame-no_text header values is = by_fields (fields_of header) refl is
+pub frame-no_text : (versions : Versions) (header : Data) (values : List ℤ) → filled_text values header ≡ None
+    → unlocated (data_asked versions (frame_inputs values) header) ≡ unlocated (data_asked versions no_inputs header)
+frame-no_text versions header values is = by_fields (fields_of header) refl is
   where
     unread : (f : Fields) → fields_of header ≡ Some f → ((rank : ℕ) → framed_in values rank f.inputs ≡ None)
-        → unlocated (data_asked (frame_inputs values) header) ≡ unlocated (data_asked no_inputs header)
-    unread f there none = rw there (fields_asked-same (frame_inputs values) no_inputs f f.inputs (λ rank. rw (none rank) refl))
+        → unlocated (data_asked versions (frame_inputs values) header) ≡ unlocated (data_asked versions no_inputs header)
+    unread f there none = rw there (fields_asked-same versions (frame_inputs values) no_inputs f f.inputs (λ rank. rw (none rank) refl))
 
     by_members : (f : Fields) (ms : Members) (filled_ms : Option Members) → fields_of header ≡ Some f → as_object f.inputs ≡ Some ms
         → filled_members values ms ≡ filled_ms → option_map (λ inputs. with_inputs inputs header) filled_ms ≡ None
-        → unlocated (data_asked (frame_inputs values) header) ≡ unlocated (data_asked no_inputs header)
+        → unlocated (data_asked versions (frame_inputs values) header) ≡ unlocated (data_asked versions no_inputs header)
     by_members f ms (Some inputs) there found all is = (cc)
     by_members f ms None there found all is = unread f there (λ rank. rw (found, unfilled-none rank ms values all) refl)
 
     by_inputs : (f : Fields) (ms : Option Members) → fields_of header ≡ Some f → as_object f.inputs ≡ ms
         → option_and_then (λ ms. option_map (λ inputs. with_inputs inputs header) (filled_members values ms)) ms ≡ None
-        → unlocated (data_asked (frame_inputs values) header) ≡ unlocated (data_asked no_inputs header)
+        → unlocated (data_asked versions (frame_inputs values) header) ≡ unlocated (data_asked versions no_inputs header)
     by_inputs f None there found is = unread f there (λ rank. rw found refl)
     by_inputs f (Some ms) there found is = by_members f ms (filled_members values ms) there found refl is
 
     by_fields : (f : Option Fields) → fields_of header ≡ f
         → option_and_then (λ f. option_and_then (λ ms. option_map (λ inputs. with_inputs inputs header) (filled_members values ms)) (as_object f.inputs)) f ≡ None
-        → unlocated (data_asked (frame_inputs values) header) ≡ unlocated (data_asked no_inputs header)
+        → unlocated (data_asked versions (frame_inputs values) header) ≡ unlocated (data_asked versions no_inputs header)
     by_fields None there is = rw there refl
     by_fields (Some f) there is = by_inputs f (as_object f.inputs) there refl is

@@ -12,4 +12,5 @@ pub mod Operations
 pub mod SameDims
 pub mod Tokens
 pub mod Trees
+pub mod Versions
 pub mod Walk

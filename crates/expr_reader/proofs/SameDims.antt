@@ -23,6 +23,7 @@ use Rattle.expr_reader.specs.Limits.{greatest_block, most_values}
 use Rattle.expr_reader.specs.Node.{Tree, within_limit, operation_at, checked, made, node_at, applied, tree_at}
 use Rattle.expr_reader.specs.Place.{Step, field, index, Located, here, at, below, unlocated}
 use Rattle.expr_reader.specs.Profile.{Profile}
+use Rattle.expr_reader.specs.Profile.{frame_profile_of}
 use Rattle.expr_reader.specs.Request.{Asked, profile_in}
 use Rattle.expr_reader.specs.Request.{fields_asked, data_asked, data_of, text_asked}
 use Rattle.expr_reader.specs.Steps.{and_then}
@@ -223,9 +224,9 @@ module _ (vs ws : List ℤ) (long : length vs ≡ length ws) where
           AskAlike-named f profile workers block (names_in ms) p q (framed_tensors profile.rank vs ms) (framed_tensors profile.rank ws ms)
           (AreAlike-framed_tensors profile.rank ms vs ws long)
 
-  AskAlike-fields : (f : Fields) → AskAlike (unlocated (fields_asked (frame_inputs vs) f)) (unlocated (fields_asked (frame_inputs ws) f))
+  AskAlike-fields : (f : Fields) → AskAlike (unlocated (fields_asked frame_profile_of (frame_inputs vs) f)) (unlocated (fields_asked frame_profile_of (frame_inputs ws) f))
   AskAlike-fields f =
-      AskAlike-and_then (ok_or (profile_in f) (at (field (codes "version")) BadVersion))
+      AskAlike-and_then (ok_or (profile_in frame_profile_of f) (at (field (codes "version")) BadVersion))
       (workers_asked (frame_inputs vs) f) (workers_asked (frame_inputs ws) f)
       (λ p. AskAlike-and_then (ok_or (within 1 p.workers f.workers) (at (field (codes "workers")) BadWorkers))
       (block_asked (frame_inputs vs) f p) (block_asked (frame_inputs ws) f p)
@@ -233,16 +234,16 @@ module _ (vs ws : List ℤ) (long : length vs ≡ length ws) where
       (inputs_asked (frame_inputs vs) f p workers) (inputs_asked (frame_inputs ws) f p workers)
       (λ block. AskAlike-inputs f p workers block)))
 
-  AskAlike-text : (header : List ℕ) → AskAlike (unlocated (text_asked (frame_inputs vs) header)) (unlocated (text_asked (frame_inputs ws) header))
+  AskAlike-text : (header : List ℕ) → AskAlike (unlocated (text_asked frame_profile_of (frame_inputs vs) header)) (unlocated (text_asked frame_profile_of (frame_inputs ws) header))
   AskAlike-text header =
-      AskAlike-and_then (data_of header) (data_asked (frame_inputs vs)) (data_asked (frame_inputs ws))
-      (λ d. AskAlike-and_then (ok_or (fields_of d) (here BadField)) (fields_asked (frame_inputs vs)) (fields_asked (frame_inputs ws)) AskAlike-fields)
+      AskAlike-and_then (data_of header) (data_asked frame_profile_of (frame_inputs vs)) (data_asked frame_profile_of (frame_inputs ws))
+      (λ d. AskAlike-and_then (ok_or (fields_of d) (here BadField)) (fields_asked frame_profile_of (frame_inputs vs)) (fields_asked frame_profile_of (frame_inputs ws)) AskAlike-fields)
 
   pub AskAlike-frame : (header : List ℕ) → AskAlike (request_of_frame header vs) (request_of_frame header ws)
   AskAlike-frame header = rw long (by_length (nat_lt most_values (length ws)))
     where
       by_length : (is_long : Bool)
-          → AskAlike (unlocated (if is_long then Err (here TooLong) else text_asked (frame_inputs vs) header))
-          (unlocated (if is_long then Err (here TooLong) else text_asked (frame_inputs ws) header))
+          → AskAlike (unlocated (if is_long then Err (here TooLong) else text_asked frame_profile_of (frame_inputs vs) header))
+          (unlocated (if is_long then Err (here TooLong) else text_asked frame_profile_of (frame_inputs ws) header))
       by_length true = refl
       by_length false = AskAlike-text header

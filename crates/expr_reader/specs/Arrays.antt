@@ -12,6 +12,7 @@ use Rattle.expr_reader.specs.Fields.{whole_of, cons_of, list_in, fields_of}
 use Rattle.expr_reader.specs.Frame.{dims_alone, framed_tensor}
 use Rattle.expr_reader.specs.Limits.{most_values}
 use Rattle.expr_reader.specs.Place.{Step, field, Located, here, unlocated}
+use Rattle.expr_reader.specs.Profile.{frame_profile_of}
 use Rattle.expr_reader.specs.Request.{Asked, text_asked}
 use Rattle.expr_reader.specs.Tensors.{Named, named_by, or_place}
 use Rattle.expr_reader.specs.declared.array.Array.{Array}
@@ -72,4 +73,4 @@ header_sizes d =
 abbrev pub request_of_arrays : List ℕ → List (List ℤ) → Result Asked Fault
 request_of_arrays header arrays =
     unlocated (if nat_lt most_values (length (joined arrays)) then Err (here TooLong)
-    else text_asked (array_inputs arrays) header)
+    else text_asked frame_profile_of (array_inputs arrays) header)

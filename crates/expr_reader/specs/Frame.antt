@@ -11,6 +11,7 @@ use Rattle.tensor_ops.specs.Contents.{Contents}
 use Rattle.expr_reader.specs.Fields.{has_members}
 use Rattle.expr_reader.specs.Limits.{most_values}
 use Rattle.expr_reader.specs.Place.{Step, field, Located, here, unlocated}
+use Rattle.expr_reader.specs.Profile.{frame_profile_of}
 use Rattle.expr_reader.specs.Request.{Asked, text_asked}
 use Rattle.expr_reader.specs.Tensors.{Named, dims_in, named_by, or_place}
 use Rattle.expr_reader.specs.declared.fault.Fault.{Fault}
@@ -62,4 +63,4 @@ frame_inputs values rank d = or_place (bad_framed rank values) d (framed_in valu
 abbrev pub request_of_frame : List ℕ → List ℤ → Result Asked Fault
 request_of_frame header values =
     unlocated (if nat_lt most_values (length values) then Err (here TooLong)
-    else text_asked (frame_inputs values) header)
+    else text_asked frame_profile_of (frame_inputs values) header)

@@ -1,7 +1,7 @@
--- What the versions of the text allow.
+-- What the versions of texts and of frames allow.
 use Rattle.std.specs.Prelude.{ℕ, List, [], ◌∷◌, Option, Some, None, ◌==◌, if◌then◌else◌}
 use Rattle.std.specs.Str.{bytes_eq}
-use Rattle.expr_reader.specs.Table.{Operation, operations_1, operations_2}
+use Rattle.expr_reader.specs.Table.{Operation, operations_1, operations_2, operations_3}
 
 -- the greatest number of workers, the highest rank, and the operations by their names
 pub record Profile : Type 0 where
@@ -15,9 +15,21 @@ version_1 = record { workers = 64; rank = 6; operations = operations_1 }
 abbrev pub version_2 : Profile
 version_2 = record { workers = 256; rank = 8; operations = operations_2 }
 
+abbrev pub version_3 : Profile
+version_3 = record { workers = 256; rank = 8; operations = operations_3 }
+
+-- what the version of a number allows, where there is such a version
+abbrev pub Versions : Type 0
+Versions = ℕ → Option Profile
+
+-- the versions of a text
 abbrev pub profile_of : ℕ → Option Profile
 profile_of version =
     if version == 1 then Some version_1 else (if version == 2 then Some version_2 else None)
+
+-- the versions of a frame: those of a text, and the third
+abbrev pub frame_profile_of : Versions
+frame_profile_of version = if version == 3 then Some version_3 else profile_of version
 
 -- the operation of a name, among those of a version
 abbrev pub operation_named : List ℕ → List (List ℕ × Operation) → Option Operation

@@ -8,7 +8,7 @@ use Rattle.expr_reader.specs.Fields.{Fields, fields_of, reading, whole_of, withi
 use Rattle.expr_reader.specs.Limits.{most_bytes, greatest_block}
 use Rattle.expr_reader.specs.Node.{within_limit, node_at}
 use Rattle.expr_reader.specs.Place.{field, Located, here, at, below, unlocated}
-use Rattle.expr_reader.specs.Profile.{Profile, profile_of}
+use Rattle.expr_reader.specs.Profile.{Profile, Versions, profile_of}
 use Rattle.expr_reader.specs.Steps.{and_then}
 use Rattle.expr_reader.specs.Tensors.{Named, inputs_in}
 use Rattle.expr_reader.specs.declared.fault.Fault.{Fault}
@@ -24,18 +24,22 @@ pub record Asked : Type 0 where
   pub term : Term
 
 -- what the version allows
-abbrev pub profile_in : Fields → Option Profile
-profile_in f = option_and_then profile_of (whole_of f.version)
+abbrev pub profile_in : Versions → Fields → Option Profile
+profile_in versions f = option_and_then versions (whole_of f.version)
+
+-- the version of data that has the five fields
+abbrev pub version_in : Data → Option ℕ
+version_in d = option_and_then (λ f. whole_of f.version) (fields_of d)
 
 -- what inputs are read as, where ranks end there: names and tensors, or their fault
 abbrev pub Naming : Type 0
 Naming = ℕ → Data → Result Named Located
 
-module _ (named : Naming) where
+module _ (versions : Versions) (named : Naming) where
   -- what fields ask for: each is looked at where those before it have no fault
   abbrev pub fields_asked : Fields → Result Asked Located
   fields_asked f =
-      and_then (ok_or (profile_in f) (at (field (codes "version")) BadVersion)) (λ p.
+      and_then (ok_or (profile_in versions f) (at (field (codes "version")) BadVersion)) (λ p.
       and_then (ok_or (within 1 p.workers f.workers) (at (field (codes "workers")) BadWorkers))
       (λ workers.
       and_then (ok_or (within 1 greatest_block f.block) (at (field (codes "block")) BadBlock))
@@ -58,7 +62,7 @@ module _ (named : Naming) where
 abbrev pub part_asked : Data → Data → Result Asked Located
 part_asked d expr =
     and_then (ok_or (fields_of d) (here BadField))
-    (λ f. fields_asked inputs_in (record f { expr = expr }))
+    (λ f. fields_asked profile_of inputs_in (record f { expr = expr }))
 
 -- the data of a text, where it is not too long and has a reading
 abbrev pub data_of : List ℕ → Result Data Located
@@ -66,12 +70,12 @@ data_of text =
     if nat_lt most_bytes (length text) then Err (here TooLong)
     else ok_or (reading text) (here NotJson)
 
-abbrev pub text_asked : Naming → List ℕ → Result Asked Located
-text_asked named text = and_then (data_of text) (data_asked named)
+abbrev pub text_asked : Versions → Naming → List ℕ → Result Asked Located
+text_asked versions named text = and_then (data_of text) (data_asked versions named)
 
 -- the request of a text, or its first fault and where it is
 abbrev pub request_at : List ℕ → Result Asked Located
-request_at text = text_asked inputs_in text
+request_at text = text_asked profile_of inputs_in text
 
 -- the request of a text, or its first fault
 abbrev pub request_of : List ℕ → Result Asked Fault

@@ -80,6 +80,18 @@ operations_2 = operations_1
     ∷ (codes "concat", two (size ∷ []) (λ a. concat a.0))
     ∷ (codes "convolve", two (sizes ∷ []) (λ a. convolve a.0)) ∷ [])
 
+-- the operations of the third version: all of the second, and these on whole numbers
+abbrev pub operations_3 : List (List ℕ × Operation)
+operations_3 = operations_2
+    ++ ((codes "floor_divide", on_pairs binary.FloorDivide)
+    ∷ (codes "remainder", on_pairs binary.Remainder)
+    ∷ (codes "bit_and", on_pairs binary.BitAnd)
+    ∷ (codes "bit_or", on_pairs binary.BitOr)
+    ∷ (codes "bit_xor", on_pairs binary.BitXor)
+    ∷ (codes "bit_not", on_each unary.BitNot)
+    ∷ (codes "shift_left", on_pairs binary.ShiftLeft)
+    ∷ (codes "shift_right", on_pairs binary.ShiftRight) ∷ [])
+
 -- parts of these: the first 19, the 6 behind them, and the rest of the first version's
 abbrev pub operations_on_values : List (List ℕ × Operation)
 operations_on_values = take 19 operations_1
@@ -93,3 +105,7 @@ operations_along_axes = drop 25 operations_1
 -- those that the second version has beside them
 abbrev pub operations_added : List (List ℕ × Operation)
 operations_added = drop 32 operations_2
+
+-- and those that the third has beside these
+abbrev pub operations_on_integers : List (List ℕ × Operation)
+operations_on_integers = drop 36 operations_3

@@ -22,8 +22,8 @@ mod version;
 pub use array::Array;
 pub use fault::Fault;
 pub use laws::{
-    arrays_mean_frames, frames_ask_alike, frames_mean_texts, other_arrays_have_faults,
-    unfilled_headers_have_faults,
+    arrays_mean_frames, frames_ask_alike, frames_keep_versions, frames_mean_texts,
+    other_arrays_have_faults, unfilled_headers_have_faults,
 };
 pub use place::{Indices, Located, MAX_DEPTH, Place};
 pub use request::{Parsed, Request};

@@ -6,7 +6,7 @@ ghost use Rattle.std.specs.Prelude.{MatchOption, length, IsErrOf, option_map, co
 ghost use Rattle.serde_json.specs.View.{view};
 ghost use Rattle.expr_reader.specs.Arrays.{arrays_under, joined, request_of_arrays};
 ghost use Rattle.expr_reader.specs.Asked.{asked_under};
-ghost use Rattle.expr_reader.specs.private.Behind.{source_of, naming_by};
+ghost use Rattle.expr_reader.specs.private.Behind.{source_of, naming_by, versions_by, asked_by};
 ghost use Rattle.expr_reader.specs.private.Counted.{member_count};
 ghost use Rattle.expr_reader.specs.Frame.{request_of_frame};
 ghost use Rattle.expr_reader.specs.Limits.{most_bytes, most_values};
@@ -14,11 +14,12 @@ ghost use Rattle.expr_reader.specs.Located.{steps_under, located_under};
 ghost use Rattle.expr_reader.specs.Node.{tree_at};
 ghost use Rattle.expr_reader.specs.private.Outcome.{IsToldAt};
 ghost use Rattle.expr_reader.specs.Place.{field, here, below, unlocated};
+ghost use Rattle.expr_reader.specs.Profile.{profile_of};
 ghost use Rattle.expr_reader.specs.Request.{profile_in, fields_asked, data_asked, part_asked};
 ghost use Rattle.expr_reader.specs.Request.{data_of, request_of};
 ghost use Rattle.expr_reader.specs.private.Shown.{fields_under, IsNamed};
 ghost use Rattle.expr_reader.specs.Tensors.{Named, inputs_in, given};
-ghost use Rattle.expr_reader.specs.private.Version.{profile_under};
+ghost use Rattle.expr_reader.specs.private.Version.{profile_under, versions_under};
 ghost use Rattle.expr_reader.specs.private.Walked.{IsShaped, tree_under};
 
 use crate::array::Array;
@@ -29,7 +30,7 @@ use crate::node::{Subtree, read_node};
 use crate::place::{Indices, Located, Place};
 use crate::request::{Parsed, Request};
 use crate::values::Values;
-use crate::version::Version;
+use crate::version::{Version, Versions};
 use crate::{MAX_BLOCK, MAX_TEXT, MAX_VALUES};
 use serde_json::Value;
 use std::alloc::Global;
@@ -138,9 +139,9 @@ pub fn parse_request(alloc: Global, text: &[u8]) -> Result<Parsed, Fault>
 /// The fault of a request, and where it is. A text's is that which [`read_request`] answers: the
 /// walk is the same.
 pub fn locate(alloc: Global, parsed: &Parsed) -> Option<Located<'_>>
-    ensures { MatchOption result (IsOk (data_asked inputs_in (view parsed.now.value)))
+    ensures { MatchOption result (IsOk (data_asked profile_of inputs_in (view parsed.now.value)))
         (λ found. (found.fault ≡ Fault.NoMemory)
-        ⊎ (data_asked inputs_in (view parsed.now.value) ≡ Err (located_under found))) }
+        ⊎ (data_asked profile_of inputs_in (view parsed.now.value) ≡ Err (located_under found))) }
 {
     let mut place = Place::Whole;
     match read_value(alloc, &parsed.value, Values::InText, &mut place) {
@@ -174,7 +175,7 @@ fn read_value<'v, 'a>(
     requires few { member_count (view value.now) ≤ most_bytes + 1 }
     requires start { steps_under place.old ≡ [] }
     ensures { IsToldAt asked_under
-        (data_asked (naming_by (source_of values.entry)) (view value.now))
+        (asked_by (source_of values.entry) (view value.now))
         (steps_under place.new) result }
 {
     let Some(fields) = Fields::of(value) else {
@@ -192,10 +193,11 @@ fn read_fields<'v, 'a>(
 ) -> Result<Request<'a>, Fault>
     requires { member_count (view fields.now.inputs.now) ≤ most_bytes + 1 }
     ensures { IsToldAt asked_under
-        (fields_asked (naming_by (source_of values.entry)) (fields_under fields.now))
+        (fields_asked (versions_by (source_of values.entry)) (naming_by (source_of values.entry))
+        (fields_under fields.now))
         (steps_under place.new) result }
 {
-    let Some(version) = version_of(fields) else {
+    let Some(version) = version_of(fields, values.versions()) else {
         *place = Place::Field("version");
         return Err(Fault::BadVersion);
     };
@@ -244,9 +246,10 @@ fn read_tree(
     }
 }
 
-/// The version that the fields name.
-fn version_of(fields: &Fields<'_>) -> Option<Version>
-    ensures { option_map profile_under result ≡ profile_in (fields_under fields.now) }
+/// The version that the fields name, among those that there are.
+fn version_of(fields: &Fields<'_>, versions: Versions) -> Option<Version>
+    ensures { option_map profile_under result
+        ≡ profile_in (versions_under versions) (fields_under fields.now) }
 {
-    Version::of(fields.version.as_u64()?)
+    Version::of(fields.version.as_u64()?, versions)
 }

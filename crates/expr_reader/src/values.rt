@@ -4,10 +4,12 @@ ghost use Rattle.std.specs.Prelude.{◌≡◌, ◌≤◌, length, IfOk};
 ghost use Rattle.serde_json.specs.View.{view};
 ghost use Rattle.tensor_ops.specs.Legal.{highest_rank};
 ghost use Rattle.expr_reader.specs.private.Outcome.{IsReadOr};
+ghost use Rattle.expr_reader.specs.private.Version.{versions_under};
 
 use crate::array::Array;
 use crate::fault::Fault;
 use crate::tensors::{read_array_tensor, read_framed_tensor, read_tensor};
+use crate::version::Versions;
 use serde_json::Value;
 use std::alloc::Global;
 use tensor_ops::Tensor;
@@ -22,7 +24,18 @@ pub(crate) enum Values<'a> {
 }
 
 impl<'a> Values<'a> {
-    ghost use Rattle.expr_reader.specs.private.Behind.{source_of, tensor_by, left_by, is_end, HasFirst};
+    ghost use Rattle.expr_reader.specs.private.Behind.{source_of, versions_by, tensor_by, left_by, is_end};
+    ghost use Rattle.expr_reader.specs.private.Behind.{HasFirst};
+
+    /// Which versions there are.
+    pub(crate) fn versions(self) -> Versions
+        ensures { versions_under result ≡ versions_by (source_of self.entry) }
+    {
+        match self {
+            Values::InText => Versions::OfTexts,
+            Values::Behind(_) | Values::Apart(_) => Versions::OfFrames,
+        }
+    }
 
     /// The tensor that a member is, with the first of the values or arrays where there are any.
     pub(crate) fn first_tensor(

@@ -1,32 +1,42 @@
-//! The versions of the text and what each allows.
+//! The versions of texts and of frames, and what each allows.
 
 ghost use Rattle.std.specs.Prelude.{◌≡◌, ◌⊎◌, option_map};
 ghost use Rattle.expr_reader.specs.Profile.{operation_named};
 ghost use Rattle.expr_reader.specs.Table.{operations_on_values, movements, operations_along_axes};
-ghost use Rattle.expr_reader.specs.Table.{operations_1, operations_added};
+ghost use Rattle.expr_reader.specs.Table.{operations_1, operations_2, operations_added};
+ghost use Rattle.expr_reader.specs.Table.{operations_on_integers};
 ghost use Rattle.expr_reader.specs.private.Version.{operation_under};
 
 use crate::operation::{Binary, Operation, Unary};
 use tensor_ops::{BinaryScalar, Reducer, UnaryScalar};
 
-/// A version of the text.
+/// A version of a text or a frame.
 #[derive(Clone, Copy, Debug, Eq, PartialEq)]
 pub(crate) enum Version {
     One,
     Two,
+    Three,
+}
+
+/// Which versions there are: a frame has the third beside those of a text.
+#[derive(Clone, Copy, Debug, Eq, PartialEq)]
+pub(crate) enum Versions {
+    OfTexts,
+    OfFrames,
 }
 
 impl Version {
-    ghost use Rattle.expr_reader.specs.Profile.{profile_of, operation_named};
-    ghost use Rattle.expr_reader.specs.private.Version.{profile_under, operation_under};
+    ghost use Rattle.expr_reader.specs.Profile.{operation_named};
+    ghost use Rattle.expr_reader.specs.private.Version.{profile_under, versions_under, operation_under};
 
-    /// The version of a number.
-    pub(crate) fn of(number: u64) -> Option<Version>
-        ensures { option_map profile_under result ≡ profile_of number }
+    /// The version of a number, among those that there are.
+    pub(crate) fn of(number: u64, versions: Versions) -> Option<Version>
+        ensures { option_map profile_under result ≡ versions_under versions number }
     {
-        match number {
-            1 => Some(Version::One),
-            2 => Some(Version::Two),
+        match (number, versions) {
+            (1, _) => Some(Version::One),
+            (2, _) => Some(Version::Two),
+            (3, Versions::OfFrames) => Some(Version::Three),
             _ => None,
         }
     }
@@ -37,7 +47,7 @@ impl Version {
     {
         match self {
             Version::One => 64,
-            Version::Two => 256,
+            Version::Two | Version::Three => 256,
         }
     }
 
@@ -48,7 +58,7 @@ impl Version {
     {
         match self {
             Version::One => 6,
-            Version::Two => 8,
+            Version::Two | Version::Three => 8,
         }
     }
 
@@ -59,7 +69,8 @@ impl Version {
     {
         match self {
             Version::One => first_operation(name),
-            Version::Two => first_operation(name).or(added_operation(name)),
+            Version::Two => second_operation(name),
+            Version::Three => second_operation(name).or(operation_on_integers(name)),
         }
     }
 }
@@ -72,6 +83,13 @@ fn first_operation(name: &str) -> Option<Operation>
     operation_on_values(name)
         .or(movement(name))
         .or(operation_along_axes(name))
+}
+
+/// The operation of a name in the second version.
+fn second_operation(name: &str) -> Option<Operation>
+    ensures { option_map operation_under result ≡ operation_named name.now operations_2 }
+{
+    first_operation(name).or(added_operation(name))
 }
 
 /// An operation that works each value out from those at its own place.
@@ -142,6 +160,23 @@ fn added_operation(name: &str) -> Option<Operation>
         "pad" => Some(Operation::One(Unary::Pad)),
         "concat" => Some(Operation::Two(Binary::Concat)),
         "convolve" => Some(Operation::Two(Binary::Convolve)),
+        _ => None,
+    }
+}
+
+/// The operation of a name that the third version adds.
+fn operation_on_integers(name: &str) -> Option<Operation>
+    ensures { option_map operation_under result ≡ operation_named name.now operations_on_integers }
+{
+    match name {
+        "floor_divide" => Some(Operation::Two(Binary::Pairwise(BinaryScalar::FloorDivide))),
+        "remainder" => Some(Operation::Two(Binary::Pairwise(BinaryScalar::Remainder))),
+        "bit_and" => Some(Operation::Two(Binary::Pairwise(BinaryScalar::BitAnd))),
+        "bit_or" => Some(Operation::Two(Binary::Pairwise(BinaryScalar::BitOr))),
+        "bit_xor" => Some(Operation::Two(Binary::Pairwise(BinaryScalar::BitXor))),
+        "bit_not" => Some(Operation::One(Unary::Each(UnaryScalar::BitNot))),
+        "shift_left" => Some(Operation::Two(Binary::Pairwise(BinaryScalar::ShiftLeft))),
+        "shift_right" => Some(Operation::Two(Binary::Pairwise(BinaryScalar::ShiftRight))),
         _ => None,
     }
 }

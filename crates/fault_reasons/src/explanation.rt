@@ -4,6 +4,7 @@ ghost use Rattle.std.specs.Prelude.{◌≡◌, ◌⊎◌, ◌++◌, None, Some, 
 ghost use Rattle.std.specs.Cow.{cow_slice_items};
 ghost use Rattle.serde_json.specs.View.{view};
 ghost use Rattle.expr_reader.specs.Located.{located_under};
+ghost use Rattle.expr_reader.specs.Profile.{profile_of};
 ghost use Rattle.expr_reader.specs.Request.{request_at, data_asked};
 ghost use Rattle.expr_reader.specs.Tensors.{inputs_in};
 ghost use Rattle.fault_reasons.specs.Explained.{Tells, IsExplained, fault_line};
@@ -84,7 +85,7 @@ fn explain_text(alloc: Global, text: &[u8]) -> Result<Told, AllocError>
 /// Explains a text that was parsed.
 fn explain_parsed(alloc: Global, parsed: &Parsed) -> Result<Told, AllocError>
     ensures { IfOk result (λ told.
-        Tells (data_asked inputs_in (view parsed.now.value)) told.fault told.lines.items) }
+        Tells (data_asked profile_of inputs_in (view parsed.now.value)) told.fault told.lines.items) }
 {
     let Some(located) = locate(alloc, parsed) else {
         return Ok(Told {

@@ -54,9 +54,15 @@ pub(crate) fn why_operation(
         );
     };
     let shown = quoted(alloc, name)?;
-    if known_operation(name).is_some() {
+    if let Some(operation) = known_operation(name) {
+        let first = operation.version;
+        let whose = if first == 3 {
+            ", which frames alone have,"
+        } else {
+            ","
+        };
         return format!(in alloc;
-            "{shown} is an operation of version 2, and this is a text of version {version}"
+            "{shown} is an operation of version {first}{whose} and this is a text of version {version}"
         );
     }
     match near(name) {

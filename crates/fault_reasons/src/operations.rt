@@ -65,6 +65,7 @@ pub(crate) fn known_operation(name: &str) -> Option<Operation> {
         .or(movement(name))
         .or(along_axes(name))
         .or(added(name))
+        .or(on_integers(name))
 }
 
 /// An operation on so many operands, without arguments.
@@ -142,5 +143,19 @@ fn added(name: &str) -> Option<Operation> {
     Some(Operation {
         version: 2,
         ..operation
+    })
+}
+
+/// An operation of version 3 alone.
+fn on_integers(name: &str) -> Option<Operation> {
+    let operands = match name {
+        "bit_not" => 1,
+        "floor_divide" | "remainder" | "bit_and" | "bit_or" | "bit_xor" => 2,
+        "shift_left" | "shift_right" => 2,
+        _ => return None,
+    };
+    Some(Operation {
+        version: 3,
+        ..plain(operands)
     })
 }

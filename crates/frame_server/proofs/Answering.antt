@@ -15,6 +15,7 @@ use Rattle.expr_reader.specs.Asked.{asked_under}
 use Rattle.expr_reader.specs.Frame.{frame_inputs, request_of_frame}
 use Rattle.expr_reader.specs.Place.{here, unlocated}
 use Rattle.expr_reader.specs.Contents.{Contents}
+use Rattle.expr_reader.specs.Profile.{frame_profile_of}
 use Rattle.expr_reader.specs.Request.{Asked, data_of, text_asked}
 use Rattle.expr_reader.specs.Steps.{and_then}
 use Rattle.expr_reader.specs.declared.request.Request.{Request}
@@ -109,7 +110,7 @@ request-long : (header : List ℕ) (values : List ℤ) → (most_bytes < length 
 request-long header values (inr many) = rw (lt-ltb most_values (length values) many) refl
 request-long header values (inl long) = by_count (nat_lt most_values (length values))
   where
-    by_count : (are_many : Bool) → answer_from (unlocated (if are_many then Err (here TooLong) else text_asked (frame_inputs values) header)) ≡ fault TooLong
+    by_count : (are_many : Bool) → answer_from (unlocated (if are_many then Err (here TooLong) else text_asked frame_profile_of (frame_inputs values) header)) ≡ fault TooLong
     by_count true = refl
     by_count false = rw (lt-ltb most_bytes (length header) long) refl
 

@@ -26,7 +26,10 @@ kinds =
     ∷ One Pad ∷ Two Concat
     ∷ One (Reduce Sum) ∷ One (Reduce Prod) ∷ One (Reduce Max) ∷ One (Reduce Min)
     ∷ One (Reduce All) ∷ One (Reduce Any)
-    ∷ Two Contract ∷ Two Convolve ∷ []
+    ∷ Two Contract ∷ Two Convolve
+    ∷ Two (Pairwise two.FloorDivide) ∷ Two (Pairwise two.Remainder)
+    ∷ Two (Pairwise two.BitAnd) ∷ Two (Pairwise two.BitOr) ∷ Two (Pairwise two.BitXor)
+    ∷ One (Each one.BitNot) ∷ Two (Pairwise two.ShiftLeft) ∷ Two (Pairwise two.ShiftRight) ∷ []
 
 kinds-number_of : (k : Kind) → slice_get kinds (number_of k) ≡ Some k
 unfolding kinds
@@ -35,6 +38,7 @@ kinds-number_of (One (Each one.Neg)) = refl
 kinds-number_of (One (Each one.Abs)) = refl
 kinds-number_of (One (Each one.Square)) = refl
 kinds-number_of (One (Each one.Not)) = refl
+kinds-number_of (One (Each one.BitNot)) = refl
 kinds-number_of (One Constant) = refl
 kinds-number_of (One Broadcast) = refl
 kinds-number_of (One Slice) = refl
@@ -63,6 +67,13 @@ kinds-number_of (Two (Pairwise two.Gt)) = refl
 kinds-number_of (Two (Pairwise two.Ge)) = refl
 kinds-number_of (Two (Pairwise two.And)) = refl
 kinds-number_of (Two (Pairwise two.Or)) = refl
+kinds-number_of (Two (Pairwise two.FloorDivide)) = refl
+kinds-number_of (Two (Pairwise two.Remainder)) = refl
+kinds-number_of (Two (Pairwise two.BitAnd)) = refl
+kinds-number_of (Two (Pairwise two.BitOr)) = refl
+kinds-number_of (Two (Pairwise two.BitXor)) = refl
+kinds-number_of (Two (Pairwise two.ShiftLeft)) = refl
+kinds-number_of (Two (Pairwise two.ShiftRight)) = refl
 kinds-number_of (Two Concat) = refl
 kinds-number_of (Two Contract) = refl
 kinds-number_of (Two Convolve) = refl

@@ -23,6 +23,7 @@ each_number one.Neg = 1
 each_number one.Abs = 2
 each_number one.Square = 3
 each_number one.Not = 4
+each_number one.BitNot = 42
 
 abbrev pub pairwise_number : BinaryScalar → ℕ
 pairwise_number two.Add = 5
@@ -38,6 +39,13 @@ pairwise_number two.Gt = 14
 pairwise_number two.Ge = 15
 pairwise_number two.And = 16
 pairwise_number two.Or = 17
+pairwise_number two.FloorDivide = 37
+pairwise_number two.Remainder = 38
+pairwise_number two.BitAnd = 39
+pairwise_number two.BitOr = 40
+pairwise_number two.BitXor = 41
+pairwise_number two.ShiftLeft = 43
+pairwise_number two.ShiftRight = 44
 
 abbrev pub reducer_number : Reducer → ℕ
 reducer_number Sum = 29

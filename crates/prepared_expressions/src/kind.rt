@@ -1,6 +1,6 @@
 //! The operations without their arguments, and their numbers.
 
-ghost use Rattle.std.specs.Prelude.{◌≡◌, ◌≢◌, IfSome, IfNone};
+ghost use Rattle.std.specs.Prelude.{◌≡◌, ◌≢◌, ◌<◌, IfSome, IfNone};
 ghost use Rattle.prepared_expressions.specs.declared.kind.Kind.{Kind};
 ghost use Rattle.prepared_expressions.specs.Numbers.{number_of};
 
@@ -58,6 +58,9 @@ impl Kind {
         ensures known { IfSome result (λ kind. number_of kind ≡ number) }
         ensures unknown { IfNone result ((kind : Kind) → number_of kind ≢ number) }
     {
+        if number > 28 {
+            return Kind::later(number);
+        }
         Some(match number {
             0 => Kind::Input,
             1 => Kind::One(UnaryKind::Each(UnaryScalar::Neg)),
@@ -88,6 +91,17 @@ impl Kind {
             26 => Kind::One(UnaryKind::Stride),
             27 => Kind::One(UnaryKind::Pad),
             28 => Kind::Two(BinaryKind::Concat),
+            _ => return None,
+        })
+    }
+
+    /// The one of a greater number: a reduction, a product, or an operation on whole numbers.
+    fn later(number: u64) -> Option<Kind>
+        requires { 28 < number }
+        ensures known { IfSome result (λ kind. number_of kind ≡ number) }
+        ensures unknown { IfNone result ((kind : Kind) → number_of kind ≢ number) }
+    {
+        Some(match number {
             29 => Kind::One(UnaryKind::Reduce(Reducer::Sum)),
             30 => Kind::One(UnaryKind::Reduce(Reducer::Prod)),
             31 => Kind::One(UnaryKind::Reduce(Reducer::Max)),
@@ -96,6 +110,14 @@ impl Kind {
             34 => Kind::One(UnaryKind::Reduce(Reducer::Any)),
             35 => Kind::Two(BinaryKind::Contract),
             36 => Kind::Two(BinaryKind::Convolve),
+            37 => Kind::Two(BinaryKind::Pairwise(BinaryScalar::FloorDivide)),
+            38 => Kind::Two(BinaryKind::Pairwise(BinaryScalar::Remainder)),
+            39 => Kind::Two(BinaryKind::Pairwise(BinaryScalar::BitAnd)),
+            40 => Kind::Two(BinaryKind::Pairwise(BinaryScalar::BitOr)),
+            41 => Kind::Two(BinaryKind::Pairwise(BinaryScalar::BitXor)),
+            42 => Kind::One(UnaryKind::Each(UnaryScalar::BitNot)),
+            43 => Kind::Two(BinaryKind::Pairwise(BinaryScalar::ShiftLeft)),
+            44 => Kind::Two(BinaryKind::Pairwise(BinaryScalar::ShiftRight)),
             _ => return None,
         })
     }
@@ -113,6 +135,7 @@ impl UnaryKind {
             UnaryKind::Each(UnaryScalar::Abs) => 2,
             UnaryKind::Each(UnaryScalar::Square) => 3,
             UnaryKind::Each(UnaryScalar::Not) => 4,
+            UnaryKind::Each(UnaryScalar::BitNot) => 42,
             UnaryKind::Constant => 19,
             UnaryKind::Broadcast => 20,
             UnaryKind::Slice => 21,
@@ -153,6 +176,13 @@ impl BinaryKind {
             BinaryKind::Pairwise(BinaryScalar::Ge) => 15,
             BinaryKind::Pairwise(BinaryScalar::And) => 16,
             BinaryKind::Pairwise(BinaryScalar::Or) => 17,
+            BinaryKind::Pairwise(BinaryScalar::FloorDivide) => 37,
+            BinaryKind::Pairwise(BinaryScalar::Remainder) => 38,
+            BinaryKind::Pairwise(BinaryScalar::BitAnd) => 39,
+            BinaryKind::Pairwise(BinaryScalar::BitOr) => 40,
+            BinaryKind::Pairwise(BinaryScalar::BitXor) => 41,
+            BinaryKind::Pairwise(BinaryScalar::ShiftLeft) => 43,
+            BinaryKind::Pairwise(BinaryScalar::ShiftRight) => 44,
             BinaryKind::Concat => 28,
             BinaryKind::Contract => 35,
             BinaryKind::Convolve => 36,

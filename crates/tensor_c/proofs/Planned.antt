@@ -21,6 +21,7 @@ use Rattle.expr_reader.specs.Limits.{greatest_block, most_values}
 use Rattle.expr_reader.specs.Node.{Tree, tree_at}
 use Rattle.expr_reader.specs.Place.{Step, field, Located, here, at, below, unlocated}
 use Rattle.expr_reader.specs.Profile.{Profile}
+use Rattle.expr_reader.specs.Profile.{frame_profile_of}
 use Rattle.expr_reader.specs.Request.{Asked, profile_in}
 use Rattle.expr_reader.specs.Request.{fields_asked, data_asked, data_of, text_asked}
 use Rattle.expr_reader.specs.Steps.{and_then}
@@ -272,10 +273,10 @@ module _ (values : List ℤ) (arrays : List (List ℤ)) where
         by_object None k l m = λ a is. absurd (cc)
         by_object (Some ms) k l m = Follows-members ms k l m (framed_tensors p.rank values ms) refl
 
-  Follows-fields : (f : Fields) → Follows (unlocated (fields_asked (frame_inputs values) f)) (unlocated (fields_asked (array_inputs arrays) f))
-      (unlocated (fields_asked (frame_inputs (joined arrays)) f))
+  Follows-fields : (f : Fields) → Follows (unlocated (fields_asked frame_profile_of (frame_inputs values) f)) (unlocated (fields_asked frame_profile_of (array_inputs arrays) f))
+      (unlocated (fields_asked frame_profile_of (frame_inputs (joined arrays)) f))
   Follows-fields f =
-      Follows-and_then (ok_or (profile_in f) (at (field (codes "version")) BadVersion))
+      Follows-and_then (ok_or (profile_in frame_profile_of f) (at (field (codes "version")) BadVersion))
       (workers_asked (frame_inputs values) f) (workers_asked (array_inputs arrays) f) (workers_asked (frame_inputs (joined arrays)) f)
       (λ p. Follows-and_then (ok_or (within 1 p.workers f.workers) (at (field (codes "workers")) BadWorkers))
       (block_asked (frame_inputs values) f p) (block_asked (array_inputs arrays) f p) (block_asked (frame_inputs (joined arrays)) f p)
@@ -284,12 +285,12 @@ module _ (values : List ℤ) (arrays : List (List ℤ)) where
       (inputs_asked (frame_inputs (joined arrays)) f p workers)
       (λ block. Follows-inputs f p workers block)))
 
-  Follows-text : (header : List ℕ) → Follows (unlocated (text_asked (frame_inputs values) header)) (unlocated (text_asked (array_inputs arrays) header))
-      (unlocated (text_asked (frame_inputs (joined arrays)) header))
+  Follows-text : (header : List ℕ) → Follows (unlocated (text_asked frame_profile_of (frame_inputs values) header)) (unlocated (text_asked frame_profile_of (array_inputs arrays) header))
+      (unlocated (text_asked frame_profile_of (frame_inputs (joined arrays)) header))
   Follows-text header =
-      Follows-and_then (data_of header) (data_asked (frame_inputs values)) (data_asked (array_inputs arrays)) (data_asked (frame_inputs (joined arrays)))
-      (λ d. Follows-and_then (ok_or (fields_of d) (here BadField)) (fields_asked (frame_inputs values)) (fields_asked (array_inputs arrays))
-      (fields_asked (frame_inputs (joined arrays))) Follows-fields)
+      Follows-and_then (data_of header) (data_asked frame_profile_of (frame_inputs values)) (data_asked frame_profile_of (array_inputs arrays)) (data_asked frame_profile_of (frame_inputs (joined arrays)))
+      (λ d. Follows-and_then (ok_or (fields_of d) (here BadField)) (fields_asked frame_profile_of (frame_inputs values)) (fields_asked frame_profile_of (array_inputs arrays))
+      (fields_asked frame_profile_of (frame_inputs (joined arrays))) Follows-fields)
 
   pub plan-answers : (header : List ℕ) (a : Asked) → request_of_frame header values ≡ Ok a → length (joined arrays) ≤ most_values
       → answer_of_plan (prepared_of a) arrays ≡ answer_of_arrays header arrays
@@ -297,10 +298,10 @@ module _ (values : List ℤ) (arrays : List (List ℤ)) where
       by_length (nat_lt most_values (length values)) is
     where
       y : Result Asked Fault
-      y = unlocated (text_asked (array_inputs arrays) header)
+      y = unlocated (text_asked frame_profile_of (array_inputs arrays) header)
 
       z : Result Asked Fault
-      z = unlocated (text_asked (frame_inputs (joined arrays)) header)
+      z = unlocated (text_asked frame_profile_of (frame_inputs (joined arrays)) header)
 
       short : nat_lt most_values (length (joined arrays)) ≡ false
       short = le-ltb most_values (length (joined arrays)) few
@@ -326,7 +327,7 @@ module _ (values : List ℤ) (arrays : List (List ℤ)) where
           let second : AskAlike (Ok a) y = subst (λ x. AskAlike (Ok a) x) (behind ∙ sym asked.same) first in
           by_answer us y asked.inputs second
 
-      by_length : (is_long : Bool) → unlocated (if is_long then Err (here TooLong) else text_asked (frame_inputs values) header) ≡ Ok a
+      by_length : (is_long : Bool) → unlocated (if is_long then Err (here TooLong) else text_asked frame_profile_of (frame_inputs values) header) ≡ Ok a
           → answer_of_plan (prepared_of a) arrays ≡ answer_of_arrays header arrays
       by_length true is = absurd (cc)
       by_length false is =

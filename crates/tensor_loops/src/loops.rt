@@ -34,6 +34,7 @@ pub fn apply(operation: UnaryScalar, values: &mut [i64])
         UnaryScalar::Abs => apply_each(UnaryScalar::Abs, values),
         UnaryScalar::Square => apply_each(UnaryScalar::Square, values),
         UnaryScalar::Not => apply_each(UnaryScalar::Not, values),
+        UnaryScalar::BitNot => apply_each(UnaryScalar::BitNot, values),
     }
 }
 
@@ -74,6 +75,25 @@ pub fn put_combined(link: Link, values: &mut [i64], first: &[i64], second: &[i64
         BinaryScalar::Ge => put_each(BinaryScalar::Ge, turned, values, first, second),
         BinaryScalar::And => put_each(BinaryScalar::And, turned, values, first, second),
         BinaryScalar::Or => put_each(BinaryScalar::Or, turned, values, first, second),
+        BinaryScalar::FloorDivide => put_each(
+            BinaryScalar::FloorDivide,
+            turned,
+            values,
+            first,
+            second,
+        ),
+        BinaryScalar::Remainder => put_each(BinaryScalar::Remainder, turned, values, first, second),
+        BinaryScalar::BitAnd => put_each(BinaryScalar::BitAnd, turned, values, first, second),
+        BinaryScalar::BitOr => put_each(BinaryScalar::BitOr, turned, values, first, second),
+        BinaryScalar::BitXor => put_each(BinaryScalar::BitXor, turned, values, first, second),
+        BinaryScalar::ShiftLeft => put_each(BinaryScalar::ShiftLeft, turned, values, first, second),
+        BinaryScalar::ShiftRight => put_each(
+            BinaryScalar::ShiftRight,
+            turned,
+            values,
+            first,
+            second,
+        ),
     }
 }
 
@@ -114,6 +134,55 @@ pub fn combine_row(link: Link, values: &mut [i64], at: usize, list: &[i64], row:
         BinaryScalar::Ge => combine_by_steps(BinaryScalar::Ge, turned, values, at, list, row),
         BinaryScalar::And => combine_by_steps(BinaryScalar::And, turned, values, at, list, row),
         BinaryScalar::Or => combine_by_steps(BinaryScalar::Or, turned, values, at, list, row),
+        BinaryScalar::FloorDivide => combine_by_steps(
+            BinaryScalar::FloorDivide,
+            turned,
+            values,
+            at,
+            list,
+            row,
+        ),
+        BinaryScalar::Remainder => combine_by_steps(
+            BinaryScalar::Remainder,
+            turned,
+            values,
+            at,
+            list,
+            row,
+        ),
+        BinaryScalar::BitAnd => combine_by_steps(
+            BinaryScalar::BitAnd,
+            turned,
+            values,
+            at,
+            list,
+            row,
+        ),
+        BinaryScalar::BitOr => combine_by_steps(BinaryScalar::BitOr, turned, values, at, list, row),
+        BinaryScalar::BitXor => combine_by_steps(
+            BinaryScalar::BitXor,
+            turned,
+            values,
+            at,
+            list,
+            row,
+        ),
+        BinaryScalar::ShiftLeft => combine_by_steps(
+            BinaryScalar::ShiftLeft,
+            turned,
+            values,
+            at,
+            list,
+            row,
+        ),
+        BinaryScalar::ShiftRight => combine_by_steps(
+            BinaryScalar::ShiftRight,
+            turned,
+            values,
+            at,
+            list,
+            row,
+        ),
     }
 }
 

@@ -25,6 +25,7 @@ term_of (expr.Neg' p a) = unary (each unary_scalar.Neg) (term_of a)
 term_of (expr.Abs' p a) = unary (each unary_scalar.Abs) (term_of a)
 term_of (expr.Square' p a) = unary (each unary_scalar.Square) (term_of a)
 term_of (expr.Not' p a) = unary (each unary_scalar.Not) (term_of a)
+term_of (expr.BitNot' p a) = unary (each unary_scalar.BitNot) (term_of a)
 term_of (expr.Add' p a q b) = binary (pairwise binary_scalar.Add) (term_of a) (term_of b)
 term_of (expr.Sub' p a q b) = binary (pairwise binary_scalar.Sub) (term_of a) (term_of b)
 term_of (expr.Mul' p a q b) = binary (pairwise binary_scalar.Mul) (term_of a) (term_of b)
@@ -38,6 +39,17 @@ term_of (expr.Gt' p a q b) = binary (pairwise binary_scalar.Gt) (term_of a) (ter
 term_of (expr.Ge' p a q b) = binary (pairwise binary_scalar.Ge) (term_of a) (term_of b)
 term_of (expr.And' p a q b) = binary (pairwise binary_scalar.And) (term_of a) (term_of b)
 term_of (expr.Or' p a q b) = binary (pairwise binary_scalar.Or) (term_of a) (term_of b)
+term_of (expr.FloorDivide' p a q b) =
+    binary (pairwise binary_scalar.FloorDivide) (term_of a) (term_of b)
+term_of (expr.Remainder' p a q b) =
+    binary (pairwise binary_scalar.Remainder) (term_of a) (term_of b)
+term_of (expr.BitAnd' p a q b) = binary (pairwise binary_scalar.BitAnd) (term_of a) (term_of b)
+term_of (expr.BitOr' p a q b) = binary (pairwise binary_scalar.BitOr) (term_of a) (term_of b)
+term_of (expr.BitXor' p a q b) = binary (pairwise binary_scalar.BitXor) (term_of a) (term_of b)
+term_of (expr.ShiftLeft' p a q b) =
+    binary (pairwise binary_scalar.ShiftLeft) (term_of a) (term_of b)
+term_of (expr.ShiftRight' p a q b) =
+    binary (pairwise binary_scalar.ShiftRight) (term_of a) (term_of b)
 term_of (expr.Select' p c q a r b) = ternary select (term_of c) (term_of a) (term_of b)
 term_of (expr.Constant' p a v) = unary (constant v) (term_of a)
 term_of (expr.Broadcast' p a counts) = unary (movement (broadcast counts.items)) (term_of a)

@@ -24,6 +24,8 @@ pub enum Expr {
     Square(Box<Expr>),
     /// Whether each value is 0.
     Not(Box<Expr>),
+    /// The bits that each value hasn't.
+    BitNot(Box<Expr>),
     /// The sum of two tensors of equal dims, value by value.
     Add(Box<Expr>, Box<Expr>),
     /// The first less the second.
@@ -50,6 +52,21 @@ pub enum Expr {
     And(Box<Expr>, Box<Expr>),
     /// Whether one is true.
     Or(Box<Expr>, Box<Expr>),
+    /// The first divided by the second, rounded down; by 0 it is 0.
+    FloorDivide(Box<Expr>, Box<Expr>),
+    /// What that leaves, of the second's sign; by 0 it is 0.
+    Remainder(Box<Expr>, Box<Expr>),
+    /// The bits that both have.
+    BitAnd(Box<Expr>, Box<Expr>),
+    /// The bits that one has.
+    BitOr(Box<Expr>, Box<Expr>),
+    /// The bits that one alone has.
+    BitXor(Box<Expr>, Box<Expr>),
+    /// The first times two, as often as the second says; 0 where it says less than 0 or more than 63.
+    ShiftLeft(Box<Expr>, Box<Expr>),
+    /// The first divided by two, rounded down, as often; by all 64 places where it says less than 0 or
+    /// more than 63.
+    ShiftRight(Box<Expr>, Box<Expr>),
     /// The second's value where the first's is true, and else the third's; three of equal dims.
     Select(Box<Expr>, Box<Expr>, Box<Expr>),
     /// This value everywhere.
@@ -101,6 +118,7 @@ impl Drop for Expr {
             | Expr::Abs(_)
             | Expr::Square(_)
             | Expr::Not(_)
+            | Expr::BitNot(_)
             | Expr::Add(_, _)
             | Expr::Sub(_, _)
             | Expr::Mul(_, _)
@@ -114,6 +132,13 @@ impl Drop for Expr {
             | Expr::Ge(_, _)
             | Expr::And(_, _)
             | Expr::Or(_, _)
+            | Expr::FloorDivide(_, _)
+            | Expr::Remainder(_, _)
+            | Expr::BitAnd(_, _)
+            | Expr::BitOr(_, _)
+            | Expr::BitXor(_, _)
+            | Expr::ShiftLeft(_, _)
+            | Expr::ShiftRight(_, _)
             | Expr::Select(_, _, _)
             | Expr::Constant(_, _)
             | Expr::Broadcast(_, _)
@@ -147,6 +172,7 @@ impl Expr {
             UnaryScalar::Abs => Expr::Abs(operand),
             UnaryScalar::Square => Expr::Square(operand),
             UnaryScalar::Not => Expr::Not(operand),
+            UnaryScalar::BitNot => Expr::BitNot(operand),
         }
     }
 
@@ -169,6 +195,13 @@ impl Expr {
             BinaryScalar::Ge => Expr::Ge(left, right),
             BinaryScalar::And => Expr::And(left, right),
             BinaryScalar::Or => Expr::Or(left, right),
+            BinaryScalar::FloorDivide => Expr::FloorDivide(left, right),
+            BinaryScalar::Remainder => Expr::Remainder(left, right),
+            BinaryScalar::BitAnd => Expr::BitAnd(left, right),
+            BinaryScalar::BitOr => Expr::BitOr(left, right),
+            BinaryScalar::BitXor => Expr::BitXor(left, right),
+            BinaryScalar::ShiftLeft => Expr::ShiftLeft(left, right),
+            BinaryScalar::ShiftRight => Expr::ShiftRight(left, right),
         }
     }
 
@@ -196,6 +229,7 @@ impl Expr {
             Expr::Abs(a) => applied(UnaryScalar::Abs, a),
             Expr::Square(a) => applied(UnaryScalar::Square, a),
             Expr::Not(a) => applied(UnaryScalar::Not, a),
+            Expr::BitNot(a) => applied(UnaryScalar::BitNot, a),
             Expr::Add(a, b) => combined(BinaryScalar::Add, a, b),
             Expr::Sub(a, b) => combined(BinaryScalar::Sub, a, b),
             Expr::Mul(a, b) => combined(BinaryScalar::Mul, a, b),
@@ -209,6 +243,13 @@ impl Expr {
             Expr::Ge(a, b) => combined(BinaryScalar::Ge, a, b),
             Expr::And(a, b) => combined(BinaryScalar::And, a, b),
             Expr::Or(a, b) => combined(BinaryScalar::Or, a, b),
+            Expr::FloorDivide(a, b) => combined(BinaryScalar::FloorDivide, a, b),
+            Expr::Remainder(a, b) => combined(BinaryScalar::Remainder, a, b),
+            Expr::BitAnd(a, b) => combined(BinaryScalar::BitAnd, a, b),
+            Expr::BitOr(a, b) => combined(BinaryScalar::BitOr, a, b),
+            Expr::BitXor(a, b) => combined(BinaryScalar::BitXor, a, b),
+            Expr::ShiftLeft(a, b) => combined(BinaryScalar::ShiftLeft, a, b),
+            Expr::ShiftRight(a, b) => combined(BinaryScalar::ShiftRight, a, b),
             Expr::Select(c, a, b) => Node::Ternary(Ternary::Select, c, a, b),
             Expr::Constant(a, value) => Node::Unary(Unary::Constant(*value), a),
             Expr::Broadcast(a, counts) => moved(Movement::Broadcast(counts), a),

@@ -1,3 +1,5 @@
 pub mod Factors
+pub mod Floors
 pub mod InTurns
 pub mod Runs
+pub mod Shifts

@@ -1,4 +1,5 @@
 pub mod Combining
+pub mod Division
 pub mod Scalars
 pub mod Splicing
 pub mod Values

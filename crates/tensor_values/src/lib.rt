@@ -2,6 +2,7 @@
 //! of them, the reducers, and the turns that the places of two lists take in one.
 #![tactic(auto)]
 
+mod division;
 mod operations;
 mod reducer;
 mod turns;

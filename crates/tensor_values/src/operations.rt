@@ -3,6 +3,8 @@
 ghost use Rattle.std.specs.Prelude.{◌≡◌};
 ghost use Rattle.tensor_values.specs.Scalars.{is_true, truth, applied, combined};
 
+use crate::division::{floor_quotient, remainder, shifted_left, shifted_right};
+
 /// The operations on one value.
 #[derive(Clone, Copy, Debug, Drop, Eq, PartialEq)]
 pub enum UnaryScalar {
@@ -10,6 +12,7 @@ pub enum UnaryScalar {
     Abs,
     Square,
     Not,
+    BitNot,
 }
 
 /// The operations on two values.
@@ -28,6 +31,13 @@ pub enum BinaryScalar {
     Ge,
     And,
     Or,
+    FloorDivide,
+    Remainder,
+    BitAnd,
+    BitOr,
+    BitXor,
+    ShiftLeft,
+    ShiftRight,
 }
 
 /// The operation on one value, modulo 2^64.
@@ -40,6 +50,7 @@ pub fn applied(operation: UnaryScalar, x: i64) -> i64
         UnaryScalar::Abs => x.wrapping_abs(),
         UnaryScalar::Square => x.wrapping_mul(x),
         UnaryScalar::Not => truth(!is_true(x)),
+        UnaryScalar::BitNot => !x,
     }
 }
 
@@ -62,6 +73,13 @@ pub fn combined(operation: BinaryScalar, x: i64, y: i64) -> i64
         BinaryScalar::Ge => truth(x >= y),
         BinaryScalar::And => truth(is_true(x) && is_true(y)),
         BinaryScalar::Or => truth(is_true(x) || is_true(y)),
+        BinaryScalar::FloorDivide => floor_quotient(x, y),
+        BinaryScalar::Remainder => remainder(x, y),
+        BinaryScalar::BitAnd => x & y,
+        BinaryScalar::BitOr => x | y,
+        BinaryScalar::BitXor => x ^ y,
+        BinaryScalar::ShiftLeft => shifted_left(x, y),
+        BinaryScalar::ShiftRight => shifted_right(x, y),
     }
 }
 

@@ -8,11 +8,8 @@ from typing import Dict, Iterable
 
 from ..values import numpy
 
-DIVISION = (
-    "the runtime has no division; (x[..., None] >= range(n, end, n)).sum(axis=-1) is x // n of "
-    "numbers from 0 to end"
-)
-BITS = "the runtime has nothing bit by bit: programs/xor_checksum.py takes bits by comparisons"
+DIVISION = "whole numbers have x // y and x % y, which are rounded down"
+BITS = "x & y, x | y, x ^ y, ~x, x << n and x >> n go bit by bit"
 FLOATS = "all values are whole numbers: take numpy's of run(x).array()"
 MEAN = "a mean is a fraction: run(x.sum()).item() / x.size"
 BY_VALUES = "its dims depend on values, which aren't known before: take numpy's of run(x)"
@@ -26,8 +23,8 @@ MEMORY = "an expression has no memory: run(x).array() has"
 # Names of numpy's functions and of its arrays' methods, by what is said of them.
 ADVICE: Dict[str, str] = {}
 for words, said in (
-    ("divide true_divide floor_divide floor_div remainder mod fmod divmod modf gcd lcm", DIVISION),
-    ("right_shift bitwise_right_shift packbits unpackbits bitwise_count", BITS),
+    ("divide true_divide floor_div fmod modf gcd lcm", DIVISION),
+    ("packbits unpackbits bitwise_count", BITS),
     ("mean average nanmean", MEAN),
     (
         "std var median percentile quantile cov corrcoef sqrt cbrt exp exp2 expm1 log log2 log10 "

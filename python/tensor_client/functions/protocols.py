@@ -15,7 +15,7 @@ from .advice import ADVICE
 # The functions that an array on the left of an operator calls, with what stands on the right.
 OPERATORS = frozenset(
     "add subtract multiply matmul power less less_equal equal not_equal greater greater_equal "
-    "bitwise_and bitwise_or bitwise_xor left_shift".split()
+    "bitwise_and bitwise_or bitwise_xor left_shift right_shift floor_divide remainder divmod".split()
 )
 
 

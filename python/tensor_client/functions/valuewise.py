@@ -11,11 +11,12 @@ from .scans import SCANS, scanned
 
 __all__ = [
     "abs", "absolute", "add", "around", "astype", "bitwise_and", "bitwise_invert",
-    "bitwise_left_shift", "bitwise_not", "bitwise_or", "bitwise_xor", "clip", "conj",
-    "conjugate", "equal", "fmax", "fmin", "greater", "greater_equal", "invert", "left_shift",
-    "less", "less_equal", "logical_and", "logical_not", "logical_or", "logical_xor", "maximum",
-    "minimum", "multiply", "negative", "not_equal", "positive", "pow", "power", "real", "round",
-    "sign", "signbit", "square", "subtract",
+    "bitwise_left_shift", "bitwise_not", "bitwise_or", "bitwise_right_shift", "bitwise_xor", "clip",
+    "conj", "conjugate", "divmod", "equal", "floor_divide", "fmax", "fmin", "greater",
+    "greater_equal", "invert", "left_shift", "less", "less_equal", "logical_and", "logical_not",
+    "logical_or", "logical_xor", "maximum", "minimum", "mod", "multiply", "negative", "not_equal",
+    "positive", "pow", "power", "real", "remainder", "right_shift", "round", "sign", "signbit",
+    "square", "subtract",
 ]
 
 
@@ -82,7 +83,9 @@ negative = of_one("negative", "neg", "The negated values: -x.", "[1, -2]", "[-1,
 absolute = of_one("absolute", "abs", "The absolute values.", "[1, -2]", "[1, 2]")
 square = of_one("square", "square", "Each value times itself.", "[1, -2]", "[1, 4]")
 logical_not = of_one("logical_not", "not_", "1 where a value is 0, else 0.", "[0, 5]", "[1, 0]")
-invert = of_one("invert", "__invert__", "1 for 0 and 0 for 1.", "tensor([1, 2]) < 2", "[0, 1]")
+invert = of_one(
+    "invert", "__invert__", "Each bit turned: ~x. Of truth values 1 for 0.", "[0, 5]", "[-1, -6]"
+)
 
 add = of_two("add", "add", "The sums: x + y.", "[1, 2], 3", "[4, 5]")
 subtract = of_two("subtract", "sub", "The differences: x - y.", "[1, 2], 3", "[-2, -1]")
@@ -114,22 +117,41 @@ logical_or = of_two(
     "logical_or", "or_", "1 where one value is not 0, else 0.", "[0, 5], 0", "[0, 1]"
 )
 bitwise_and = of_two(
-    "bitwise_and", "__and__", "x & y, of truth values.", "tensor([1, 2]) < 2, True", "[1, 0]"
+    "bitwise_and", "__and__", "The bits that both have: x & y.", "[12, 5], 10", "[8, 0]"
 )
 bitwise_or = of_two(
-    "bitwise_or", "__or__", "x | y, of truth values.", "tensor([1, 2]) < 2, True", "[1, 1]"
+    "bitwise_or", "__or__", "The bits that one has: x | y.", "[12, 5], 10", "[14, 15]"
 )
 bitwise_xor = of_two(
-    "bitwise_xor", "__xor__", "x ^ y, of truth values.", "tensor([1, 2]) < 2, True", "[0, 1]"
+    "bitwise_xor", "__xor__", "The bits that one alone has: x ^ y.", "[12, 5], 10", "[6, 15]"
 )
 left_shift = of_two(
-    "left_shift", "__lshift__", "x << n, by a number of places.", "[1, -2], 3", "[8, -16]"
+    "left_shift", "__lshift__", "x << n, by so many places.", "[1, -2], 3", "[8, -16]"
+)
+right_shift = of_two(
+    "right_shift", "__rshift__", "x >> n, by so many places.", "[9, -9], 1", "[4, -5]"
+)
+floor_divide = of_two(
+    "floor_divide", "floor_divide", "The quotients, rounded down: x // y.", "[7, -7], 2", "[3, -4]"
+)
+remainder = of_two(
+    "remainder", "remainder", "What those leave, of the sign of y: x % y.", "[7, -7], 2", "[1, 1]"
 )
 power = of_two("power", "__pow__", "Powers by a whole number from 0 up.", "[2, 3], 5", "[32, 243]")
 
 # By numpy's other names.
 abs, pow, bitwise_not, bitwise_invert = absolute, power, invert, invert
-fmax, fmin, bitwise_left_shift = maximum, minimum, left_shift
+fmax, fmin, mod = maximum, minimum, remainder
+bitwise_left_shift, bitwise_right_shift = left_shift, right_shift
+
+
+def divmod(x1: Any, x2: Any) -> Any:
+    """The quotients, rounded down, and what they leave.
+
+    >>> [run(it).values for it in divmod([7, -7], 2)]
+    [[3, -4], [1, 1]]
+    """
+    return floor_divide(x1, x2), remainder(x1, x2)
 
 
 def logical_xor(x1: Any, x2: Any) -> Any:
@@ -161,7 +183,7 @@ def round(x: Any, decimals: int = 0) -> Any:
     [14, 16]
     """
     if whole(decimals) < 0:
-        raise TypeError("rounding to tens takes a division, which the runtime doesn't have")
+        raise TypeError("the runtime rounds quotients down, and to no tens")
     return an_expr(x)
 
 

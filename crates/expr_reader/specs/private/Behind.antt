@@ -1,13 +1,14 @@
 -- Where the code takes the values of tensors from, for its private clauses.
 use Rattle.std.specs.Prelude.{◌<◌, ◌≤◌, ℕ, ℤ, ⊤, Bool, true, false, List, [], ◌∷◌, length}
-use Rattle.std.specs.Prelude.{drop, Option, None}
+use Rattle.std.specs.Prelude.{drop, Option, None, Result}
 use Rattle.serde_json.specs.Data.{Data, Members}
 use Rattle.tensor_ops.specs.Contents.{Contents}
 use Rattle.expr_reader.specs.Arrays.{arrays_under, array_tensor, array_tensors, bad_array}
 use Rattle.expr_reader.specs.Frame.{framed_tensor, framed_tensors, bad_framed}
-use Rattle.expr_reader.specs.Place.{Step}
+use Rattle.expr_reader.specs.Place.{Step, Located}
 use Rattle.expr_reader.specs.Tensors.{tensor_in, tensors_in, bad_member, named_by, or_place}
-use Rattle.expr_reader.specs.Request.{Naming}
+use Rattle.expr_reader.specs.Profile.{Versions, profile_of, frame_profile_of}
+use Rattle.expr_reader.specs.Request.{Naming, Asked, data_asked}
 use Rattle.expr_reader.specs.declared.values.Values.{Values}
 use Rattle.expr_reader.specs.declared.values.Values.TheVariants.{InText, Behind, Apart}
 
@@ -58,6 +59,15 @@ place_by (apart arrays) rank ms = bad_array rank arrays ms
 abbrev pub naming_by : Source → Naming
 naming_by source rank d =
     or_place (place_by source rank) d (named_by (tensors_by source rank) d)
+
+-- which versions there are, and what data asks for among them
+abbrev pub versions_by : Source → Versions
+versions_by in_text = profile_of
+versions_by (behind values) = frame_profile_of
+versions_by (apart arrays) = frame_profile_of
+
+abbrev pub asked_by : Source → Data → Result Asked Located
+asked_by source d = data_asked (versions_by source) (naming_by source) d
 
 -- whether no values are left
 abbrev pub is_end : Source → Bool

@@ -4,11 +4,15 @@ use Rattle.tensor_ops.specs.Term as term
 use Rattle.tensor_ops.specs.Term.{each, constant, movement, pad, reduce, pairwise}
 use Rattle.tensor_ops.specs.Term.{concat, contract, convolve}
 use Rattle.expr_reader.specs.Arguments.{Form, size, sizes, pairs, flags, value, Arguments}
-use Rattle.expr_reader.specs.Profile.{Profile, version_1, version_2}
+use Rattle.expr_reader.specs.Profile.{Profile, version_1, version_2, version_3}
+use Rattle.expr_reader.specs.Profile as profile
+use Rattle.expr_reader.specs.Profile.{profile_of, frame_profile_of}
 use Rattle.expr_reader.specs.Table as table
 use Rattle.expr_reader.specs.Table.{one, two, three}
 use Rattle.expr_reader.specs.declared.version.Version.{Version}
 use Rattle.expr_reader.specs.declared.version.Version.TheVariants as version
+use Rattle.expr_reader.specs.declared.version.Versions.{Versions}
+use Rattle.expr_reader.specs.declared.version.Versions.TheVariants.{OfTexts, OfFrames}
 use Rattle.expr_reader.specs.declared.operation.Operation.{Operation}
 use Rattle.expr_reader.specs.declared.operation.Operation.TheVariants.{One, Two, Select}
 use Rattle.expr_reader.specs.declared.operation.Unary.{Unary}
@@ -22,6 +26,11 @@ use Rattle.expr_reader.specs.declared.operation.Binary.TheVariants.{Convolve}
 abbrev pub profile_under : Version → Profile
 profile_under version.One = version_1
 profile_under version.Two = version_2
+profile_under version.Three = version_3
+
+abbrev pub versions_under : Versions → profile.Versions
+versions_under OfTexts = profile_of
+versions_under OfFrames = frame_profile_of
 
 -- the forms of the arguments of an operation on one operand
 abbrev pub forms_of : Unary → List Form

@@ -8,11 +8,14 @@ use tensor_ops::{
     Binary, BinaryScalar, Dims, Expr, Inputs, Movement, Node, Reducer, Tensor, Unary, UnaryScalar,
 };
 
-/// A thousand sums, differences or values without their sign.
+/// A thousand sums, differences, values without their sign or of bits put together.
 const SUMS: u64 = 200;
 
-/// A thousand products, comparisons or choices.
+/// A thousand products, comparisons, shifts or choices.
 const PRODUCTS: u64 = 400;
+
+/// A thousand quotients, or what these leave.
+const QUOTIENTS: u64 = 3_000;
 
 /// A thousand values of a tensor that are read in rows.
 const IN_ROWS: u64 = 250;
@@ -119,7 +122,7 @@ fn thousand_of(expr: &Expr, places: u64) -> u64 {
 /// What a thousand values of an operation on one operand take beside it.
 fn one_operand(operation: Unary<'_>) -> u64 {
     match operation {
-        Unary::Each(UnaryScalar::Neg | UnaryScalar::Abs) => SUMS,
+        Unary::Each(UnaryScalar::Neg | UnaryScalar::Abs | UnaryScalar::BitNot) => SUMS,
         Unary::Each(UnaryScalar::Square | UnaryScalar::Not) => PRODUCTS,
         Unary::Move(Movement::Reshape(_)) | Unary::Constant(_) => 0,
         Unary::Move(Movement::Shuffle(_) | Movement::Stride(_)) | Unary::Pad(_) => SCATTERED,
@@ -131,7 +134,14 @@ fn one_operand(operation: Unary<'_>) -> u64 {
 /// What a thousand values of an operation on two operands take beside them.
 fn two_operands(operation: Binary<'_>) -> u64 {
     match operation {
-        Binary::Pairwise(BinaryScalar::Add | BinaryScalar::Sub) => SUMS,
+        Binary::Pairwise(
+            BinaryScalar::Add
+            | BinaryScalar::Sub
+            | BinaryScalar::BitAnd
+            | BinaryScalar::BitOr
+            | BinaryScalar::BitXor,
+        ) => SUMS,
+        Binary::Pairwise(BinaryScalar::FloorDivide | BinaryScalar::Remainder) => QUOTIENTS,
         Binary::Pairwise(_) => PRODUCTS,
         Binary::Concat(_) => SCATTERED,
         Binary::Contract(_) | Binary::Convolve(_) => MULTIPLIED,

@@ -14,6 +14,7 @@ use Rattle.expr_reader.proofs.text.read_fields.Goals as goal
 workers-few : (v : Version) → (profile_under v).workers ≤ most_workers
 workers-few version.One = omega arith
 workers-few version.Two = omega arith
+workers-few version.Three = omega arith
 
 pub invariant_of-result-clause-few_workers : goal.invariant_of-result-clause-few_workers
 invariant_of-result-clause-few_workers c =
