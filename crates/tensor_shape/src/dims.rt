@@ -3,9 +3,11 @@
 ghost use Rattle.std.specs.Prelude.{◌≡◌, ◌<◌, ◌≤◌, ◌↔◌, ℕ, List, length, take, slice_index};
 ghost use Rattle.std.specs.Prelude.{Ok, Err, IsTrue, OnOk, IfOk};
 ghost use Rattle.tensor_shape.specs.Index.{size_of, IsIndexOf, strides_from, place, index_of};
-ghost use Rattle.tensor_shape.specs.Legal.{highest_rank, most_elements, bulk_of, IsLegal};
+ghost use Rattle.tensor_shape.specs.Legal.{highest_rank, most_elements, text_elements};
+ghost use Rattle.tensor_shape.specs.Legal.{text_bounds, bulk_of, IsPossible, IsWithin, IsLegal};
 
-use crate::{MAX_ELEMENTS, MAX_RANK};
+use crate::MAX_RANK;
+use crate::bounds::Bounds;
 use arrayvec::ArrayVec;
 use std::marker::Model;
 use thiserror::Error;
@@ -14,7 +16,8 @@ use thiserror::Error;
 pub type PerAxis = ArrayVec<u64, MAX_RANK>;
 
 /// The dimensions of a tensor, the fastest axis first. They are legal: the rank is at most
-/// [`MAX_RANK`], and their product, a 0 counted as 1, at most [`MAX_ELEMENTS`].
+/// [`MAX_RANK`](crate::MAX_RANK), and their product, a 0 counted as 1, at most
+/// [`MAX_ELEMENTS`](crate::MAX_ELEMENTS).
 #[derive(Drop)]
 pub struct Dims {
     sizes: PerAxis,
@@ -41,17 +44,30 @@ pub enum ShapeFault {
 }
 
 impl Dims {
-    /// Dims of these sizes, the fastest axis first. Takes no memory.
+    /// Dims of these sizes, the fastest axis first, which get as large as those of a text may. Takes
+    /// no memory.
     pub fn new(sizes: &[u64]) -> Result<Dims, ShapeFault>
-        ensures ok { IfOk result (λ dims. (dims ≡ sizes.now) × IsLegal sizes.now) }
+        ensures ok { IfOk result (λ dims. (dims ≡ sizes.now)
+            × IsWithin (text_bounds highest_rank) sizes.now) }
         ensures rank { (result ≡ Err ShapeFault.RankTooHigh) ↔ (highest_rank < length sizes.now) }
         ensures elements { (result ≡ Err ShapeFault.TooManyElements)
-            ↔ ((length sizes.now ≤ highest_rank) × (most_elements < bulk_of sizes.now)) }
+            ↔ ((length sizes.now ≤ highest_rank) × (text_elements < bulk_of sizes.now)) }
     {
-        if sizes.len() > MAX_RANK {
+        Dims::within(Bounds::of_text(MAX_RANK), sizes)
+    }
+
+    /// Dims of these sizes, the fastest axis first, within these bounds. Takes no memory.
+    pub fn within(bounds: Bounds, sizes: &[u64]) -> Result<Dims, ShapeFault>
+        requires { IsPossible bounds }
+        ensures ok { IfOk result (λ dims. (dims ≡ sizes.now) × IsWithin bounds sizes.now) }
+        ensures rank { (result ≡ Err ShapeFault.RankTooHigh) ↔ (bounds.rank < length sizes.now) }
+        ensures elements { (result ≡ Err ShapeFault.TooManyElements)
+            ↔ ((length sizes.now ≤ bounds.rank) × (bounds.elements < bulk_of sizes.now)) }
+    {
+        if sizes.len() > bounds.rank {
             return Err(ShapeFault::RankTooHigh);
         }
-        if !holds_few(sizes) {
+        if !holds_few(bounds.elements, sizes) {
             return Err(ShapeFault::TooManyElements);
         }
         Ok(Dims { sizes: held(sizes) })
@@ -144,19 +160,19 @@ fn held(sizes: &[u64]) -> PerAxis
     }
 }
 
-/// Whether the product of the sizes, a 0 counted as 1, is within the limit.
-fn holds_few(sizes: &[u64]) -> bool
-    ensures { IsTrue result ↔ (bulk_of sizes.now ≤ most_elements) }
+/// Whether the product of the sizes, a 0 counted as 1, is within a limit.
+fn holds_few(limit: u64, sizes: &[u64]) -> bool
+    ensures { IsTrue result ↔ (bulk_of sizes.now ≤ limit) }
 {
     let mut bulk: u64 = 1;
     for size in sizes {
         let factor = (*size).max(1);
-        if factor > MAX_ELEMENTS / bulk {
+        if factor > limit / bulk {
             return false;
         }
         bulk *= factor;
     }
-    true
+    bulk <= limit
 }
 
 /// The product of sizes.

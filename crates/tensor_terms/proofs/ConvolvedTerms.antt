@@ -6,7 +6,7 @@ use Rattle.std.specs.List.{fold, range_with_len}
 use Rattle.std.specs.Prelude.{FitsSigned}
 use Rattle.std.specs.Result.{result_unwrap_or}
 use Rattle.std.proofs.lemmas.Int.{int_wrap_fits}
-use Rattle.tensor_shape.specs.Legal.{highest_rank}
+use Rattle.tensor_shape.specs.Legal.{widest}
 use Rattle.tensor_shape.specs.Index.{size_of, IsIndexOf, place, index_of}
 use Rattle.tensor_shape.specs.Wrap.{wrap}
 use Rattle.tensor_shape.proofs.Places.{index_of-place}
@@ -23,19 +23,19 @@ use Rattle.tensor_terms.proofs.SlidIndex.{IsIndexOf-under}
 module _ (inputs : List Contents) (axes : List ℕ) (a b : Term) where
   -- what is known of a convolution that has result dims
   pub record IsConvolved : Type 0 where
-    pub left : IsOk (dims_of highest_rank a inputs)
-    pub right : IsOk (dims_of highest_rank b inputs)
+    pub left : IsOk (dims_of widest a inputs)
+    pub right : IsOk (dims_of widest b inputs)
     pub dims : convolved_dims axes (shape_of a inputs) (shape_of b inputs)
         ≡ Ok (shape_of (binary (convolve axes) a b) inputs)
 
-  pub convolved-known : IsOk (dims_of highest_rank (binary (convolve axes) a b) inputs) → IsConvolved
+  pub convolved-known : IsOk (dims_of widest (binary (convolve axes) a b) inputs) → IsConvolved
   convolved-known h =
-      let two = with_two-known (convolved_dims axes) (dims_of highest_rank a inputs)
-      (dims_of highest_rank b inputs) h in
+      let two = with_two-known (convolved_dims axes) (dims_of widest a inputs)
+      (dims_of widest b inputs) h in
       record {
         left = two.0;
         right = two.1;
-        dims = sym two.2 ∙ Ok-unwrap (dims_of highest_rank (binary (convolve axes) a b) inputs) h;
+        dims = sym two.2 ∙ Ok-unwrap (dims_of widest (binary (convolve axes) a b) inputs) h;
       }
 
   -- where the loop stands: with the products from a place of the kernel on the value gives the whole
@@ -61,7 +61,7 @@ module _ (inputs : List Contents) (axes : List ℕ) (a b : Term) where
       ∙ ap (λ e. convolved_dims axes (shape_of a inputs) e) over.kernel ∙ is.dims)
 
   -- a place of the result, within what the loop's dims have
-  pub slid-outer : IsOk (dims_of highest_rank (binary (convolve axes) a b) inputs)
+  pub slid-outer : IsOk (dims_of widest (binary (convolve axes) a b) inputs)
       → (ds ks rs : List ℕ) (count p : ℕ) → SlidOver ds ks rs count
       → p < size_of (shape_of (binary (convolve axes) a b) inputs) → p < size_of rs
   slid-outer has_dims ds ks rs count p over inside =
@@ -78,7 +78,7 @@ module _ (inputs : List Contents) (axes : List ℕ) (a b : Term) where
       ∙ sym (convolved-fold axes (shape_of b inputs) (value a inputs) (value b inputs)
       (index_of (shape_of (binary (convolve axes) a b) inputs) p))
 
-  pub slid-next : IsOk (dims_of highest_rank (binary (convolve axes) a b) inputs)
+  pub slid-next : IsOk (dims_of widest (binary (convolve axes) a b) inputs)
       → (ds ks rs : List ℕ) (v w x y : ℤ) (k count p read : ℕ) → SlidOver ds ks rs count
       → k < count → p < size_of (shape_of (binary (convolve axes) a b) inputs)
       → read ≡ place ds (slid axes (index_of ks k) (index_of rs p))

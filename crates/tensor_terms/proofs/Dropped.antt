@@ -9,7 +9,7 @@ use Rattle.std.proofs.lemmas.Bool.{eq-eqb, ne_eqb, ltb-true}
 use Rattle.std.proofs.lemmas.Bool.{not-true, false_from_ne_true}
 use Rattle.std.proofs.lemmas.List.{length-append, length-map}
 use Rattle.std.proofs.Math.Nat.{mul-le-mul_left}
-use Rattle.tensor_shape.specs.Legal.{highest_rank, bulk_of, IsLegal, are_legal}
+use Rattle.tensor_shape.specs.Legal.{widest, bulk_of, IsLegal, are_legal}
 use Rattle.tensor_shape.proofs.Sizes.{one-le-bulk_of, bulk_of-take-le}
 use Rattle.tensor_terms.specs.Contraction.{firsts, contracted_dims}
 use Rattle.tensor_terms.specs.Movement.{is_among, has_all_below, shuffled_dims}
@@ -115,7 +115,7 @@ bulk_of-axes ds axes h =
     )
 
 pub are_legal-axes : (ds axes : List ℕ) → IsLegal ds → are_axes (length ds) axes ≡ true
-    → are_legal highest_rank (dims_at axes ds) ≡ true
+    → are_legal widest (dims_at axes ds) ≡ true
 are_legal-axes ds axes legal h =
     are_legal-below ds (dims_at axes ds) legal (omega (
       arith,
@@ -131,7 +131,7 @@ other_dims-among ds axes = ap (shuffled_dims ds) (others-among axes (length ds))
 
 -- a contraction that has result dims pairs no more axes than its first operand has
 pub length-pairs : (pairs : List (ℕ × ℕ)) (ds es : List ℕ)
-    → IsOk (contracted_dims highest_rank pairs ds es) → length pairs ≤ length ds
+    → IsOk (contracted_dims widest pairs ds es) → length pairs ≤ length ds
 length-pairs pairs ds es has =
     omega (
       arith,

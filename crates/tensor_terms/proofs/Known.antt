@@ -5,7 +5,7 @@ use Rattle.std.proofs.lemmas.Bool.{cases_Bool, and_parts, eqb-true, ltb-true, le
 use Rattle.std.specs.Cmp.Lexicographic.{pointwise, same_text}
 use Rattle.std.specs.Result.{result_unwrap_or}
 use Rattle.tensor_shape.specs.Index.{size_of}
-use Rattle.tensor_shape.specs.Legal.{highest_rank, most_elements, bulk_of, IsLegal, are_legal}
+use Rattle.tensor_shape.specs.Legal.{highest_rank, widest, most_elements, bulk_of, IsLegal, are_legal}
 use Rattle.tensor_terms.specs.Movement.{moved_dims, repeated_dims, shuffled_dims, strided_dims, none_is_zero, fit_within, has_all_below}
 use Rattle.tensor_terms.specs.Contraction.{firsts, seconds, outer_dims, contracted_dims, few_products, most_products}
 use Rattle.tensor_terms.specs.Convolution.{convolved_dims, fit_along, slid_dims}
@@ -22,7 +22,7 @@ check-known true rest fault h = (refl, h)
 check-known false rest fault h = (cc)
 
 -- dims that pass the test of being legal are
-pub IsLegal-are_legal : (ds : List ℕ) → are_legal highest_rank ds ≡ true → IsLegal ds
+pub IsLegal-are_legal : (ds : List ℕ) → are_legal widest ds ≡ true → IsLegal ds
 IsLegal-are_legal ds h =
     let parts = and_parts (nat_le (length ds) highest_rank) (nat_le (bulk_of ds) most_elements) h in
     record { rank = leb-true (length ds) highest_rank parts.0; elements = leb-true (bulk_of ds) most_elements parts.1 }
@@ -30,14 +30,14 @@ IsLegal-are_legal ds h =
 pub record IsBroadcast (counts ds : List ℕ) : Type 0 where
   pub long : length counts ≡ length ds
   pub some : none_is_zero counts ≡ true
-  pub legal : are_legal highest_rank (repeated_dims ds counts) ≡ true
-  pub dims : moved_dims highest_rank (broadcast counts) ds ≡ Ok (repeated_dims ds counts)
+  pub legal : are_legal widest (repeated_dims ds counts) ≡ true
+  pub dims : moved_dims widest (broadcast counts) ds ≡ Ok (repeated_dims ds counts)
 
-pub broadcast-known : (counts ds : List ℕ) → IsOk (moved_dims highest_rank (broadcast counts) ds) → IsBroadcast counts ds
+pub broadcast-known : (counts ds : List ℕ) → IsOk (moved_dims widest (broadcast counts) ds) → IsBroadcast counts ds
 broadcast-known counts ds h =
     let long = check-known (nat_eq (length counts) (length ds)) _ ShapeMismatch h in
     let some = check-known (none_is_zero counts) _ OutOfRange long.1 in
-    let legal = check-known (are_legal highest_rank (repeated_dims ds counts)) _ TooLarge some.1 in
+    let legal = check-known (are_legal widest (repeated_dims ds counts)) _ TooLarge some.1 in
     record {
       long = eqb-true (length counts) (length ds) long.0;
       some = some.0;
@@ -49,9 +49,9 @@ pub record IsSlice (offsets extents ds : List ℕ) : Type 0 where
   pub offsets_long : length offsets ≡ length ds
   pub extents_long : length extents ≡ length ds
   pub fits : fit_within ds offsets extents ≡ true
-  pub dims : moved_dims highest_rank (slice offsets extents) ds ≡ Ok extents
+  pub dims : moved_dims widest (slice offsets extents) ds ≡ Ok extents
 
-pub slice-known : (offsets extents ds : List ℕ) → IsOk (moved_dims highest_rank (slice offsets extents) ds) → IsSlice offsets extents ds
+pub slice-known : (offsets extents ds : List ℕ) → IsOk (moved_dims widest (slice offsets extents) ds) → IsSlice offsets extents ds
 slice-known offsets extents ds h =
     let long = check-known (nat_eq (length offsets) (length ds) && nat_eq (length extents) (length ds)) _ ShapeMismatch h in
     let fits = check-known (fit_within ds offsets extents) _ OutOfRange long.1 in
@@ -66,22 +66,22 @@ slice-known offsets extents ds h =
 pub record IsShuffle (order ds : List ℕ) : Type 0 where
   pub long : length order ≡ length ds
   pub all : has_all_below (length ds) order ≡ true
-  pub dims : moved_dims highest_rank (shuffle order) ds ≡ Ok (shuffled_dims ds order)
+  pub dims : moved_dims widest (shuffle order) ds ≡ Ok (shuffled_dims ds order)
 
-pub shuffle-known : (order ds : List ℕ) → IsOk (moved_dims highest_rank (shuffle order) ds) → IsShuffle order ds
+pub shuffle-known : (order ds : List ℕ) → IsOk (moved_dims widest (shuffle order) ds) → IsShuffle order ds
 shuffle-known order ds h =
     let long = check-known (nat_eq (length order) (length ds)) _ ShapeMismatch h in
     let all = check-known (has_all_below (length ds) order) _ OutOfRange long.1 in
     record { long = eqb-true (length order) (length ds) long.0; all = all.0; dims = rw (long.0, all.0) refl }
 
 pub record IsReshape (sizes ds : List ℕ) : Type 0 where
-  pub legal : are_legal highest_rank sizes ≡ true
+  pub legal : are_legal widest sizes ≡ true
   pub same : size_of sizes ≡ size_of ds
-  pub dims : moved_dims highest_rank (reshape sizes) ds ≡ Ok sizes
+  pub dims : moved_dims widest (reshape sizes) ds ≡ Ok sizes
 
-pub reshape-known : (sizes ds : List ℕ) → IsOk (moved_dims highest_rank (reshape sizes) ds) → IsReshape sizes ds
+pub reshape-known : (sizes ds : List ℕ) → IsOk (moved_dims widest (reshape sizes) ds) → IsReshape sizes ds
 reshape-known sizes ds h =
-    elim (cases_Bool (are_legal highest_rank sizes)) [
+    elim (cases_Bool (are_legal widest sizes)) [
       | inl legal ↦
           let checked = rw legal at h in
           let same = check-known (nat_eq (size_of sizes) (size_of ds)) (Ok sizes) ShapeMismatch checked in
@@ -92,9 +92,9 @@ reshape-known sizes ds h =
 pub record IsChip (offset axis : ℕ) (ds : List ℕ) : Type 0 where
   pub in_rank : axis < length ds
   pub in_axis : offset < get_or ds axis 0
-  pub dims : moved_dims highest_rank (chip offset axis) ds ≡ Ok (remove ds axis)
+  pub dims : moved_dims widest (chip offset axis) ds ≡ Ok (remove ds axis)
 
-pub chip-known : (offset axis : ℕ) (ds : List ℕ) → IsOk (moved_dims highest_rank (chip offset axis) ds) → IsChip offset axis ds
+pub chip-known : (offset axis : ℕ) (ds : List ℕ) → IsOk (moved_dims widest (chip offset axis) ds) → IsChip offset axis ds
 chip-known offset axis ds h =
     let inside = check-known (nat_lt axis (length ds) && nat_lt offset (get_or ds axis 0)) _ OutOfRange h in
     let each = and_parts (nat_lt axis (length ds)) (nat_lt offset (get_or ds axis 0)) inside.0 in
@@ -106,9 +106,9 @@ chip-known offset axis ds h =
 
 pub record IsReverse (flags : List Bool) (ds : List ℕ) : Type 0 where
   pub long : length flags ≡ length ds
-  pub dims : moved_dims highest_rank (reverse flags) ds ≡ Ok ds
+  pub dims : moved_dims widest (reverse flags) ds ≡ Ok ds
 
-pub reverse-known : (flags : List Bool) (ds : List ℕ) → IsOk (moved_dims highest_rank (reverse flags) ds) → IsReverse flags ds
+pub reverse-known : (flags : List Bool) (ds : List ℕ) → IsOk (moved_dims widest (reverse flags) ds) → IsReverse flags ds
 reverse-known flags ds h =
     let long = check-known (nat_eq (length flags) (length ds)) _ ShapeMismatch h in
     record { long = eqb-true (length flags) (length ds) long.0; dims = rw long.0 refl }
@@ -116,9 +116,9 @@ reverse-known flags ds h =
 pub record IsStride (steps ds : List ℕ) : Type 0 where
   pub long : length steps ≡ length ds
   pub some : none_is_zero steps ≡ true
-  pub dims : moved_dims highest_rank (stride steps) ds ≡ Ok (strided_dims ds steps)
+  pub dims : moved_dims widest (stride steps) ds ≡ Ok (strided_dims ds steps)
 
-pub stride-known : (steps ds : List ℕ) → IsOk (moved_dims highest_rank (stride steps) ds) → IsStride steps ds
+pub stride-known : (steps ds : List ℕ) → IsOk (moved_dims widest (stride steps) ds) → IsStride steps ds
 stride-known steps ds h =
     let long = check-known (nat_eq (length steps) (length ds)) _ ShapeMismatch h in
     let some = check-known (none_is_zero steps) _ OutOfRange long.1 in
@@ -148,12 +148,12 @@ pub record IsContraction (pairs : List (ℕ × ℕ)) (ds es : List ℕ) : Type 0
   pub first : are_axes (length ds) (firsts pairs) ≡ true
   pub second : are_axes (length es) (seconds pairs) ≡ true
   pub paired : dims_at (firsts pairs) ds ≡ dims_at (seconds pairs) es
-  pub dims : contracted_dims highest_rank pairs ds es ≡ Ok (outer_dims pairs ds es)
+  pub dims : contracted_dims widest pairs ds es ≡ Ok (outer_dims pairs ds es)
 
-few_products-known : (count : ℕ) (ds : List ℕ) → IsOk (with_one (few_products count) (legal_dims highest_rank ds))
-    → with_one (few_products count) (legal_dims highest_rank ds) ≡ Ok ds
+few_products-known : (count : ℕ) (ds : List ℕ) → IsOk (with_one (few_products count) (legal_dims widest ds))
+    → with_one (few_products count) (legal_dims widest ds) ≡ Ok ds
 few_products-known count ds h =
-    elim (cases_Bool (are_legal highest_rank ds)) [
+    elim (cases_Bool (are_legal widest ds)) [
       | inl legal ↦
           let checked = rw legal at h in
           let few = check-known (nat_le (size_of ds * count) most_products) (Ok ds) TooLarge checked in
@@ -161,7 +161,7 @@ few_products-known count ds h =
       | inr illegal ↦ let bad = rw illegal at h in (cc)
     ]
 
-pub contraction-known : (pairs : List (ℕ × ℕ)) (ds es : List ℕ) → IsOk (contracted_dims highest_rank pairs ds es) → IsContraction pairs ds es
+pub contraction-known : (pairs : List (ℕ × ℕ)) (ds es : List ℕ) → IsOk (contracted_dims widest pairs ds es) → IsContraction pairs ds es
 contraction-known pairs ds es h =
     let legal = check-known (are_axes (length ds) (firsts pairs) && are_axes (length es) (seconds pairs)) _ OutOfRange h in
     let each = and_parts (are_axes (length ds) (firsts pairs)) (are_axes (length es) (seconds pairs)) legal.0 in
@@ -193,5 +193,5 @@ convolution-known axes ds ks h =
     }
 
 -- a movement has one list of result dims
-pub moved_dims-unique : (m : Movement) (ds es rs : List ℕ) → moved_dims highest_rank m ds ≡ Ok es → moved_dims highest_rank m ds ≡ Ok rs → es ≡ rs
+pub moved_dims-unique : (m : Movement) (ds es rs : List ℕ) → moved_dims widest m ds ≡ Ok es → moved_dims widest m ds ≡ Ok rs → es ≡ rs
 moved_dims-unique m ds es rs first second = ap (λ r. result_unwrap_or r []) (sym first ∙ second)

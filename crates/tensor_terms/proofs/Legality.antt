@@ -6,13 +6,14 @@ use Rattle.std.proofs.lemmas.List.{length-map}
 use Rattle.std.proofs.lemmas.Grind.{div_ceil_times}
 use Rattle.std.proofs.Math.Nat.{mul-le-mul, mul-le-mul_left, mul-le-mul_right}
 use Rattle.std.specs.Int.{div_ceil}
-use Rattle.tensor_shape.specs.Legal.{highest_rank, most_elements, bulk_of, IsLegal, are_legal}
+use Rattle.tensor_shape.specs.Legal.{highest_rank, widest, most_elements, bulk_of, IsLegal, are_legal}
+use Rattle.tensor_shape.specs.declared.bounds.Bounds.{Bounds}
 use Rattle.tensor_shape.proofs.Sizes.{one-le-bulk_of, bulk_of-take-le, bulk_of-drop-le}
 use Rattle.tensor_terms.specs.Movement.{fit_within, repeated_dims, shuffled_dims, strided_dims, none_is_zero, has_all_below}
 use Rattle.tensor_terms.proofs.Permutations.{bulk_of-permutation}
 
 -- dims with no more axes and no greater bulk than legal ones
-pub are_legal-below : (ds es : List ℕ) → IsLegal ds → length es ≤ length ds → bulk_of es ≤ bulk_of ds → are_legal highest_rank es ≡ true
+pub are_legal-below : (ds es : List ℕ) → IsLegal ds → length es ≤ length ds → bulk_of es ≤ bulk_of ds → are_legal widest es ≡ true
 are_legal-below ds es legal shorter smaller =
     and_from (nat_le (length es) highest_rank) (nat_le (bulk_of es) most_elements)
     (le-leb (length es) highest_rank (omega (arith, legal.rank)))
@@ -30,13 +31,13 @@ bulk_of-slice (d ∷ ds) (o ∷ os) (e ∷ es) same long fits =
     mul-le-mul first (bulk_of-slice ds os es (omega arith) (omega arith) parts.1)
 
 pub are_legal-slice : (ds os es : List ℕ) → IsLegal ds → length os ≡ length ds → length es ≡ length ds → fit_within ds os es ≡ true
-    → are_legal highest_rank es ≡ true
+    → are_legal widest es ≡ true
 are_legal-slice ds os es legal same long fits =
     are_legal-below ds es legal (omega arith) (bulk_of-slice ds os es same long fits)
 
 -- a shuffle keeps the bulk
 pub are_legal-shuffle : (ds order : List ℕ) → IsLegal ds → length order ≡ length ds → has_all_below (length ds) order ≡ true
-    → are_legal highest_rank (shuffled_dims ds order) ≡ true
+    → are_legal widest (shuffled_dims ds order) ≡ true
 are_legal-shuffle ds order legal long all =
     are_legal-below ds (shuffled_dims ds order) legal (omega (arith, length-map order (λ s. get_or ds s 0)))
     (omega (arith, bulk_of-permutation ds (length ds) order (omega arith) long all, bulk_of-take-le ds (length ds)))
@@ -56,7 +57,7 @@ length-remove [] (suc k) = omega arith
 length-remove (d ∷ ds) zero = omega arith
 length-remove (d ∷ ds) (suc k) = omega (arith, length-remove ds k)
 
-pub are_legal-chip : (ds : List ℕ) (k : ℕ) → IsLegal ds → are_legal highest_rank (remove ds k) ≡ true
+pub are_legal-chip : (ds : List ℕ) (k : ℕ) → IsLegal ds → are_legal widest (remove ds k) ≡ true
 are_legal-chip ds k legal = are_legal-below ds (remove ds k) legal (length-remove ds k) (bulk_of-remove ds k)
 
 -- a stride has no greater dimension
@@ -85,7 +86,7 @@ length-stride [] ss = omega arith
 length-stride (d ∷ ds) [] = omega arith
 length-stride (d ∷ ds) (s ∷ ss) = omega (arith, length-stride ds ss)
 
-pub are_legal-stride : (ds ss : List ℕ) → IsLegal ds → none_is_zero ss ≡ true → are_legal highest_rank (strided_dims ds ss) ≡ true
+pub are_legal-stride : (ds ss : List ℕ) → IsLegal ds → none_is_zero ss ≡ true → are_legal widest (strided_dims ds ss) ≡ true
 are_legal-stride ds ss legal some = are_legal-below ds (strided_dims ds ss) legal (length-stride ds ss) (bulk_of-stride ds ss some)
 
 -- one dimension of a broadcast is within the whole
@@ -101,8 +102,8 @@ repeated_dims-within (d ∷ ds) (c ∷ cs) (suc i) same within =
     omega (arith, mul-le-mul {n₁ = 1} first (repeated_dims-within ds cs i (omega arith) (omega arith)))
 
 -- so a broadcast with a dimension past the limit isn't legal
-pub are_legal-repeated : (rank : ℕ) (ds cs : List ℕ) (i : ℕ) → length cs ≡ length ds → i < length ds → most_elements < get_or ds i 0 * get_or cs i 0
-    → are_legal rank (repeated_dims ds cs) ≡ false
-are_legal-repeated rank ds cs i same within past =
-    and_right (nat_le (length (repeated_dims ds cs)) rank) (nat_le (bulk_of (repeated_dims ds cs)) most_elements)
-    (lt-leb (bulk_of (repeated_dims ds cs)) most_elements (omega (arith, repeated_dims-within ds cs i same within)))
+pub are_legal-repeated : (bounds : Bounds) (ds cs : List ℕ) (i : ℕ) → length cs ≡ length ds → i < length ds
+    → bounds.elements < get_or ds i 0 * get_or cs i 0 → are_legal bounds (repeated_dims ds cs) ≡ false
+are_legal-repeated bounds ds cs i same within past =
+    and_right (nat_le (length (repeated_dims ds cs)) bounds.rank) (nat_le (bulk_of (repeated_dims ds cs)) bounds.elements)
+    (lt-leb (bulk_of (repeated_dims ds cs)) bounds.elements (omega (arith, repeated_dims-within ds cs i same within)))

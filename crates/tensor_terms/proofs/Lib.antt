@@ -10,7 +10,7 @@ pub mod Moved
 pub mod OtherAxes
 pub mod Pads
 pub mod Permutations
-pub mod Ranks
+pub mod Widening
 pub mod SameValues
 pub mod Shapes
 pub mod SlidIndex

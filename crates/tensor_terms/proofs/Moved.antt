@@ -8,7 +8,7 @@ use Rattle.std.proofs.lemmas.Grind.{div_ceil_times}
 use Rattle.std.proofs.Math.Nat.{mod-lt, mul-le-mul_right}
 use Rattle.std.specs.Int.{div_ceil}
 use Rattle.tensor_shape.specs.Index.{IsIndexOf, place}
-use Rattle.tensor_shape.specs.Legal.{highest_rank, most_elements, bulk_of, IsLegal}
+use Rattle.tensor_shape.specs.Legal.{widest, most_elements, bulk_of, IsLegal}
 use Rattle.tensor_shape.proofs.Places.{length-IsIndexOf, place-below-size_of, IsIndexOf-index_of}
 use Rattle.tensor_shape.proofs.Sizes.{bulk_of-drop-le, mul-le-bulk_of}
 use Rattle.tensor_terms.specs.Movement.{moved_dims, moved, wrapped, offset_by, scattered, mirrored, scaled}
@@ -124,11 +124,11 @@ IsIndexOf-scaled (d ∷ ds) (i ∷ is) (s ∷ ss) same some index =
 
 -- the operand's dims, and those of the result
 pub record IsMoved (m : Movement) (ds es : List ℕ) : Type 0 where
-  pub dims : moved_dims highest_rank m ds ≡ Ok es
+  pub dims : moved_dims widest m ds ≡ Ok es
   pub index : (is : List ℕ) → IsIndexOf es is → IsIndexOf ds (moved m ds is)
 
 -- what is known of a movement that has result dims
-pub moved-known : (m : Movement) (ds : List ℕ) → IsOk (moved_dims highest_rank m ds) → (es : List ℕ) × IsMoved m ds es
+pub moved-known : (m : Movement) (ds : List ℕ) → IsOk (moved_dims widest m ds) → (es : List ℕ) × IsMoved m ds es
 moved-known (broadcast counts) ds h =
     let known = broadcast-known counts ds h in
     (repeated_dims ds counts, record { dims = known.dims; index = λ is index. IsIndexOf-wrapped ds counts is known.long index })
@@ -171,7 +171,7 @@ moved-known (stride steps) ds h =
     (strided_dims ds steps, record { dims = known.dims; index = λ is index. IsIndexOf-scaled ds is steps known.long known.some index })
 
 -- so it reads inside of its operand
-pub IsIndexOf-moved : (m : Movement) (ds es is : List ℕ) → moved_dims highest_rank m ds ≡ Ok es → IsIndexOf es is → IsIndexOf ds (moved m ds is)
+pub IsIndexOf-moved : (m : Movement) (ds es is : List ℕ) → moved_dims widest m ds ≡ Ok es → IsIndexOf es is → IsIndexOf ds (moved m ds is)
 IsIndexOf-moved m ds es is dims index =
     let known = moved-known m ds (rw dims refl) in
     known.1.index is (subst (λ rs. IsIndexOf rs is) (moved_dims-unique m ds es known.0 dims known.1.dims) index)
@@ -214,13 +214,13 @@ length-repeated_dims (d ∷ ds) [] same = absurd (omega arith)
 length-repeated_dims (d ∷ ds) (c ∷ cs) same = omega (arith, length-repeated_dims ds cs (omega arith))
 
 -- where a movement reads something, each dimension of its operand has an index
-pub dimension-some : (m : Movement) (ds es is : List ℕ) (k : ℕ) → moved_dims highest_rank m ds ≡ Ok es → IsIndexOf es is → k < length ds → 0 < get_or ds k 0
+pub dimension-some : (m : Movement) (ds es is : List ℕ) (k : ℕ) → moved_dims widest m ds ≡ Ok es → IsIndexOf es is → k < length ds → 0 < get_or ds k 0
 dimension-some m ds es is k dims index within =
     let below = get_or-IsIndexOf ds (moved m ds is) k (IsIndexOf-moved m ds es is dims index) within in
     omega (arith, below)
 
 -- an index list of the result has as many indices
-pub length-moved : (m : Movement) (ds es rs is : List ℕ) → moved_dims highest_rank m ds ≡ Ok es → moved_dims highest_rank m ds ≡ Ok rs → IsIndexOf es is → length is ≡ length rs
+pub length-moved : (m : Movement) (ds es rs is : List ℕ) → moved_dims widest m ds ≡ Ok es → moved_dims widest m ds ≡ Ok rs → IsIndexOf es is → length is ≡ length rs
 length-moved m ds es rs is dims known index =
     length-IsIndexOf es is index ∙ ap length (moved_dims-unique m ds es rs dims known)
 

@@ -4,7 +4,8 @@ use Rattle.std.proofs.Common.{Bool, true, false, ◌&&◌, nat_le, nat_lt, nat_e
 use Rattle.std.proofs.lemmas.Bool.{cases_Bool, and_parts, and_from, and_right, lt-leb, le-leb, leb-true, ltb-true, lt-ltb, eqb-true}
 use Rattle.std.proofs.Math.Nat.{mul-le-mul}
 use Rattle.tensor_shape.specs.Index.{IsIndexOf}
-use Rattle.tensor_shape.specs.Legal.{highest_rank, most_elements, bulk_of, IsLegal, are_legal}
+use Rattle.tensor_shape.specs.Legal.{widest, bulk_of, IsLegal, are_legal}
+use Rattle.tensor_shape.specs.declared.bounds.Bounds.{Bounds}
 use Rattle.tensor_shape.proofs.Sizes.{one-le-bulk_of}
 use Rattle.tensor_terms.specs.Padding.{padded_dims, pad_dims, is_inside, moved_back, padded}
 use Rattle.tensor_values.specs.Splicing.{padded_along}
@@ -24,22 +25,22 @@ padded_dims-within (p ∷ ps) (d ∷ ds) (suc i) same within =
     omega (arith, mul-le-mul {n₁ = 1} first (padded_dims-within ps ds i (omega arith) (omega arith)))
 
 -- so a pad with a dimension past the limit isn't legal
-pub are_legal-padded : (rank : ℕ) (ps : List (ℕ × ℕ)) (ds : List ℕ) (i : ℕ) → length ps ≡ length ds → i < length ds
-    → most_elements < (get_or ps i (0, 0)).0 + get_or ds i 0 + (get_or ps i (0, 0)).1 → are_legal rank (padded_dims ps ds) ≡ false
-are_legal-padded rank ps ds i same within past =
-    and_right (nat_le (length (padded_dims ps ds)) rank) (nat_le (bulk_of (padded_dims ps ds)) most_elements)
-    (lt-leb (bulk_of (padded_dims ps ds)) most_elements (omega (arith, padded_dims-within ps ds i same within)))
+pub are_legal-padded : (bounds : Bounds) (ps : List (ℕ × ℕ)) (ds : List ℕ) (i : ℕ) → length ps ≡ length ds → i < length ds
+    → bounds.elements < (get_or ps i (0, 0)).0 + get_or ds i 0 + (get_or ps i (0, 0)).1 → are_legal bounds (padded_dims ps ds) ≡ false
+are_legal-padded bounds ps ds i same within past =
+    and_right (nat_le (length (padded_dims ps ds)) bounds.rank) (nat_le (bulk_of (padded_dims ps ds)) bounds.elements)
+    (lt-leb (bulk_of (padded_dims ps ds)) bounds.elements (omega (arith, padded_dims-within ps ds i same within)))
 
 -- what the checks of a pad passed
 pub record IsPad (ps : List (ℕ × ℕ)) (ds : List ℕ) : Type 0 where
   pub long : length ps ≡ length ds
   pub legal : IsLegal (padded_dims ps ds)
-  pub dims : pad_dims highest_rank ps ds ≡ Ok (padded_dims ps ds)
+  pub dims : pad_dims widest ps ds ≡ Ok (padded_dims ps ds)
 
-pub pad-known : (ps : List (ℕ × ℕ)) (ds : List ℕ) → IsOk (pad_dims highest_rank ps ds) → IsPad ps ds
+pub pad-known : (ps : List (ℕ × ℕ)) (ds : List ℕ) → IsOk (pad_dims widest ps ds) → IsPad ps ds
 pad-known ps ds h =
     let long = check-known (nat_eq (length ps) (length ds)) _ ShapeMismatch h in
-    let legal = check-known (are_legal highest_rank (padded_dims ps ds)) _ TooLarge long.1 in
+    let legal = check-known (are_legal widest (padded_dims ps ds)) _ TooLarge long.1 in
     record {
       long = eqb-true (length ps) (length ds) long.0;
       legal = IsLegal-are_legal (padded_dims ps ds) legal.0;

@@ -1,7 +1,7 @@
 -- Result dims that are there, and the values at places of them.
 use Rattle.std.proofs.Common.{◌≡◌, ℕ, ◌<◌, pos, List, [], get_or, Ok, Err, IsOk, refl, ap, sym, ◌∙◌}
 use Rattle.std.specs.Result.{result_unwrap_or}
-use Rattle.tensor_shape.specs.Legal.{highest_rank}
+use Rattle.tensor_shape.specs.Legal.{widest}
 use Rattle.tensor_shape.specs.Index.{size_of, IsIndexOf, place, index_of}
 use Rattle.tensor_shape.proofs.Places.{IsIndexOf-index_of, place-index_of, index_of-place}
 use Rattle.tensor_terms.specs.Contents.{Contents, input_of}
@@ -49,7 +49,7 @@ with_three-known own (Err fault) b c h = (cc)
 
 -- the place of the operand, of these dims, that is read for a place of the result
 abbrev pub place_read : Movement → List ℕ → ℕ → ℕ
-place_read m ds p = place ds (moved m ds (index_of (result_unwrap_or (moved_dims highest_rank m ds) []) p))
+place_read m ds p = place ds (moved m ds (index_of (result_unwrap_or (moved_dims widest m ds) []) p))
 
 module _ (inputs : List Contents) where
   -- the value of an input at a place
@@ -58,15 +58,15 @@ module _ (inputs : List Contents) where
   value_of_place-input n p below = ap (λ q. get_or (input_of inputs n).values q (pos 0)) (place-index_of (input_of inputs n).dims p below)
 
   -- the value of a movement at a place
-  pub value_of_place-movement : (m : Movement) (a : Term) (p : ℕ) → IsOk (dims_of highest_rank (unary (movement m) a) inputs)
+  pub value_of_place-movement : (m : Movement) (a : Term) (p : ℕ) → IsOk (dims_of widest (unary (movement m) a) inputs)
       → p < size_of (shape_of (unary (movement m) a) inputs)
       → value_of_place (unary (movement m) a) inputs p ≡ value_of_place a inputs (place_read m (shape_of a inputs) p)
   value_of_place-movement m a p has_dims below =
       let ds : List ℕ = shape_of a inputs in
-      let es : List ℕ = result_unwrap_or (moved_dims highest_rank m ds) [] in
-      let known = with_one-known (moved_dims highest_rank m) (dims_of highest_rank a inputs) has_dims in
+      let es : List ℕ = result_unwrap_or (moved_dims widest m ds) [] in
+      let known = with_one-known (moved_dims widest m) (dims_of widest a inputs) has_dims in
       let shape : shape_of (unary (movement m) a) inputs ≡ es = ap (λ r. result_unwrap_or r []) known.1 in
-      let dims : moved_dims highest_rank m ds ≡ Ok es = Ok-unwrap (moved_dims highest_rank m ds) (rw known.1 at has_dims) in
+      let dims : moved_dims widest m ds ≡ Ok es = Ok-unwrap (moved_dims widest m ds) (rw known.1 at has_dims) in
       let within : p < size_of es = rw shape at below in
       let inside : IsIndexOf ds (moved m ds (index_of es p)) = IsIndexOf-moved m ds es (index_of es p) dims (IsIndexOf-index_of es p within) in
       ap (λ s. value a inputs (moved m ds (index_of s p))) shape

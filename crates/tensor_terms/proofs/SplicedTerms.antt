@@ -4,7 +4,7 @@ use Rattle.std.proofs.Common.{true, false, nat_lt, IsOk, refl, ap, sym, subst, �
 use Rattle.std.proofs.lemmas.Bool.{cases_Bool, ltb-true, ltb-false}
 use Rattle.std.specs.Result.{result_unwrap_or}
 use Rattle.tensor_shape.specs.Index.{size_of, IsIndexOf, place, index_of}
-use Rattle.tensor_shape.specs.Legal.{highest_rank}
+use Rattle.tensor_shape.specs.Legal.{widest}
 use Rattle.tensor_shape.proofs.Places.{IsIndexOf-index_of, index_of-place}
 use Rattle.tensor_terms.specs.Concatenation.{joined_dims, concatenated_dims, concatenated}
 use Rattle.tensor_terms.specs.Contents.{Contents}
@@ -51,11 +51,11 @@ concatenated-other k ds es f g h l known first second is index =
 
 module _ (inputs : List Contents) where
   -- the value of a pad at a place
-  module _ (ps : List (ℕ × ℕ)) (a : Term) (has : IsOk (dims_of highest_rank (unary (pad ps) a) inputs)) where
-    pub pad-dims : (IsOk (pad_dims highest_rank ps (shape_of a inputs))) × (shape_of (unary (pad ps) a) inputs ≡ padded_dims ps (shape_of a inputs))
+  module _ (ps : List (ℕ × ℕ)) (a : Term) (has : IsOk (dims_of widest (unary (pad ps) a) inputs)) where
+    pub pad-dims : (IsOk (pad_dims widest ps (shape_of a inputs))) × (shape_of (unary (pad ps) a) inputs ≡ padded_dims ps (shape_of a inputs))
     pad-dims =
-        let known = with_one-known (pad_dims highest_rank ps) (dims_of highest_rank a inputs) has in
-        let own : IsOk (pad_dims highest_rank ps (shape_of a inputs)) = rw known.1 at has in
+        let known = with_one-known (pad_dims widest ps) (dims_of widest a inputs) has in
+        let own : IsOk (pad_dims widest ps (shape_of a inputs)) = rw known.1 at has in
         let pad_is = pad-known ps (shape_of a inputs) own in
         (own, ap (λ r. result_unwrap_or r []) (known.1 ∙ pad_is.dims))
 
@@ -79,12 +79,12 @@ module _ (inputs : List Contents) where
           ap (λ l. padded ps (shape_of a inputs) (value a inputs) (index_of l p)) pad-dims.1 ∙ rw outside refl
 
   -- the value of a concatenation at a place
-  module _ (axis : ℕ) (a b : Term) (has : IsOk (dims_of highest_rank (binary (concat axis) a b) inputs)) where
-    pub concat-dims : (IsOk (concatenated_dims highest_rank axis (shape_of a inputs) (shape_of b inputs)))
+  module _ (axis : ℕ) (a b : Term) (has : IsOk (dims_of widest (binary (concat axis) a b) inputs)) where
+    pub concat-dims : (IsOk (concatenated_dims widest axis (shape_of a inputs) (shape_of b inputs)))
         × (shape_of (binary (concat axis) a b) inputs ≡ joined_dims axis (shape_of a inputs) (shape_of b inputs))
     concat-dims =
-        let known = with_two-known (concatenated_dims highest_rank axis) (dims_of highest_rank a inputs) (dims_of highest_rank b inputs) has in
-        let own : IsOk (concatenated_dims highest_rank axis (shape_of a inputs) (shape_of b inputs)) = rw known.2 at has in
+        let known = with_two-known (concatenated_dims widest axis) (dims_of widest a inputs) (dims_of widest b inputs) has in
+        let own : IsOk (concatenated_dims widest axis (shape_of a inputs) (shape_of b inputs)) = rw known.2 at has in
         let is = concatenation-known axis (shape_of a inputs) (shape_of b inputs) own in
         (own, ap (λ r. result_unwrap_or r []) (known.2 ∙ is.dims))
 

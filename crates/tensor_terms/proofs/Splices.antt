@@ -7,7 +7,7 @@ use Rattle.std.proofs.lemmas.Nat.{div-mul-add, mod-mul-add, div-add-mod'}
 use Rattle.std.proofs.Math.Nat.{mod-lt, mul-le-mul_left, div-lt_iff_lt-mul}
 use Rattle.std.specs.Cmp.Lexicographic.{pointwise, same_text}
 use Rattle.tensor_shape.specs.Index.{size_of, place, index_of}
-use Rattle.tensor_shape.specs.Legal.{highest_rank, most_elements, IsLegal, are_legal}
+use Rattle.tensor_shape.specs.Legal.{widest, most_elements, IsLegal, are_legal}
 use Rattle.tensor_shape.proofs.Places.{place-cons, place-index_of}
 use Rattle.tensor_shape.proofs.Sizes.{size_of-le-bulk_of, bulk_of-take-le}
 use Rattle.tensor_terms.specs.Concatenation.{joined_dims, concatenated_dims, concatenated}
@@ -33,14 +33,14 @@ pub record IsConcatenation (axis : ℕ) (ds es : List ℕ) : Type 0 where
   pub in_rank : axis < length ds
   pub others : remove ds axis ≡ remove es axis
   pub legal : IsLegal (joined_dims axis ds es)
-  pub dims : concatenated_dims highest_rank axis ds es ≡ Ok (joined_dims axis ds es)
+  pub dims : concatenated_dims widest axis ds es ≡ Ok (joined_dims axis ds es)
 
-pub concatenation-known : (axis : ℕ) (ds es : List ℕ) → IsOk (concatenated_dims highest_rank axis ds es) → IsConcatenation axis ds es
+pub concatenation-known : (axis : ℕ) (ds es : List ℕ) → IsOk (concatenated_dims widest axis ds es) → IsConcatenation axis ds es
 concatenation-known axis ds es h =
     let same = check-known (nat_eq (length ds) (length es)) _ ShapeMismatch h in
     let in_rank = check-known (nat_lt axis (length ds)) _ OutOfRange same.1 in
     let others = check-known (pointwise nat_eq (remove ds axis) (remove es axis)) _ ShapeMismatch in_rank.1 in
-    let legal = check-known (are_legal highest_rank (joined_dims axis ds es)) _ TooLarge others.1 in
+    let legal = check-known (are_legal widest (joined_dims axis ds es)) _ TooLarge others.1 in
     record {
       same = eqb-true (length ds) (length es) same.0;
       in_rank = ltb-true axis (length ds) in_rank.0;

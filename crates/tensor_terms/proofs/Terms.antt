@@ -6,7 +6,7 @@ use Rattle.std.specs.List.{fold, range_with_len}
 use Rattle.std.specs.Prelude.{FitsSigned}
 use Rattle.std.specs.Result.{result_unwrap_or}
 use Rattle.std.proofs.lemmas.Int.{int_wrap_fits}
-use Rattle.tensor_shape.specs.Legal.{highest_rank}
+use Rattle.tensor_shape.specs.Legal.{widest}
 use Rattle.tensor_shape.specs.Index.{size_of, place, index_of}
 use Rattle.tensor_shape.specs.Wrap.{wrap}
 use Rattle.tensor_shape.proofs.Places.{index_of-place}
@@ -51,13 +51,13 @@ module _ (inputs : List Contents) where
   module _ (r : Reducer) (axes : List ℕ) (a : Term) where
     -- what is known of a reduction that has result dims
     pub record IsReduced : Type 0 where
-      pub operand : IsOk (dims_of highest_rank a inputs)
+      pub operand : IsOk (dims_of widest a inputs)
       pub legal : are_axes (length (shape_of a inputs)) axes ≡ true
       pub shape : shape_of (unary (reduce r axes) a) inputs ≡ other_dims axes (shape_of a inputs)
 
-    pub reduced-known : IsOk (dims_of highest_rank (unary (reduce r axes) a) inputs) → IsReduced
+    pub reduced-known : IsOk (dims_of widest (unary (reduce r axes) a) inputs) → IsReduced
     reduced-known h =
-        let one = with_one-known (reduced_dims axes) (dims_of highest_rank a inputs) h in
+        let one = with_one-known (reduced_dims axes) (dims_of widest a inputs) h in
         let known = reduction-known axes (shape_of a inputs) (subst (λ s. IsOk s) one.1 h) in
         record {
           operand = one.0;
@@ -117,7 +117,7 @@ module _ (inputs : List Contents) where
         over.whole ∙ ap (λ ys. size_of (dims_at ys d)) over.dropped
         ∙ ap (λ e. size_of (dims_at (among axes (length e)) e)) over.dims
 
-    pub reduced-init : IsOk (dims_of highest_rank (unary (reduce r axes) a) inputs)
+    pub reduced-init : IsOk (dims_of widest (unary (reduce r axes) a) inputs)
         → (d xs : List ℕ) (v : ℤ) (count p : ℕ) → ReducedOver d xs count
         → v ≡ unit r → ReducedFrom v 0 count p
     reduced-init has_dims d xs v count p over start =
@@ -130,7 +130,7 @@ module _ (inputs : List Contents) where
         ∙ ap (λ n. fold (combine r) (unit r) (map g (range_with_len 0 n))) all
         ∙ sym (reduced-value (reduced-known has_dims) p)
 
-    pub reduced-next : IsOk (dims_of highest_rank (unary (reduce r axes) a) inputs)
+    pub reduced-next : IsOk (dims_of widest (unary (reduce r axes) a) inputs)
         → (d xs : List ℕ) (v w x : ℤ) (k count p read : ℕ)
         → ReducedOver d xs count → k < count
         → p < size_of (shape_of (unary (reduce r axes) a) inputs)
@@ -166,16 +166,16 @@ module _ (inputs : List Contents) where
   module _ (pairs : List (ℕ × ℕ)) (a b : Term) where
     -- what is known of a contraction that has result dims
     pub record IsContracted : Type 0 where
-      pub left : IsOk (dims_of highest_rank a inputs)
-      pub right : IsOk (dims_of highest_rank b inputs)
+      pub left : IsOk (dims_of widest a inputs)
+      pub right : IsOk (dims_of widest b inputs)
       pub known : IsContraction pairs (shape_of a inputs) (shape_of b inputs)
       pub few : length pairs ≤ length (shape_of a inputs)
       pub shape : shape_of (binary (contract pairs) a b) inputs
           ≡ outer_dims pairs (shape_of a inputs) (shape_of b inputs)
 
-    pub contracted-known : IsOk (dims_of highest_rank (binary (contract pairs) a b) inputs) → IsContracted
+    pub contracted-known : IsOk (dims_of widest (binary (contract pairs) a b) inputs) → IsContracted
     contracted-known h =
-        let two = with_two-known (contracted_dims highest_rank pairs) (dims_of highest_rank a inputs) (dims_of highest_rank b inputs) h in
+        let two = with_two-known (contracted_dims widest pairs) (dims_of widest a inputs) (dims_of widest b inputs) h in
         let has = subst (λ s. IsOk s) two.2 h in
         let known = contraction-known pairs (shape_of a inputs) (shape_of b inputs) has in
         record {
@@ -279,7 +279,7 @@ module _ (inputs : List Contents) where
       pub outer_left : p % q.outer < size_of (other_dims q.firsts.items q.first)
       pub outer_right : p / q.outer < size_of (other_dims q.seconds.items q.second)
 
-    pub summed-inside : IsOk (dims_of highest_rank (binary (contract pairs) a b) inputs)
+    pub summed-inside : IsOk (dims_of widest (binary (contract pairs) a b) inputs)
         → (q : Pairing) (k p : ℕ) → IsPairing inputs pairs a b q → k < q.count
         → p < size_of (shape_of (binary (contract pairs) a b) inputs) → SummedInside q k p
     summed-inside has_dims q k p over below inside =
@@ -313,7 +313,7 @@ module _ (inputs : List Contents) where
               ));
         }
 
-    pub summed-init : IsOk (dims_of highest_rank (binary (contract pairs) a b) inputs)
+    pub summed-init : IsOk (dims_of widest (binary (contract pairs) a b) inputs)
         → (q : Pairing) (p : ℕ) → IsPairing inputs pairs a b q
         → SummedFrom (pos 0) 0 q.count p
     summed-init has_dims q p over =
@@ -325,7 +325,7 @@ module _ (inputs : List Contents) where
         (range_with_len 0 n)))) all
         ∙ sym (contracted-value (contracted-known has_dims) p)
 
-    pub summed-next : IsOk (dims_of highest_rank (binary (contract pairs) a b) inputs)
+    pub summed-next : IsOk (dims_of widest (binary (contract pairs) a b) inputs)
         → (q : Pairing) (v w x y : ℤ) (k p left right : ℕ) → IsPairing inputs pairs a b q
         → k < q.count → p < size_of (shape_of (binary (contract pairs) a b) inputs)
         → left ≡ place q.first (woven q.firsts.items q.first

@@ -11,7 +11,7 @@ use Rattle.std.proofs.Math.Nat.{div-eq_of_lt}
 use Rattle.std.proofs.Math.Arith.{mod-mul}
 use Rattle.std.proofs.Math.Seq.{take-append_seam, drop-append_seam}
 use Rattle.tensor_shape.specs.Index.{size_of, IsIndexOf, index_of, place}
-use Rattle.tensor_shape.specs.Legal.{highest_rank, most_elements, IsLegal}
+use Rattle.tensor_shape.specs.Legal.{widest, most_elements, IsLegal}
 use Rattle.tensor_shape.proofs.Places.{IsIndexOf-index_of}
 use Rattle.tensor_shape.proofs.Sizes.{size_of-le-bulk_of}
 use Rattle.tensor_terms.specs.Movement.{moved, moved_dims, shuffled_dims, scattered}
@@ -98,7 +98,7 @@ module _ (axes ds : List ℕ) (legal : are_axes (length ds) axes ≡ true) where
   abbrev pub order : List ℕ
   order = axes_first axes (length ds)
 
-  pub shuffle-first : moved_dims highest_rank (shuffle order) ds ≡ Ok (shuffled_dims ds order)
+  pub shuffle-first : moved_dims widest (shuffle order) ds ≡ Ok (shuffled_dims ds order)
   shuffle-first =
       rw (
         eq-eqb (length order) (length ds) (length-axes_first (length ds) axes legal),

@@ -6,7 +6,7 @@ use Rattle.std.proofs.lemmas.Bool.{and_parts, or_parts, cases_eq, eqb-false, leb
 use Rattle.std.proofs.lemmas.List.{length-set, get_or-set_other, get_or-set_same}
 use Rattle.std.proofs.Math.Nat.{mul-le-mul_left, mul-le-mul_right}
 use Rattle.tensor_shape.specs.Index.{size_of, IsIndexOf}
-use Rattle.tensor_shape.specs.Legal.{highest_rank, bulk_of, IsLegal, are_legal}
+use Rattle.tensor_shape.specs.Legal.{widest, bulk_of, IsLegal, are_legal}
 use Rattle.tensor_terms.specs.Convolution.{slid_dims, fit_along, slid}
 use Rattle.tensor_terms.specs.Movement.{is_among}
 use Rattle.tensor_terms.specs.Reduction.{are_axes}
@@ -147,7 +147,7 @@ bulk_of-slid_dims rank (x ∷ xs) (k ∷ ks) ds once fits =
     omega (arith, less, bulk_of-slid_dims rank xs ks ds axis.rest first.rest)
 
 pub are_legal-slid_dims : (axes ks ds : List ℕ) → IsLegal ds → are_axes (length ds) axes ≡ true
-    → fit_along axes ks ds ≡ true → are_legal highest_rank (slid_dims axes ks ds) ≡ true
+    → fit_along axes ks ds ≡ true → are_legal widest (slid_dims axes ks ds) ≡ true
 are_legal-slid_dims axes ks ds legal once fits =
     are_legal-below ds (slid_dims axes ks ds) legal (omega (arith, length-slid_dims axes ks ds))
     (bulk_of-slid_dims (length ds) axes ks ds once fits)

@@ -2,6 +2,7 @@
 use Rattle.std.specs.Prelude.{ℕ, ℤ, ◌+◌, ◌-◌, List, length, slice_index, slice_set, remove}
 use Rattle.std.specs.Prelude.{nat_eq, nat_lt, if◌then◌else◌}
 use Rattle.std.specs.Cmp.Lexicographic.{pointwise}
+use Rattle.tensor_shape.specs.declared.bounds.Bounds.{Bounds}
 use Rattle.tensor_terms.specs.Shaped.{Shaped, check, check_lengths, legal_dims}
 use Rattle.tensor_terms.specs.declared.fault.ExprFault.TheVariants.{ShapeMismatch, OutOfRange}
 
@@ -9,12 +10,12 @@ use Rattle.tensor_terms.specs.declared.fault.ExprFault.TheVariants.{ShapeMismatc
 abbrev pub joined_dims : ℕ → List ℕ → List ℕ → List ℕ
 joined_dims axis ds es = slice_set ds axis (slice_index ds axis + slice_index es axis)
 
--- the result dims of a concatenation, where ranks end there, or the first of its own faults
-abbrev pub concatenated_dims : ℕ → ℕ → List ℕ → List ℕ → Shaped
-concatenated_dims rank axis ds es =
+-- the result dims of a concatenation within bounds, or the first of its own faults
+abbrev pub concatenated_dims : Bounds → ℕ → List ℕ → List ℕ → Shaped
+concatenated_dims bounds axis ds es =
     check_lengths ds es (check (nat_lt axis (length ds)) OutOfRange
     (check (pointwise nat_eq (remove ds axis) (remove es axis)) ShapeMismatch
-    (legal_dims rank (joined_dims axis ds es))))
+    (legal_dims bounds (joined_dims axis ds es))))
 
 -- the value of a concatenation at an index list: the first's, or past its part the second's
 abbrev pub concatenated : ℕ → List ℕ → (List ℕ → ℤ) → (List ℕ → ℤ) → List ℕ → ℤ

@@ -6,6 +6,7 @@ use Rattle.std.specs.Cmp.Lexicographic.{pointwise}
 use Rattle.std.specs.List.{fold}
 use Rattle.tensor_shape.specs.Index.{size_of}
 use Rattle.tensor_shape.specs.Wrap.{wrap}
+use Rattle.tensor_shape.specs.declared.bounds.Bounds.{Bounds}
 use Rattle.tensor_terms.specs.Reduction.{are_axes}
 use Rattle.tensor_terms.specs.Shaped.{Shaped, check, legal_dims, with_one}
 use Rattle.tensor_terms.specs.Woven.{dims_at, other_dims, woven, index_lists}
@@ -31,15 +32,15 @@ outer_dims pairs ds es = other_dims (firsts pairs) ds ++ other_dims (seconds pai
 abbrev pub few_products : ℕ → List ℕ → Shaped
 few_products count ds = check (nat_le (size_of ds * count) most_products) TooLarge (Ok ds)
 
--- the result dims of a contraction, where ranks end there, or the first of its own faults. Legal
--- operands with a legal result have no more products than may be, so that the last check finds
--- nothing
-abbrev pub contracted_dims : ℕ → List (ℕ × ℕ) → List ℕ → List ℕ → Shaped
-contracted_dims rank pairs ds es =
+-- the result dims of a contraction within bounds, or the first of its own faults. Operands and a
+-- result of at most 1,048,576 elements have no more products than may be, so that the last check
+-- finds nothing there
+abbrev pub contracted_dims : Bounds → List (ℕ × ℕ) → List ℕ → List ℕ → Shaped
+contracted_dims bounds pairs ds es =
     check (are_axes (length ds) (firsts pairs) && are_axes (length es) (seconds pairs)) OutOfRange
     (check (pointwise nat_eq (dims_at (firsts pairs) ds) (dims_at (seconds pairs) es)) ShapeMismatch
     (with_one (few_products (size_of (dims_at (firsts pairs) ds)))
-    (legal_dims rank (outer_dims pairs ds es))))
+    (legal_dims bounds (outer_dims pairs ds es))))
 
 -- the value of a contraction at an index list: the whole-number sum, modulo 2^64, of the products
 -- of both operands' values over all index lists of the paired axes

@@ -4,6 +4,7 @@ use Rattle.std.specs.Prelude.{slice_index, slice_set, insert, remove, nat_eq, na
 use Rattle.std.specs.Prelude.{Bool, true, false, ◌&&◌, ◌||◌, Ok, if◌then◌else◌}
 use Rattle.std.specs.Int.{div_ceil}
 use Rattle.tensor_shape.specs.Index.{size_of, place, index_of}
+use Rattle.tensor_shape.specs.declared.bounds.Bounds.{Bounds}
 use Rattle.tensor_terms.specs.Shaped.{Shaped, check, check_lengths, legal_dims, with_one}
 use Rattle.tensor_terms.specs.Term.{Movement, broadcast, slice, shuffle, reshape, chip, reverse}
 use Rattle.tensor_terms.specs.Term.{stride}
@@ -74,22 +75,22 @@ abbrev pub has_all_below : ℕ → List ℕ → Bool
 has_all_below zero ss = true
 has_all_below (suc n) ss = is_among n ss && has_all_below n ss
 
--- the result dims of a movement of an operand of these dims, where ranks end there, or the first
--- of its own faults
-abbrev pub moved_dims : ℕ → Movement → List ℕ → Shaped
-moved_dims rank (broadcast counts) ds = check_lengths counts ds
-    (check (none_is_zero counts) OutOfRange (legal_dims rank (zip_with (λ d c. d * c) ds counts)))
-moved_dims rank (slice offsets extents) ds =
+-- the result dims of a movement of an operand of these dims, within bounds, or the first of its
+-- own faults
+abbrev pub moved_dims : Bounds → Movement → List ℕ → Shaped
+moved_dims bounds (broadcast counts) ds = check_lengths counts ds
+    (check (none_is_zero counts) OutOfRange (legal_dims bounds (zip_with (λ d c. d * c) ds counts)))
+moved_dims bounds (slice offsets extents) ds =
     check (nat_eq (length offsets) (length ds) && nat_eq (length extents) (length ds)) ShapeMismatch
     (check (fit_within ds offsets extents) OutOfRange (Ok extents))
-moved_dims rank (shuffle order) ds = check_lengths order ds
+moved_dims bounds (shuffle order) ds = check_lengths order ds
     (check (has_all_below (length ds) order) OutOfRange (Ok (map (λ s. slice_index ds s) order)))
-moved_dims rank (reshape sizes) ds =
+moved_dims bounds (reshape sizes) ds =
     with_one (λ es. check (nat_eq (size_of es) (size_of ds)) ShapeMismatch (Ok es))
-    (legal_dims rank sizes)
-moved_dims rank (chip offset axis) ds =
+    (legal_dims bounds sizes)
+moved_dims bounds (chip offset axis) ds =
     check (nat_lt axis (length ds) && nat_lt offset (slice_index ds axis)) OutOfRange
     (Ok (remove ds axis))
-moved_dims rank (reverse flags) ds = check_lengths flags ds (Ok ds)
-moved_dims rank (stride steps) ds = check_lengths steps ds
+moved_dims bounds (reverse flags) ds = check_lengths flags ds (Ok ds)
+moved_dims bounds (stride steps) ds = check_lengths steps ds
     (check (none_is_zero steps) OutOfRange (Ok (zip_with (λ d s. div_ceil d s) ds steps)))

@@ -1,6 +1,7 @@
 -- Zeroes round a tensor.
 use Rattle.std.specs.Prelude.{ℕ, ℤ, pos, ◌+◌, ◌-◌, List, ◌∷◌}
 use Rattle.std.specs.Prelude.{nat_lt, nat_le, Bool, true, ◌&&◌, if◌then◌else◌}
+use Rattle.tensor_shape.specs.declared.bounds.Bounds.{Bounds}
 use Rattle.tensor_terms.specs.Shaped.{Shaped, check_lengths, legal_dims}
 use Rattle.tensor_terms.specs.Zipped.{zip_with}
 
@@ -18,10 +19,10 @@ is_inside pairs ds is = true
 abbrev pub moved_back : List (ℕ × ℕ) → List ℕ → List ℕ
 moved_back pairs is = zip_with (λ p i. i - p.0) pairs is
 
--- the result dims of a pad, where ranks end there, or the first of its own faults
-abbrev pub pad_dims : ℕ → List (ℕ × ℕ) → List ℕ → Shaped
-pad_dims rank pairs ds =
-    check_lengths pairs ds (legal_dims rank (zip_with (λ p d. p.0 + d + p.1) pairs ds))
+-- the result dims of a pad within bounds, or the first of its own faults
+abbrev pub pad_dims : Bounds → List (ℕ × ℕ) → List ℕ → Shaped
+pad_dims bounds pairs ds =
+    check_lengths pairs ds (legal_dims bounds (zip_with (λ p d. p.0 + d + p.1) pairs ds))
 
 -- the value of a pad at an index list: the operand's, or 0 outside of it
 abbrev pub padded : List (ℕ × ℕ) → List ℕ → (List ℕ → ℤ) → List ℕ → ℤ

@@ -1,7 +1,8 @@
 -- The result dims of a term, or its first fault.
 use Rattle.std.specs.Prelude.{ℕ, List, [], ◌∷◌, Ok}
 use Rattle.std.specs.Result.{result_unwrap_or}
-use Rattle.tensor_shape.specs.Legal.{highest_rank}
+use Rattle.tensor_shape.specs.Legal.{widest}
+use Rattle.tensor_shape.specs.declared.bounds.Bounds.{Bounds}
 use Rattle.tensor_terms.specs.Contents.{Contents, input_of}
 use Rattle.tensor_terms.specs.Concatenation.{concatenated_dims}
 use Rattle.tensor_terms.specs.Contraction.{contracted_dims}
@@ -14,42 +15,43 @@ use Rattle.tensor_terms.specs.Term.{Term, input, unary, binary, ternary}
 use Rattle.tensor_terms.specs.Term.{Unary, each, constant, movement, pad, reduce}
 use Rattle.tensor_terms.specs.Term.{Binary, pairwise, concat, contract, convolve, Ternary, select}
 
--- what an operation says of the dims of its operands, where ranks end there: its own dims, or the
--- first of its own faults
-abbrev pub unary_dims : ℕ → Unary → List ℕ → Shaped
-unary_dims rank (each o) d = Ok d
-unary_dims rank (constant v) d = Ok d
-unary_dims rank (movement m) d = moved_dims rank m d
-unary_dims rank (pad pairs) d = pad_dims rank pairs d
-unary_dims rank (reduce r axes) d = reduced_dims axes d
+-- what an operation says of the dims of its operands: its own dims within bounds, or the first of
+-- its own faults
+abbrev pub unary_dims : Bounds → Unary → List ℕ → Shaped
+unary_dims bounds (each o) d = Ok d
+unary_dims bounds (constant v) d = Ok d
+unary_dims bounds (movement m) d = moved_dims bounds m d
+unary_dims bounds (pad pairs) d = pad_dims bounds pairs d
+unary_dims bounds (reduce r axes) d = reduced_dims axes d
 
-abbrev pub binary_dims : ℕ → Binary → List ℕ → List ℕ → Shaped
-binary_dims rank (pairwise o) d e = equal_dims d e
-binary_dims rank (concat axis) d e = concatenated_dims rank axis d e
-binary_dims rank (contract pairs) d e = contracted_dims rank pairs d e
-binary_dims rank (convolve axes) d e = convolved_dims axes d e
+abbrev pub binary_dims : Bounds → Binary → List ℕ → List ℕ → Shaped
+binary_dims bounds (pairwise o) d e = equal_dims d e
+binary_dims bounds (concat axis) d e = concatenated_dims bounds axis d e
+binary_dims bounds (contract pairs) d e = contracted_dims bounds pairs d e
+binary_dims bounds (convolve axes) d e = convolved_dims axes d e
 
 abbrev pub ternary_dims : Ternary → List ℕ → List ℕ → List ℕ → Shaped
 ternary_dims select c d e = with_one (λ both. equal_dims both e) (equal_dims c d)
 
--- operands are looked at from the left, each wholly, and then the operation's own checks are made
-abbrev pub dims_of : ℕ → Term → List Contents → Shaped
-dims_of rank (input n) inputs = Ok (input_of inputs n).dims
-dims_of rank (unary o a) inputs = with_one (unary_dims rank o) (dims_of rank a inputs)
-dims_of rank (binary o a b) inputs =
-    with_one (λ d. with_one (binary_dims rank o d) (dims_of rank b inputs)) (dims_of rank a inputs)
-dims_of rank (ternary o a b c) inputs =
-    with_one (λ d. with_one (λ e. with_one (ternary_dims o d e) (dims_of rank c inputs))
-    (dims_of rank b inputs)) (dims_of rank a inputs)
+-- operands are looked at from the left, each wholly, and then the operation's own checks are made.
+-- All results are within bounds
+abbrev pub dims_of : Bounds → Term → List Contents → Shaped
+dims_of bounds (input n) inputs = Ok (input_of inputs n).dims
+dims_of bounds (unary o a) inputs = with_one (unary_dims bounds o) (dims_of bounds a inputs)
+dims_of bounds (binary o a b) inputs =
+    with_one (λ d. with_one (binary_dims bounds o d) (dims_of bounds b inputs)) (dims_of bounds a inputs)
+dims_of bounds (ternary o a b c) inputs =
+    with_one (λ d. with_one (λ e. with_one (ternary_dims o d e) (dims_of bounds c inputs))
+    (dims_of bounds b inputs)) (dims_of bounds a inputs)
 
 -- the dims of a term's operands, or their faults
-abbrev pub operand_dims : ℕ → Term → List Contents → List Shaped
-operand_dims rank (input n) inputs = []
-operand_dims rank (unary o a) inputs = dims_of rank a inputs ∷ []
-operand_dims rank (binary o a b) inputs = dims_of rank a inputs ∷ dims_of rank b inputs ∷ []
-operand_dims rank (ternary o a b c) inputs =
-    dims_of rank a inputs ∷ dims_of rank b inputs ∷ dims_of rank c inputs ∷ []
+abbrev pub operand_dims : Bounds → Term → List Contents → List Shaped
+operand_dims bounds (input n) inputs = []
+operand_dims bounds (unary o a) inputs = dims_of bounds a inputs ∷ []
+operand_dims bounds (binary o a b) inputs = dims_of bounds a inputs ∷ dims_of bounds b inputs ∷ []
+operand_dims bounds (ternary o a b c) inputs =
+    dims_of bounds a inputs ∷ dims_of bounds b inputs ∷ dims_of bounds c inputs ∷ []
 
--- the result dims, where there are any and ranks go as far as they may
+-- the result dims, where there are any and dims go as far as they may
 abbrev pub shape_of : Term → List Contents → List ℕ
-shape_of t inputs = result_unwrap_or (dims_of highest_rank t inputs) []
+shape_of t inputs = result_unwrap_or (dims_of widest t inputs) []

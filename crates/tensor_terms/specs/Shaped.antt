@@ -2,6 +2,7 @@
 use Rattle.std.specs.Prelude.{ℕ, List, length, Result, Ok, Err, Bool, nat_eq, if◌then◌else◌}
 use Rattle.std.specs.Cmp.Lexicographic.{pointwise}
 use Rattle.tensor_shape.specs.Legal.{are_legal}
+use Rattle.tensor_shape.specs.declared.bounds.Bounds.{Bounds}
 use Rattle.tensor_terms.specs.declared.fault.ExprFault.{ExprFault}
 use Rattle.tensor_terms.specs.declared.fault.ExprFault.TheVariants.{ShapeMismatch, TooLarge}
 
@@ -35,6 +36,6 @@ check_lengths xs ds behind = check (nat_eq (length xs) (length ds)) ShapeMismatc
 abbrev pub equal_dims : List ℕ → List ℕ → Shaped
 equal_dims d e = check (pointwise nat_eq d e) ShapeMismatch (Ok d)
 
--- dims that have to be legal, where ranks end there
-abbrev pub legal_dims : ℕ → List ℕ → Shaped
-legal_dims rank d = check (are_legal rank d) TooLarge (Ok d)
+-- dims that have to be within bounds
+abbrev pub legal_dims : Bounds → List ℕ → Shaped
+legal_dims bounds d = check (are_legal bounds d) TooLarge (Ok d)

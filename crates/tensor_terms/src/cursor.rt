@@ -1,7 +1,7 @@
 //! The value of an expression at one place.
 
 ghost use Rattle.std.specs.Prelude.{◌≡◌, ◌<◌, List, ℕ, length, IsTrue, IsOk};
-ghost use Rattle.tensor_shape.specs.Legal.{highest_rank};
+ghost use Rattle.tensor_shape.specs.Legal.{widest};
 ghost use Rattle.tensor_shape.specs.Index.{size_of, IsIndexOf, place};
 ghost use Rattle.tensor_terms.specs.Term.{has_inputs, unary, pad, reduce, binary};
 ghost use Rattle.tensor_terms.specs.Term.{concat, contract, convolve};
@@ -19,7 +19,7 @@ use crate::index::moved_index::moved_place;
 use crate::index::sliding::slid_place;
 use crate::index::spliced_index::{padded_place, turns_along};
 use crate::tensor::inputs::Inputs;
-use tensor_shape::{Dims, MAX_RANK, PerAxis};
+use tensor_shape::{Dims, PerAxis, WIDEST};
 use tensor_values::{BinaryScalar, Reducer, applied, combined, is_true};
 
 /// An expression that has result dims, over its inputs. It gives one value at a time and takes no
@@ -29,7 +29,7 @@ pub struct Cursor<'a> {
     expr: &'a Expr,
     inputs: &'a Inputs<'a>,
     ghost has_inputs: { IsTrue (has_inputs (term_of expr.now) (length inputs.now.tensors)) },
-    ghost has_dims: { IsOk (dims_of highest_rank (term_of expr.now) inputs.now.tensors) },
+    ghost has_dims: { IsOk (dims_of widest (term_of expr.now) inputs.now.tensors) },
 }
 
 impl<'a> Cursor<'a> {
@@ -38,12 +38,12 @@ impl<'a> Cursor<'a> {
     /// A cursor over an expression.
     pub fn of(expr: &'a Expr, inputs: &'a Inputs<'a>) -> Cursor<'a>
         requires inputs { IsTrue (has_inputs (term_of expr.now) (length inputs.now.tensors)) }
-        requires dims { IsOk (dims_of inputs.now.rank (term_of expr.now) inputs.now.tensors) }
+        requires dims { IsOk (dims_of inputs.now.bounds (term_of expr.now) inputs.now.tensors) }
         ensures term { term_under result ≡ term_of expr.now }
         ensures inputs { inputs_under result ≡ inputs.now.tensors }
     {
-        // Says that the limit is a rank that dims can have.
-        let _limit = inputs.rank_limit();
+        // Says that dims can go as far as the inputs' bounds.
+        let _limit = inputs.bounds();
         Cursor { expr, inputs }
     }
 
@@ -63,7 +63,7 @@ impl<'a> Cursor<'a> {
 #[cycle(value)]
 fn value_at(expr: &Expr, inputs: &Inputs, place: u64) -> i64
     requires inputs { IsTrue (has_inputs (term_of expr.now) (length inputs.now.tensors)) }
-    requires dims { IsOk (dims_of highest_rank (term_of expr.now) inputs.now.tensors) }
+    requires dims { IsOk (dims_of widest (term_of expr.now) inputs.now.tensors) }
     requires below { place < size_of (shape_of (term_of expr.now) inputs.now.tensors) }
     ensures { result ≡ value_of_place (term_of expr.now) inputs.now.tensors place }
 {
@@ -101,7 +101,7 @@ fn value_at(expr: &Expr, inputs: &Inputs, place: u64) -> i64
 #[cycle(value)]
 fn reduced_at(reducer: Reducer, axes: &[u64], a: &Expr, inputs: &Inputs, place: u64) -> i64
     requires inputs { IsTrue (has_inputs (term_of a.now) (length inputs.now.tensors)) }
-    requires dims { IsOk (dims_of highest_rank (unary (reduce reducer axes.now) (term_of a.now))
+    requires dims { IsOk (dims_of widest (unary (reduce reducer axes.now) (term_of a.now))
         inputs.now.tensors) }
     requires below { place
         < size_of (shape_of (unary (reduce reducer axes.now) (term_of a.now)) inputs.now.tensors) }
@@ -124,7 +124,7 @@ fn reduced_at(reducer: Reducer, axes: &[u64], a: &Expr, inputs: &Inputs, place: 
 fn contracted_at(pairs: &[(u64, u64)], a: &Expr, b: &Expr, inputs: &Inputs, place: u64) -> i64
     requires inputs_a { IsTrue (has_inputs (term_of a.now) (length inputs.now.tensors)) }
     requires inputs_b { IsTrue (has_inputs (term_of b.now) (length inputs.now.tensors)) }
-    requires dims { IsOk (dims_of highest_rank (binary (contract pairs.now) (term_of a.now) (term_of b.now))
+    requires dims { IsOk (dims_of widest (binary (contract pairs.now) (term_of a.now) (term_of b.now))
         inputs.now.tensors) }
     requires below { place < size_of (shape_of
         (binary (contract pairs.now) (term_of a.now) (term_of b.now)) inputs.now.tensors) }
@@ -149,7 +149,7 @@ fn contracted_at(pairs: &[(u64, u64)], a: &Expr, b: &Expr, inputs: &Inputs, plac
 #[cycle(value)]
 fn padded_at(pairs: &[(u64, u64)], a: &Expr, inputs: &Inputs, place: u64) -> i64
     requires inputs { IsTrue (has_inputs (term_of a.now) (length inputs.now.tensors)) }
-    requires dims { IsOk (dims_of highest_rank (unary (pad pairs.now) (term_of a.now))
+    requires dims { IsOk (dims_of widest (unary (pad pairs.now) (term_of a.now))
         inputs.now.tensors) }
     requires below { place
         < size_of (shape_of (unary (pad pairs.now) (term_of a.now)) inputs.now.tensors) }
@@ -167,7 +167,7 @@ fn padded_at(pairs: &[(u64, u64)], a: &Expr, inputs: &Inputs, place: u64) -> i64
 fn concatenated_at(axis: u64, a: &Expr, b: &Expr, inputs: &Inputs, place: u64) -> i64
     requires inputs_a { IsTrue (has_inputs (term_of a.now) (length inputs.now.tensors)) }
     requires inputs_b { IsTrue (has_inputs (term_of b.now) (length inputs.now.tensors)) }
-    requires dims { IsOk (dims_of highest_rank
+    requires dims { IsOk (dims_of widest
         (binary (concat axis) (term_of a.now) (term_of b.now)) inputs.now.tensors) }
     requires below { place < size_of (shape_of
         (binary (concat axis) (term_of a.now) (term_of b.now)) inputs.now.tensors) }
@@ -188,7 +188,7 @@ fn concatenated_at(axis: u64, a: &Expr, b: &Expr, inputs: &Inputs, place: u64) -
 fn convolved_at(axes: &[u64], a: &Expr, b: &Expr, inputs: &Inputs, place: u64) -> i64
     requires inputs_a { IsTrue (has_inputs (term_of a.now) (length inputs.now.tensors)) }
     requires inputs_b { IsTrue (has_inputs (term_of b.now) (length inputs.now.tensors)) }
-    requires dims { IsOk (dims_of highest_rank
+    requires dims { IsOk (dims_of widest
         (binary (convolve axes.now) (term_of a.now) (term_of b.now)) inputs.now.tensors) }
     requires below { place < size_of (shape_of
         (binary (convolve axes.now) (term_of a.now) (term_of b.now)) inputs.now.tensors) }
@@ -228,7 +228,7 @@ impl Pairing {
     fn of(pairs: &[(u64, u64)], a: &Expr, b: &Expr, inputs: &Inputs) -> Pairing
         requires inputs_a { IsTrue (has_inputs (term_of a.now) (length inputs.now.tensors)) }
         requires inputs_b { IsTrue (has_inputs (term_of b.now) (length inputs.now.tensors)) }
-        requires dims { IsOk (dims_of highest_rank
+        requires dims { IsOk (dims_of widest
             (binary (contract pairs.now) (term_of a.now) (term_of b.now)) inputs.now.tensors) }
         ensures { IsPairing inputs.now.tensors pairs.now (term_of a.now) (term_of b.now) result }
     {
@@ -251,8 +251,8 @@ impl Pairing {
 /// The dims of an expression that has some.
 fn known_dims(expr: &Expr, inputs: &Inputs) -> Dims
     requires inputs { IsTrue (has_inputs (term_of expr.now) (length inputs.now.tensors)) }
-    requires dims { IsOk (dims_of highest_rank (term_of expr.now) inputs.now.tensors) }
+    requires dims { IsOk (dims_of widest (term_of expr.now) inputs.now.tensors) }
     ensures { result ≡ shape_of (term_of expr.now) inputs.now.tensors }
 {
-    dims_within(MAX_RANK, expr, inputs).unwrap()
+    dims_within(WIDEST, expr, inputs).unwrap()
 }

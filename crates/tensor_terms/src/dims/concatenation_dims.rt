@@ -3,24 +3,23 @@
 ghost use Rattle.std.specs.Prelude.{◌≡◌, ◌≤◌, ◌<◌, ◌+◌, ◌^◌, length, slice_index, remove};
 ghost use Rattle.std.specs.Prelude.{nat_eq, Ok, IsOk};
 ghost use Rattle.std.specs.Cmp.Lexicographic.{pointwise};
-ghost use Rattle.tensor_shape.specs.Legal.{highest_rank};
+ghost use Rattle.tensor_shape.specs.Legal.{highest_rank, IsPossible};
 ghost use Rattle.tensor_terms.specs.Concatenation.{joined_dims, concatenated_dims};
 ghost use Rattle.tensor_terms.specs.Shaped.{legal_dims};
 
 use crate::dims::movement_dims::{extend, legal_dims};
 use crate::fault::ExprFault;
-use tensor_shape::{Dims, MAX_RANK, PerAxis};
+use tensor_shape::{Bounds, Dims, PerAxis};
 
-/// The result dims of a concatenation along an axis, where ranks end there, or the first of its own
-/// faults.
+/// The result dims of a concatenation along an axis, within bounds, or the first of its own faults.
 pub fn concatenated_dims(
-    rank: usize,
+    bounds: Bounds,
     axis: u64,
     first: &Dims,
     second: &Dims,
 ) -> Result<Dims, ExprFault>
-    requires { rank ≤ highest_rank }
-    ensures { result ≡ concatenated_dims rank axis first.now second.now }
+    requires { IsPossible bounds }
+    ensures { result ≡ concatenated_dims bounds axis first.now second.now }
 {
     let firsts = first.as_slice();
     let seconds = second.as_slice();
@@ -33,7 +32,7 @@ pub fn concatenated_dims(
     if !agree_but_at(axis as usize, firsts, seconds) {
         return Err(ExprFault::ShapeMismatch);
     }
-    joined_dims(rank, axis as usize, firsts, seconds)
+    joined_dims(bounds, axis as usize, firsts, seconds)
 }
 
 /// Whether sizes are the same but along one axis.
@@ -46,17 +45,22 @@ fn agree_but_at(axis: usize, firsts: &[u64], seconds: &[u64]) -> bool
 }
 
 /// The sizes, with both along one axis.
-fn joined_dims(rank: usize, axis: usize, firsts: &[u64], seconds: &[u64]) -> Result<Dims, ExprFault>
-    requires rank { rank ≤ highest_rank }
+fn joined_dims(
+    bounds: Bounds,
+    axis: usize,
+    firsts: &[u64],
+    seconds: &[u64],
+) -> Result<Dims, ExprFault>
+    requires bounds { IsPossible bounds }
     requires axis { axis < length firsts.now }
     requires same { length seconds.now ≡ length firsts.now }
     requires few { length firsts.now ≤ highest_rank }
     requires small { slice_index firsts.now axis + slice_index seconds.now axis < 2 ^ 64 }
-    ensures { result ≡ legal_dims rank (joined_dims axis firsts.now seconds.now) }
+    ensures { result ≡ legal_dims bounds (joined_dims axis firsts.now seconds.now) }
 {
     let mut joined = PerAxis::new();
     extend(&mut joined, &firsts[..axis]);
     joined.push(firsts[axis] + seconds[axis]);
     extend(&mut joined, &firsts[axis + 1..]);
-    legal_dims(rank, joined.as_slice())
+    legal_dims(bounds, joined.as_slice())
 }

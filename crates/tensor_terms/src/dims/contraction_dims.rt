@@ -1,7 +1,7 @@
 //! The result dims of contractions.
 
 ghost use Rattle.std.specs.Prelude.{◌≡◌, ◌≤◌, ◌++◌, ◌↔◌, length, IsSome, IfSome};
-ghost use Rattle.tensor_shape.specs.Legal.{highest_rank};
+ghost use Rattle.tensor_shape.specs.Legal.{highest_rank, IsPossible};
 ghost use Rattle.tensor_terms.specs.Contraction.{firsts, seconds, contracted_dims};
 ghost use Rattle.tensor_terms.specs.Shaped.{legal_dims};
 
@@ -9,21 +9,21 @@ use crate::dims::movement_dims::{extend, legal_dims};
 use crate::dims::reduction_dims::are_axes;
 use crate::fault::ExprFault;
 use crate::index::index_parts::{dims_at, other_dims};
-use tensor_shape::{Dims, PerAxis};
+use tensor_shape::{Bounds, Dims, PerAxis};
 
 /// The most products that a contraction adds up.
 pub(crate) const MOST_PRODUCTS: u64 = 1_073_741_824;
 
-/// The result dims of a contraction over pairs of axes of operands of these dims, where ranks end
-/// there, or the first of its own faults.
+/// The result dims of a contraction over pairs of axes of operands of these dims, within
+/// bounds, or the first of its own faults.
 pub fn contracted_dims(
-    rank: usize,
+    bounds: Bounds,
     pairs: &[(u64, u64)],
     first: &Dims,
     second: &Dims,
 ) -> Result<Dims, ExprFault>
-    requires { rank ≤ highest_rank }
-    ensures { result ≡ contracted_dims rank pairs.now first.now second.now }
+    requires { IsPossible bounds }
+    ensures { result ≡ contracted_dims bounds pairs.now first.now second.now }
 {
     let Some((firsts, seconds)) = paired_axes(pairs, first) else {
         return Err(ExprFault::OutOfRange);
@@ -38,7 +38,7 @@ pub fn contracted_dims(
         return Err(ExprFault::ShapeMismatch);
     }
     let outer = joined_dims(
-        rank,
+        bounds,
         &other_dims(firsts, first),
         &other_dims(seconds, second),
     )?;
@@ -48,19 +48,18 @@ pub fn contracted_dims(
     Ok(outer)
 }
 
-/// The dims of the first, and then those of the second, which have to be legal where ranks end
-/// there.
-fn joined_dims(rank: usize, first: &Dims, second: &Dims) -> Result<Dims, ExprFault>
-    requires { rank ≤ highest_rank }
-    ensures { result ≡ legal_dims rank (first.now ++ second.now) }
+/// The dims of the first, and then those of the second, which have to be within bounds.
+fn joined_dims(bounds: Bounds, first: &Dims, second: &Dims) -> Result<Dims, ExprFault>
+    requires { IsPossible bounds }
+    ensures { result ≡ legal_dims bounds (first.now ++ second.now) }
 {
-    if first.rank() + second.rank() > rank {
+    if first.rank() + second.rank() > bounds.rank {
         return Err(ExprFault::TooLarge);
     }
     let mut joined = PerAxis::new();
     extend(&mut joined, first.as_slice());
     extend(&mut joined, second.as_slice());
-    legal_dims(rank, joined.as_slice())
+    legal_dims(bounds, joined.as_slice())
 }
 
 /// The paired axes of both operands, where there are no more pairs than axes of the first.

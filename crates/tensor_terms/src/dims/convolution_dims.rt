@@ -8,7 +8,7 @@ use crate::dims::contraction_dims::MOST_PRODUCTS;
 use crate::dims::movement_dims::{extend, legal_dims};
 use crate::dims::reduction_dims::are_axes;
 use crate::fault::ExprFault;
-use tensor_shape::{Dims, MAX_RANK, PerAxis};
+use tensor_shape::{Dims, PerAxis, WIDEST};
 
 /// The result dims of a convolution along axes, the second operand the kernel, or the first of its
 /// own faults.
@@ -60,5 +60,5 @@ fn slid_dims(axes: &[u64], kernel: &[u64], dims: &Dims) -> Dims
         let axis = axes[k] as usize;
         slid[axis] = sizes[axis] - kernel[k] + 1;
     }
-    legal_dims(MAX_RANK, slid.as_slice()).unwrap()
+    legal_dims(WIDEST, slid.as_slice()).unwrap()
 }

@@ -2,7 +2,7 @@
 
 ghost use Rattle.std.specs.Prelude.{◌≡◌, ◌≤◌, ◌<◌, ◌+◌, ◌++◌, ℕ, length, slice_index, remove};
 ghost use Rattle.std.specs.Prelude.{Ok, IsOk};
-ghost use Rattle.tensor_shape.specs.Legal.{highest_rank};
+ghost use Rattle.tensor_shape.specs.Legal.{highest_rank, widest, IsPossible};
 ghost use Rattle.tensor_terms.specs.Movement.{moved_dims, repeated_dims, shuffled_dims, none_is_zero};
 ghost use Rattle.tensor_terms.specs.Movement.{strided_dims};
 ghost use Rattle.tensor_terms.specs.Movement.{fit_within, is_among, has_all_below};
@@ -12,28 +12,28 @@ ghost use Rattle.tensor_terms.specs.Tree.{movement_at};
 
 use crate::expr::node::Movement;
 use crate::fault::ExprFault;
-use tensor_shape::{Dims, MAX_RANK, PerAxis};
+use tensor_shape::{Bounds, Dims, PerAxis, WIDEST};
 
-/// The result dims of a movement of an operand of these dims, where ranks end there, or the first of
-/// its own faults.
-pub fn moved_dims(rank: usize, movement: Movement<'_>, dims: &Dims) -> Result<Dims, ExprFault>
-    requires { rank ≤ highest_rank }
-    ensures { result ≡ moved_dims rank (movement_at movement.entry) dims.now }
+/// The result dims of a movement of an operand of these dims, within bounds, or the first of its own
+/// faults.
+pub fn moved_dims(bounds: Bounds, movement: Movement<'_>, dims: &Dims) -> Result<Dims, ExprFault>
+    requires { IsPossible bounds }
+    ensures { result ≡ moved_dims bounds (movement_at movement.entry) dims.now }
 {
     match movement {
-        Movement::Broadcast(counts) => broadcast_dims(rank, counts, dims),
+        Movement::Broadcast(counts) => broadcast_dims(bounds, counts, dims),
         Movement::Slice(offsets, extents) => slice_dims(offsets, extents, dims),
         Movement::Shuffle(order) => shuffle_dims(order, dims),
-        Movement::Reshape(sizes) => reshape_dims(rank, sizes, dims),
+        Movement::Reshape(sizes) => reshape_dims(bounds, sizes, dims),
         Movement::Chip(offset, axis) => chip_dims(offset, axis, dims),
         Movement::Reverse(flags) => reverse_dims(flags, dims),
         Movement::Stride(steps) => stride_dims(steps, dims),
     }
 }
 
-fn broadcast_dims(rank: usize, counts: &[u64], dims: &Dims) -> Result<Dims, ExprFault>
-    requires { rank ≤ highest_rank }
-    ensures { result ≡ moved_dims rank (broadcast counts.now) dims.now }
+fn broadcast_dims(bounds: Bounds, counts: &[u64], dims: &Dims) -> Result<Dims, ExprFault>
+    requires { IsPossible bounds }
+    ensures { result ≡ moved_dims bounds (broadcast counts.now) dims.now }
 {
     if counts.len() != dims.rank() {
         return Err(ExprFault::ShapeMismatch);
@@ -41,11 +41,11 @@ fn broadcast_dims(rank: usize, counts: &[u64], dims: &Dims) -> Result<Dims, Expr
     if !none_is_zero(counts) {
         return Err(ExprFault::OutOfRange);
     }
-    repeated_dims(rank, counts, dims.as_slice())
+    repeated_dims(bounds, counts, dims.as_slice())
 }
 
 fn slice_dims(offsets: &[u64], extents: &[u64], dims: &Dims) -> Result<Dims, ExprFault>
-    ensures { result ≡ moved_dims highest_rank (slice offsets.now extents.now) dims.now }
+    ensures { result ≡ moved_dims widest (slice offsets.now extents.now) dims.now }
 {
     if offsets.len() != dims.rank() || extents.len() != dims.rank() {
         return Err(ExprFault::ShapeMismatch);
@@ -54,11 +54,11 @@ fn slice_dims(offsets: &[u64], extents: &[u64], dims: &Dims) -> Result<Dims, Exp
         return Err(ExprFault::OutOfRange);
     }
     // They are legal, since no dimension grows.
-    legal_dims(MAX_RANK, extents)
+    legal_dims(WIDEST, extents)
 }
 
 fn shuffle_dims(order: &[u64], dims: &Dims) -> Result<Dims, ExprFault>
-    ensures { result ≡ moved_dims highest_rank (shuffle order.now) dims.now }
+    ensures { result ≡ moved_dims widest (shuffle order.now) dims.now }
 {
     let sizes = dims.as_slice();
     if order.len() != sizes.len() {
@@ -71,11 +71,11 @@ fn shuffle_dims(order: &[u64], dims: &Dims) -> Result<Dims, ExprFault>
     shuffled_dims(order, sizes)
 }
 
-fn reshape_dims(rank: usize, sizes: &[u64], dims: &Dims) -> Result<Dims, ExprFault>
-    requires { rank ≤ highest_rank }
-    ensures { result ≡ moved_dims rank (reshape sizes.now) dims.now }
+fn reshape_dims(bounds: Bounds, sizes: &[u64], dims: &Dims) -> Result<Dims, ExprFault>
+    requires { IsPossible bounds }
+    ensures { result ≡ moved_dims bounds (reshape sizes.now) dims.now }
 {
-    let shape = legal_dims(rank, sizes)?;
+    let shape = legal_dims(bounds, sizes)?;
     if shape.size() == dims.size() {
         Ok(shape)
     } else {
@@ -84,7 +84,7 @@ fn reshape_dims(rank: usize, sizes: &[u64], dims: &Dims) -> Result<Dims, ExprFau
 }
 
 fn chip_dims(offset: u64, axis: u64, dims: &Dims) -> Result<Dims, ExprFault>
-    ensures { result ≡ moved_dims highest_rank (chip offset axis) dims.now }
+    ensures { result ≡ moved_dims widest (chip offset axis) dims.now }
 {
     let sizes = dims.as_slice();
     if axis >= sizes.len() as u64 || offset >= sizes[axis as usize] {
@@ -95,7 +95,7 @@ fn chip_dims(offset: u64, axis: u64, dims: &Dims) -> Result<Dims, ExprFault>
 }
 
 fn reverse_dims(flags: &[bool], dims: &Dims) -> Result<Dims, ExprFault>
-    ensures { result ≡ moved_dims highest_rank (reverse flags.now) dims.now }
+    ensures { result ≡ moved_dims widest (reverse flags.now) dims.now }
 {
     if flags.len() == dims.rank() {
         Ok(dims.copied())
@@ -106,7 +106,7 @@ fn reverse_dims(flags: &[bool], dims: &Dims) -> Result<Dims, ExprFault>
 
 /// What is left of each dimension where only the multiples of its step are read.
 fn stride_dims(steps: &[u64], dims: &Dims) -> Result<Dims, ExprFault>
-    ensures { result ≡ moved_dims highest_rank (stride steps.now) dims.now }
+    ensures { result ≡ moved_dims widest (stride steps.now) dims.now }
 {
     if steps.len() != dims.rank() {
         return Err(ExprFault::ShapeMismatch);
@@ -118,26 +118,23 @@ fn stride_dims(steps: &[u64], dims: &Dims) -> Result<Dims, ExprFault>
     strided_dims(steps, dims.as_slice())
 }
 
-/// Dims of these sizes, which have to be legal where ranks end there.
-pub(crate) fn legal_dims(rank: usize, sizes: &[u64]) -> Result<Dims, ExprFault>
-    requires { rank ≤ highest_rank }
-    ensures { result ≡ legal_dims rank sizes.now }
+/// Dims of these sizes, which have to be within bounds.
+pub(crate) fn legal_dims(bounds: Bounds, sizes: &[u64]) -> Result<Dims, ExprFault>
+    requires { IsPossible bounds }
+    ensures { result ≡ legal_dims bounds sizes.now }
 {
-    if sizes.len() > rank {
-        return Err(ExprFault::TooLarge);
-    }
-    match Dims::new(sizes) {
+    match Dims::within(bounds, sizes) {
         Ok(dims) => Ok(dims),
         Err(_) => Err(ExprFault::TooLarge),
     }
 }
 
 /// Each size so many times. One past 64 bits is past the limit, too.
-fn repeated_dims(rank: usize, counts: &[u64], sizes: &[u64]) -> Result<Dims, ExprFault>
-    requires rank { rank ≤ highest_rank }
+fn repeated_dims(bounds: Bounds, counts: &[u64], sizes: &[u64]) -> Result<Dims, ExprFault>
+    requires bounds { IsPossible bounds }
     requires same { length counts.now ≡ length sizes.now }
     requires few { length sizes.now ≤ highest_rank }
-    ensures { result ≡ legal_dims rank (repeated_dims sizes.now counts.now) }
+    ensures { result ≡ legal_dims bounds (repeated_dims sizes.now counts.now) }
 {
     let mut repeated = PerAxis::new();
     for axis in 0..sizes.len() {
@@ -146,7 +143,7 @@ fn repeated_dims(rank: usize, counts: &[u64], sizes: &[u64]) -> Result<Dims, Exp
         };
         repeated.push(size);
     }
-    legal_dims(rank, repeated.as_slice())
+    legal_dims(bounds, repeated.as_slice())
 }
 
 /// Each size over its step, rounded up.
@@ -154,13 +151,13 @@ fn strided_dims(steps: &[u64], sizes: &[u64]) -> Result<Dims, ExprFault>
     requires same { length steps.now ≡ length sizes.now }
     requires few { length sizes.now ≤ highest_rank }
     requires some { (k : ℕ) → k < length steps.now → 0 < slice_index steps.now k }
-    ensures { result ≡ legal_dims highest_rank (strided_dims sizes.now steps.now) }
+    ensures { result ≡ legal_dims widest (strided_dims sizes.now steps.now) }
 {
     let mut strided = PerAxis::new();
     for axis in 0..sizes.len() {
         strided.push(sizes[axis].div_ceil(steps[axis]));
     }
-    legal_dims(MAX_RANK, strided.as_slice())
+    legal_dims(WIDEST, strided.as_slice())
 }
 
 /// The sizes in another order.
@@ -168,9 +165,9 @@ pub(crate) fn shuffled_dims(order: &[u64], sizes: &[u64]) -> Result<Dims, ExprFa
     requires few { length order.now ≤ highest_rank }
     requires axes { (k : ℕ) → k < length order.now
         → slice_index order.now k < length sizes.now }
-    ensures { result ≡ legal_dims highest_rank (shuffled_dims sizes.now order.now) }
+    ensures { result ≡ legal_dims widest (shuffled_dims sizes.now order.now) }
 {
-    legal_dims(MAX_RANK, shuffled(order, sizes).as_slice())
+    legal_dims(WIDEST, shuffled(order, sizes).as_slice())
 }
 
 /// Of a number for each axis those of the axes in a list.
@@ -191,12 +188,12 @@ pub fn shuffled(order: &[u64], numbers: &[u64]) -> PerAxis
 fn dims_without(axis: usize, sizes: &[u64]) -> Result<Dims, ExprFault>
     requires axis { axis < length sizes.now }
     requires few { length sizes.now ≤ highest_rank }
-    ensures { result ≡ legal_dims highest_rank (remove sizes.now axis) }
+    ensures { result ≡ legal_dims widest (remove sizes.now axis) }
 {
     let mut others = PerAxis::new();
     extend(&mut others, &sizes[..axis]);
     extend(&mut others, &sizes[axis + 1..]);
-    legal_dims(MAX_RANK, others.as_slice())
+    legal_dims(WIDEST, others.as_slice())
 }
 
 /// Appends numbers.

@@ -1,31 +1,31 @@
 //! The result dims of pads.
 
 ghost use Rattle.std.specs.Prelude.{◌≡◌, ◌≤◌, ◌<◌, ◌+◌, length, Ok, IsOk, IfSome, IsNone};
-ghost use Rattle.tensor_shape.specs.Legal.{highest_rank, most_elements};
+ghost use Rattle.tensor_shape.specs.Legal.{highest_rank, most_elements, IsPossible};
 ghost use Rattle.tensor_terms.specs.Padding.{padded_dims, pad_dims};
 ghost use Rattle.tensor_terms.specs.Shaped.{legal_dims};
 
 use crate::dims::movement_dims::legal_dims;
 use crate::fault::ExprFault;
-use tensor_shape::{Dims, MAX_RANK, PerAxis};
+use tensor_shape::{Bounds, Dims, PerAxis};
 
-/// The result dims of a pad, where ranks end there, or the first of its own faults.
-pub(crate) fn pad_dims(rank: usize, pairs: &[(u64, u64)], dims: &Dims) -> Result<Dims, ExprFault>
-    requires { rank ≤ highest_rank }
-    ensures { result ≡ pad_dims rank pairs.now dims.now }
+/// The result dims of a pad, within bounds, or the first of its own faults.
+pub(crate) fn pad_dims(bounds: Bounds, pairs: &[(u64, u64)], dims: &Dims) -> Result<Dims, ExprFault>
+    requires { IsPossible bounds }
+    ensures { result ≡ pad_dims bounds pairs.now dims.now }
 {
     if pairs.len() != dims.rank() {
         return Err(ExprFault::ShapeMismatch);
     }
-    padded_dims(rank, pairs, dims.as_slice())
+    padded_dims(bounds, pairs, dims.as_slice())
 }
 
 /// Each size, and what stands before and behind it. One past 64 bits is past the limit, too.
-fn padded_dims(rank: usize, pairs: &[(u64, u64)], sizes: &[u64]) -> Result<Dims, ExprFault>
-    requires rank { rank ≤ highest_rank }
+fn padded_dims(bounds: Bounds, pairs: &[(u64, u64)], sizes: &[u64]) -> Result<Dims, ExprFault>
+    requires bounds { IsPossible bounds }
     requires same { length pairs.now ≡ length sizes.now }
     requires few { length sizes.now ≤ highest_rank }
-    ensures { result ≡ legal_dims rank (padded_dims pairs.now sizes.now) }
+    ensures { result ≡ legal_dims bounds (padded_dims pairs.now sizes.now) }
 {
     let mut padded = PerAxis::new();
     for axis in 0..sizes.len() {
@@ -35,7 +35,7 @@ fn padded_dims(rank: usize, pairs: &[(u64, u64)], sizes: &[u64]) -> Result<Dims,
         };
         padded.push(size);
     }
-    legal_dims(rank, padded.as_slice())
+    legal_dims(bounds, padded.as_slice())
 }
 
 /// The sum of three numbers, where it is within 64 bits.

@@ -1,7 +1,7 @@
 //! The result dims of expressions, or their first faults.
 
 ghost use Rattle.std.specs.Prelude.{◌≡◌, ◌≤◌, List, ℕ, length, Ok, IsTrue, IfOk, map};
-ghost use Rattle.tensor_shape.specs.Legal.{highest_rank};
+ghost use Rattle.tensor_shape.specs.Legal.{IsPossible};
 ghost use Rattle.tensor_terms.specs.Result.{unary_dims, binary_dims, ternary_dims};
 ghost use Rattle.tensor_terms.specs.Result.{dims_of, operand_dims, shape_of};
 ghost use Rattle.tensor_terms.specs.Shaped.{equal_dims};
@@ -18,39 +18,39 @@ use crate::expr::Expr;
 use crate::expr::node::{Binary, Node, Ternary, Unary};
 use crate::fault::ExprFault;
 use crate::tensor::inputs::Inputs;
-use tensor_shape::Dims;
+use tensor_shape::{Bounds, Dims};
 
 impl Expr {
     /// The dims of the result, or the first fault: operands are looked at from the left, each
-    /// wholly, before the operation's own checks. A result of a rank above the inputs' limit is too
-    /// large. Takes no memory.
+    /// wholly, before the operation's own checks. A result that is not within the inputs' bounds
+    /// is too large. Takes no memory.
     pub fn dims(&self, inputs: &Inputs) -> Result<Dims, ExprFault>
         requires { IsTrue (has_inputs (term_of self.now) (length inputs.now.tensors)) }
-        ensures dims { result ≡ dims_of inputs.now.rank (term_of self.now) inputs.now.tensors }
+        ensures dims { result ≡ dims_of inputs.now.bounds (term_of self.now) inputs.now.tensors }
         ensures shape { IfOk result (λ dims.
             shape_of (term_of self.now) inputs.now.tensors ≡ dims) }
     {
-        dims_within(inputs.rank_limit() as usize, self, inputs)
+        dims_within(inputs.bounds(), self, inputs)
     }
 
-    /// The same where ranks end there and the dims of the operands are known. Looks at no operand.
+    /// The same within bounds, where the dims of the operands are known. Looks at no operand.
     pub fn dims_over(
         &self,
-        rank: usize,
+        bounds: Bounds,
         inputs: &Inputs,
         operands: &[Dims],
     ) -> Result<Dims, ExprFault>
-        requires rank { rank ≤ highest_rank }
+        requires bounds { IsPossible bounds }
         requires inputs { IsTrue (has_inputs (term_of self.now) (length inputs.now.tensors)) }
-        requires operands { operand_dims rank (term_of self.now) inputs.now.tensors
+        requires operands { operand_dims bounds (term_of self.now) inputs.now.tensors
             ≡ map Ok operands.now }
-        ensures { result ≡ dims_of rank (term_of self.now) inputs.now.tensors }
+        ensures { result ≡ dims_of bounds (term_of self.now) inputs.now.tensors }
     {
         match (self.node(), operands) {
             (Node::Input(number), _) => Ok(inputs.get(number).dims().copied()),
-            (Node::Unary(operation, _), [operand]) => unary_dims(rank, operation, operand),
+            (Node::Unary(operation, _), [operand]) => unary_dims(bounds, operation, operand),
             (Node::Binary(operation, _, _), [first, second]) => {
-                binary_dims(rank, operation, first, second)
+                binary_dims(bounds, operation, first, second)
             }
             (Node::Ternary(operation, _, _, _), [first, second, third]) => {
                 ternary_dims(operation, first, second, third)
@@ -60,59 +60,59 @@ impl Expr {
     }
 }
 
-/// The dims of an expression, where ranks end there, or its first fault.
-pub(crate) fn dims_within(rank: usize, expr: &Expr, inputs: &Inputs) -> Result<Dims, ExprFault>
-    requires rank { rank ≤ highest_rank }
+/// The dims of an expression, within bounds, or its first fault.
+pub(crate) fn dims_within(bounds: Bounds, expr: &Expr, inputs: &Inputs) -> Result<Dims, ExprFault>
+    requires bounds { IsPossible bounds }
     requires inputs { IsTrue (has_inputs (term_of expr.now) (length inputs.now.tensors)) }
-    ensures { result ≡ dims_of rank (term_of expr.now) inputs.now.tensors }
+    ensures { result ≡ dims_of bounds (term_of expr.now) inputs.now.tensors }
 {
     match expr.node() {
         Node::Input(number) => Ok(inputs.get(number).dims().copied()),
         Node::Unary(operation, operand) => {
-            let operand = dims_within(rank, operand, inputs)?;
-            unary_dims(rank, operation, &operand)
+            let operand = dims_within(bounds, operand, inputs)?;
+            unary_dims(bounds, operation, &operand)
         }
         Node::Binary(operation, first, second) => {
-            let first = dims_within(rank, first, inputs)?;
-            let second = dims_within(rank, second, inputs)?;
-            binary_dims(rank, operation, &first, &second)
+            let first = dims_within(bounds, first, inputs)?;
+            let second = dims_within(bounds, second, inputs)?;
+            binary_dims(bounds, operation, &first, &second)
         }
         Node::Ternary(operation, first, second, third) => {
-            let first = dims_within(rank, first, inputs)?;
-            let second = dims_within(rank, second, inputs)?;
-            let third = dims_within(rank, third, inputs)?;
+            let first = dims_within(bounds, first, inputs)?;
+            let second = dims_within(bounds, second, inputs)?;
+            let third = dims_within(bounds, third, inputs)?;
             ternary_dims(operation, &first, &second, &third)
         }
     }
 }
 
-/// The dims of an operation on one tensor, where ranks end there, or the first of its own faults.
-fn unary_dims(rank: usize, operation: Unary<'_>, operand: &Dims) -> Result<Dims, ExprFault>
-    requires { rank ≤ highest_rank }
-    ensures { result ≡ unary_dims rank (unary_at operation.entry) operand.now }
+/// The dims of an operation on one tensor, within bounds, or the first of its own faults.
+fn unary_dims(bounds: Bounds, operation: Unary<'_>, operand: &Dims) -> Result<Dims, ExprFault>
+    requires { IsPossible bounds }
+    ensures { result ≡ unary_dims bounds (unary_at operation.entry) operand.now }
 {
     match operation {
         Unary::Each(_) | Unary::Constant(_) => Ok(operand.copied()),
-        Unary::Move(movement) => moved_dims(rank, movement, operand),
-        Unary::Pad(pairs) => pad_dims(rank, pairs, operand),
+        Unary::Move(movement) => moved_dims(bounds, movement, operand),
+        Unary::Pad(pairs) => pad_dims(bounds, pairs, operand),
         Unary::Reduce(_, axes) => reduced_dims(axes, operand),
     }
 }
 
-/// The dims of an operation on two tensors, where ranks end there, or the first of its own faults.
+/// The dims of an operation on two tensors, within bounds, or the first of its own faults.
 fn binary_dims(
-    rank: usize,
+    bounds: Bounds,
     operation: Binary<'_>,
     first: &Dims,
     second: &Dims,
 ) -> Result<Dims, ExprFault>
-    requires { rank ≤ highest_rank }
-    ensures { result ≡ binary_dims rank (binary_at operation.entry) first.now second.now }
+    requires { IsPossible bounds }
+    ensures { result ≡ binary_dims bounds (binary_at operation.entry) first.now second.now }
 {
     match operation {
         Binary::Pairwise(_) => equal_dims(first, second),
-        Binary::Concat(axis) => concatenated_dims(rank, axis, first, second),
-        Binary::Contract(pairs) => contracted_dims(rank, pairs, first, second),
+        Binary::Concat(axis) => concatenated_dims(bounds, axis, first, second),
+        Binary::Contract(pairs) => contracted_dims(bounds, pairs, first, second),
         Binary::Convolve(axes) => convolved_dims(axes, first, second),
     }
 }

@@ -4,26 +4,26 @@ ghost use Rattle.std.specs.Prelude.{◌≡◌, ◌≤◌, ◌<◌, ◌+◌, ◌-
 ghost use Rattle.std.specs.Prelude.{slice_index, insert, Ok, IsOk, if◌then◌else◌};
 ghost use Rattle.std.specs.Result.{result_unwrap_or};
 ghost use Rattle.tensor_shape.specs.Index.{size_of, IsIndexOf, place, index_of};
-ghost use Rattle.tensor_shape.specs.Legal.{highest_rank};
+ghost use Rattle.tensor_shape.specs.Legal.{highest_rank, widest};
 ghost use Rattle.tensor_terms.specs.Movement.{moved_dims, moved};
 ghost use Rattle.tensor_terms.specs.Movement.{wrapped, offset_by, scattered, mirrored, scaled};
 ghost use Rattle.tensor_terms.specs.Tree.{movement_at};
 
 use crate::dims::movement_dims::{extend, moved_dims};
 use crate::expr::node::Movement;
-use tensor_shape::{Dims, MAX_RANK, PerAxis};
+use tensor_shape::{Dims, PerAxis, WIDEST};
 
 /// The place of the operand, of these dims, that is read for a place of the result.
 pub(crate) fn moved_place(movement: Movement<'_>, dims: &Dims, linear: u64) -> u64
-    requires dims { IsOk (moved_dims highest_rank (movement_at movement) dims.now) }
+    requires dims { IsOk (moved_dims widest (movement_at movement) dims.now) }
     requires below { linear
-        < size_of (result_unwrap_or (moved_dims highest_rank (movement_at movement) dims.now) []) }
+        < size_of (result_unwrap_or (moved_dims widest (movement_at movement) dims.now) []) }
     ensures value { result ≡ place dims.now (moved (movement_at movement.entry) dims.now
-        (index_of (result_unwrap_or (moved_dims highest_rank (movement_at movement.entry) dims.now) [])
+        (index_of (result_unwrap_or (moved_dims widest (movement_at movement.entry) dims.now) [])
         linear)) }
     ensures below { result < size_of dims.now }
 {
-    let shape = moved_dims(MAX_RANK, movement, dims).unwrap();
+    let shape = moved_dims(WIDEST, movement, dims).unwrap();
     let index = shape.index_of(linear);
     let read = moved(movement, dims, &shape, index.as_slice());
     dims.linear(read.as_slice())
@@ -31,7 +31,7 @@ pub(crate) fn moved_place(movement: Movement<'_>, dims: &Dims, linear: u64) -> u
 
 /// The index list of the operand that is read for one of the result, of this shape.
 fn moved(movement: Movement<'_>, dims: &Dims, shape: &Dims, index: &[u64]) -> PerAxis
-    requires shape { moved_dims highest_rank (movement_at movement) dims.now ≡ Ok shape.now }
+    requires shape { moved_dims widest (movement_at movement) dims.now ≡ Ok shape.now }
     requires index { IsIndexOf shape.now index.now }
     ensures { result.items ≡ moved (movement_at movement.entry) dims.now index.now }
 {

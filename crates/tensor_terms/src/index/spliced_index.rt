@@ -3,17 +3,17 @@
 ghost use Rattle.std.specs.Prelude.{◌≡◌, ◌<◌, ◌≤◌, ◌+◌, length, take, true, false};
 ghost use Rattle.std.specs.Prelude.{IsOk, IfSome, IsNone};
 ghost use Rattle.tensor_shape.specs.Index.{size_of, place, index_of};
-ghost use Rattle.tensor_shape.specs.Legal.{highest_rank};
+ghost use Rattle.tensor_shape.specs.Legal.{highest_rank, widest};
 ghost use Rattle.tensor_terms.specs.Concatenation.{joined_dims, concatenated_dims};
 ghost use Rattle.tensor_terms.specs.Padding.{padded_dims, pad_dims, is_inside, moved_back};
 
 use crate::dims::padding_dims::pad_dims;
-use tensor_shape::{Dims, MAX_RANK, PerAxis};
+use tensor_shape::{Dims, PerAxis, WIDEST};
 use tensor_values::Turns;
 
 /// The turns of a concatenation along an axis: the places of each operand along the axes up to it.
 pub fn turns_along(axis: u64, first: &Dims, second: &Dims) -> Turns
-    requires dims { IsOk (concatenated_dims highest_rank axis first.now second.now) }
+    requires dims { IsOk (concatenated_dims widest axis first.now second.now) }
     requires some { 0 < size_of (joined_dims axis first.now second.now) }
     ensures first { result.first ≡ size_of (take (axis + 1) first.now) }
     ensures second { result.second ≡ size_of (take (axis + 1) second.now) }
@@ -36,7 +36,7 @@ fn width_along(axis: usize, dims: &Dims) -> usize
 /// The place of the operand, of these dims, that a pad reads for a place of the result, where it
 /// reads one.
 pub(crate) fn padded_place(pairs: &[(u64, u64)], dims: &Dims, linear: u64) -> Option<u64>
-    requires dims { IsOk (pad_dims highest_rank pairs.now dims.now) }
+    requires dims { IsOk (pad_dims widest pairs.now dims.now) }
     requires below { linear < size_of (padded_dims pairs.now dims.now) }
     ensures inside { IfSome result (λ read. is_inside pairs.now dims.now
         (index_of (padded_dims pairs.now dims.now) linear) ≡ true) }
@@ -46,7 +46,7 @@ pub(crate) fn padded_place(pairs: &[(u64, u64)], dims: &Dims, linear: u64) -> Op
     ensures outside { IsNone result → is_inside pairs.now dims.now
         (index_of (padded_dims pairs.now dims.now) linear) ≡ false }
 {
-    let shape = pad_dims(MAX_RANK, pairs, dims).unwrap();
+    let shape = pad_dims(WIDEST, pairs, dims).unwrap();
     let index = shape.index_of(linear);
     let read = moved_back(pairs, dims.as_slice(), index.as_slice())?;
     Some(dims.linear(read.as_slice()))

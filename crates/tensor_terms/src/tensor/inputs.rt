@@ -3,68 +3,88 @@
 ghost use Rattle.std.specs.Prelude.{◌≡◌, ◌<◌, ◌≤◌, ◌-◌, ◌^◌, ◌∷◌, [], ◌++◌, ◌↔◌, ◌⊎◌, length};
 ghost use Rattle.std.specs.Prelude.{IsTrue};
 ghost use Rattle.std.specs.Prelude.{OnOk, OnErr, vec_len};
-ghost use Rattle.tensor_shape.specs.Legal.{highest_rank};
-ghost use Rattle.tensor_terms.specs.Contents.{input_of, HaveRank};
+ghost use Rattle.tensor_shape.specs.Legal.{highest_rank, text_bounds, IsPossible, IsWithin};
+ghost use Rattle.tensor_terms.specs.Contents.{input_of, AreWithin};
 
 use crate::tensor::Tensor;
 use std::alloc::AllocError;
 use std::marker::Model;
+use tensor_shape::Bounds;
 
 /// The highest rank of an expression over inputs, where nobody names another one.
 const RANK_LIMIT: u32 = 6;
 
-/// A list of tensors, each known by its number from 0, and the highest rank that a result of an
-/// expression over them may have.
+/// A list of tensors, each known by its number from 0, and how large the results of an expression
+/// over them may get.
 #[derive(Drop)]
 pub struct Inputs<'a> {
     tensors: Vec<Tensor<'a>>,
-    rank_limit: u32,
+    bounds: Bounds,
 }
 
 impl<'a> Model for Inputs<'a> {
-    ghost use Rattle.std.specs.Prelude.{◌≡◌, ◌⊎◌, length, ◌<◌, ◌^◌};
-    ghost use Rattle.tensor_terms.specs.Contents.{Given, HaveRank};
+    ghost use Rattle.std.specs.Prelude.{length, ◌<◌, ◌^◌};
+    ghost use Rattle.tensor_shape.specs.Legal.{IsPossible};
+    ghost use Rattle.tensor_terms.specs.Contents.{Given, AreWithin};
 
     ghost Value = { Given };
 
-    ghost view = { λ i. record { tensors = i.tensors.items; rank = i.rank_limit } };
+    ghost view = { λ i. record { tensors = i.tensors.items; bounds = i.bounds } };
 
     ghost invariant = { λ i. (length i.tensors.items < 2 ^ 32)
-        × (((i.rank_limit ≡ 6) ⊎ (i.rank_limit ≡ 8)) × HaveRank i.rank_limit i.tensors.items) };
+        × (IsPossible i.bounds × AreWithin i.bounds i.tensors.items) };
 }
 
 impl<'a> Inputs<'a> {
-    /// These tensors, numbered in their order. Results of expressions over them have rank 6 at most.
+    /// These tensors, numbered in their order. Results of expressions over them have rank 6 at most,
+    /// and as many elements as those of a text may have.
     pub fn new(tensors: Vec<Tensor<'a>>) -> Inputs<'a>
         requires few { vec_len tensors < 2 ^ 32 }
-        requires rank { HaveRank 6 tensors.items }
+        requires bounds { AreWithin (text_bounds 6) tensors.items }
         ensures tensors { result.tensors ≡ tensors.entry.items }
-        ensures limit { result.rank ≡ 6 }
+        ensures limit { result.bounds ≡ text_bounds 6 }
     {
         Inputs::with_rank(tensors, RANK_LIMIT)
     }
 
     /// These tensors, numbered in their order. Results of expressions over them have at most this
-    /// rank, which is 6 or 8.
+    /// rank, which is 6 or 8, and as many elements as those of a text may have.
     pub fn with_rank(tensors: Vec<Tensor<'a>>, limit: u32) -> Inputs<'a>
         requires few { vec_len tensors < 2 ^ 32 }
         requires limit { (limit ≡ 6) ⊎ (limit ≡ 8) }
-        requires rank { HaveRank limit tensors.items }
+        requires bounds { AreWithin (text_bounds limit) tensors.items }
         ensures tensors { result.tensors ≡ tensors.entry.items }
-        ensures limit { result.rank ≡ limit }
+        ensures limit { result.bounds ≡ text_bounds limit }
     {
-        Inputs {
-            tensors,
-            rank_limit: limit,
-        }
+        Inputs::with_bounds(tensors, Bounds::of_text(limit as usize))
+    }
+
+    /// These tensors, numbered in their order. Results of expressions over them are within these
+    /// bounds.
+    pub fn with_bounds(tensors: Vec<Tensor<'a>>, bounds: Bounds) -> Inputs<'a>
+        requires few { vec_len tensors < 2 ^ 32 }
+        requires limit { IsPossible bounds }
+        requires bounds { AreWithin bounds tensors.items }
+        ensures tensors { result.tensors ≡ tensors.entry.items }
+        ensures limit { result.bounds ≡ bounds }
+    {
+        Inputs { tensors, bounds }
     }
 
     /// The highest rank that a result of an expression over them may have.
     pub fn rank_limit(&self) -> u32
-        ensures value { result ≡ self.now.rank }
-        ensures limit { self.now.rank ≤ highest_rank }
+        ensures value { result ≡ self.now.bounds.rank }
+        ensures limit { self.now.bounds.rank ≤ highest_rank }
     {
-        self.rank_limit
+        self.bounds.rank as u32
+    }
+
+    /// How large a result of an expression over them may get.
+    pub fn bounds(&self) -> Bounds
+        ensures value { result ≡ self.now.bounds }
+        ensures limit { IsPossible self.now.bounds }
+    {
+        self.bounds
     }
 
     /// How many there are.
@@ -89,13 +109,13 @@ impl<'a> Inputs<'a> {
         &self.tensors[number as usize]
     }
 
-    /// Appends a tensor, whose number is then the old length. Its rank is within the limit.
+    /// Appends a tensor, whose number is then the old length. Its dims are within the bounds.
     pub fn push(&mut self, tensor: Tensor<'a>) -> Result<(), AllocError>
         requires few { length self.old.tensors < 2 ^ 32 - 1 }
-        requires rank { length tensor.dims ≤ self.old.rank }
+        requires bounds { IsWithin self.old.bounds tensor.dims }
         ensures ok { OnOk result (self.new.tensors ≡ self.old.tensors ++ tensor.entry ∷ []) }
         ensures err { OnErr result (self.new ≡ self.old) }
-        ensures limit { self.new.rank ≡ self.old.rank }
+        ensures limit { self.new.bounds ≡ self.old.bounds }
     {
         self.tensors.push(tensor)?;
         Ok(())

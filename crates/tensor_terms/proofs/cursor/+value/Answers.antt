@@ -6,7 +6,7 @@ use Rattle.std.proofs.lemmas.Bool.{and_parts}
 use Rattle.std.specs.Int.{w64}
 use Rattle.std.specs.Prelude.{FitsSigned}
 use mir.Val.{SFits, to_z}
-use Rattle.tensor_shape.specs.Legal.{highest_rank}
+use Rattle.tensor_shape.specs.Legal.{widest}
 use Rattle.tensor_shape.specs.Index.{size_of, place, index_of}
 use Rattle.tensor_terms.specs.Concatenation.{concatenated_dims}
 use Rattle.tensor_terms.specs.Padding.{padded_dims, is_inside, moved_back}
@@ -129,8 +129,8 @@ value_at-returns-in-Unary-Move-default t c =
     let node : unary (movement m) a ≡ term_of c.args.expr.now =
     ap (λ o. unary (unary_at o) a) (sym c.in-Unary-Move-default.field-0-is)
     ∙ c.in-Unary-Move-default.ensures in
-    let has_dims : IsOk (dims_of highest_rank (unary (movement m) a) c.args.inputs.now.tensors) =
-    subst (λ e. IsOk (dims_of highest_rank e c.args.inputs.now.tensors)) (sym node) c.requires.dims in
+    let has_dims : IsOk (dims_of widest (unary (movement m) a) c.args.inputs.now.tensors) =
+    subst (λ e. IsOk (dims_of widest e c.args.inputs.now.tensors)) (sym node) c.requires.dims in
     let below : c.args.place < size_of (shape_of (unary (movement m) a) c.args.inputs.now.tensors) =
     subst (λ e. c.args.place < size_of (shape_of e c.args.inputs.now.tensors))
     (sym node) c.requires.below in
@@ -371,7 +371,7 @@ concatenated_at-value_at-requires t c =
     let second : turns.second ≡ size_of (take (c.args.axis + 1) (shape_of b inputs)) =
     c.turns_along-turns.ensures.second ∙ ap (λ l. size_of (take (c.args.axis + 1) l)) c.known_dims-2.ensures in
     let places = places-concat inputs c.args.axis a b c.requires.dims turns.first turns.second c.args.place first second c.requires.below in
-    let known = with_two-known (concatenated_dims highest_rank c.args.axis) (dims_of highest_rank a inputs) (dims_of highest_rank b inputs) c.requires.dims in (
+    let known = with_two-known (concatenated_dims widest c.args.axis) (dims_of widest a inputs) (dims_of widest b inputs) c.requires.dims in (
       omega (arith, c.decreases),
       (c.requires.inputs_a, (known.0, rw c.firsts_before.ensures (places.0 (sym c.is_of_first.ensures ∙ c.if-is_of_first.true)))),
     )
@@ -387,7 +387,7 @@ concatenated_at-value_at-requires-else-is_of_first t c =
     let second : turns.second ≡ size_of (take (c.args.axis + 1) (shape_of b inputs)) =
     c.turns_along-turns.ensures.second ∙ ap (λ l. size_of (take (c.args.axis + 1) l)) c.known_dims-2.ensures in
     let places = places-concat inputs c.args.axis a b c.requires.dims turns.first turns.second c.args.place first second c.requires.below in
-    let known = with_two-known (concatenated_dims highest_rank c.args.axis) (dims_of highest_rank a inputs) (dims_of highest_rank b inputs) c.requires.dims in (
+    let known = with_two-known (concatenated_dims widest c.args.axis) (dims_of widest a inputs) (dims_of widest b inputs) c.requires.dims in (
       omega (arith, c.decreases),
       (c.requires.inputs_b, (known.1, rw c.seconds_before.ensures (places.1 (sym c.is_of_first.ensures ∙ c.if-is_of_first.false)))),
     )

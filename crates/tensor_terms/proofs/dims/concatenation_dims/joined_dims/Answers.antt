@@ -13,7 +13,7 @@ returns c =
     let back : behind ≡ drop (suc k) xs =
     take_all (length xs - (k + 1)) (drop (k + 1) xs) (omega (arith, length-drop (k + 1) xs)) ∙ ap (λ n. drop n xs) (add-one k) in
     c.legal_dims.ensures
-    ∙ ap (legal_dims c.args.rank)
+    ∙ ap (legal_dims c.args.bounds)
     (c.as_slice.ensures.value ∙ c.extend-2.ensures
     ∙ ap (λ l. l ++ behind) (c.push.ensures.items ∙ ap (λ l. l ++ x ∷ []) front)
     ∙ append_assoc (take k xs) (x ∷ []) behind ∙ ap (λ l. take k xs ++ x ∷ l) back ∙ sym (set_split xs k x c.requires.axis))

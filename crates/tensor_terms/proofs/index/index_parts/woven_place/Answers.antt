@@ -3,7 +3,7 @@ use Rattle.std.proofs.Common.{sym, ◌∙◌, arith}
 use Rattle.std.proofs.Math.Nat.{mul-le-mul}
 use Rattle.std.specs.Result.{result_unwrap_or}
 use Rattle.tensor_shape.specs.Index.{size_of}
-use Rattle.tensor_shape.specs.Legal.{highest_rank, most_elements}
+use Rattle.tensor_shape.specs.Legal.{widest, most_elements}
 use Rattle.tensor_terms.specs.Movement.{moved_dims, shuffled_dims}
 use Rattle.tensor_terms.specs.Term.{shuffle}
 use Rattle.tensor_terms.specs.Woven.{dims_at}
@@ -54,16 +54,16 @@ moved_place-requires c =
     ∙ ap (λ xs. axes_first axes (length xs)) c.as_slice-sizes.ensures.value in
     let count : c.size-count.result ≡ size_of (dims_at axes ds) = c.size-count.ensures.value
     ∙ ap size_of c.dims_at.ensures in
-    let shape : size_of (result_unwrap_or (moved_dims highest_rank (shuffle
+    let shape : size_of (result_unwrap_or (moved_dims widest (shuffle
     (order axes ds c.requires.axes)) ds) [])
     ≡ size_of (shuffled_dims ds (order axes ds c.requires.axes)) =
     ap (λ r. size_of (result_unwrap_or r [])) (shuffle-first axes ds c.requires.axes) in
     record {
-      dims = subst (λ l. IsOk (moved_dims highest_rank (shuffle l) ds)) (sym all)
+      dims = subst (λ l. IsOk (moved_dims widest (shuffle l) ds)) (sym all)
           (subst (λ r. IsOk r) (sym (shuffle-first axes ds c.requires.axes)) refl);
       below = subst (λ l. c.args.inner + c.size-count.result * c.args.outer < size_of
-          (result_unwrap_or (moved_dims highest_rank (shuffle l) ds) [])) (sym all)
-          (subst (λ n. c.args.inner + n * c.args.outer < size_of (result_unwrap_or (moved_dims highest_rank
+          (result_unwrap_or (moved_dims widest (shuffle l) ds) [])) (sym all)
+          (subst (λ n. c.args.inner + n * c.args.outer < size_of (result_unwrap_or (moved_dims widest
           (shuffle (order axes ds c.requires.axes)) ds) [])) (sym count)
           (omega (
             arith,

@@ -1,11 +1,12 @@
--- Result dims where ranks end earlier: they are those where ranks go as far as they may.
+-- Result dims within bounds: they are those where dims go as far as they may.
 use Rattle.std.proofs.Common.{◌≡◌, ℕ, ◌≤◌, List, length, remove, Bool, true, false, ◌&&◌, nat_eq, nat_lt, nat_le, Ok, Err, IsOk, IfOk, []}
 use Rattle.std.proofs.Common.{if◌then◌else◌, refl, ap, sym, ◌∙◌, arith, inl, inr}
 use Rattle.std.specs.Cmp.Lexicographic.{pointwise}
 use Rattle.std.specs.Result.{result_unwrap_or}
 use Rattle.std.proofs.lemmas.Bool.{cases_Bool, and_parts, and_from, leb-true, le-leb}
 use Rattle.tensor_shape.specs.Index.{size_of}
-use Rattle.tensor_shape.specs.Legal.{highest_rank, most_elements, bulk_of, are_legal}
+use Rattle.tensor_shape.specs.Legal.{highest_rank, widest, most_elements, bulk_of, are_legal, IsPossible}
+use Rattle.tensor_shape.specs.declared.bounds.Bounds.{Bounds}
 use Rattle.tensor_terms.specs.Contents.{Contents}
 use Rattle.tensor_terms.specs.Concatenation.{joined_dims}
 use Rattle.tensor_terms.specs.Contraction.{firsts, seconds, outer_dims, few_products}
@@ -22,7 +23,7 @@ use Rattle.tensor_terms.specs.declared.fault.ExprFault.{ExprFault}
 use Rattle.tensor_terms.specs.declared.fault.ExprFault.TheVariants.{ShapeMismatch, OutOfRange}
 use Rattle.tensor_terms.proofs.Shapes.{with_three-known}
 
--- a result that is there is the same where ranks go further
+-- a result that is there is the same where dims go further
 pub record Widens (narrow wide : Shaped) : Type 0 where
   pub same : IsOk narrow → wide ≡ narrow
 
@@ -45,21 +46,22 @@ Widens-one narrow wide (Err fault) wider own w = record { same = λ h. (cc) }
 abbrev equal_sizes : List ℕ → List ℕ → Shaped
 equal_sizes d e = if nat_eq (size_of e) (size_of d) then Ok e else Err ShapeMismatch
 
-module _ (rank : ℕ) (within : rank ≤ highest_rank) where
-  are_legal-wider : (d : List ℕ) → are_legal rank d ≡ true → are_legal highest_rank d ≡ true
+module _ (bounds : Bounds) (within : IsPossible bounds) where
+  are_legal-wider : (d : List ℕ) → are_legal bounds d ≡ true → are_legal widest d ≡ true
   are_legal-wider d h =
-      let parts = and_parts (nat_le (length d) rank) (nat_le (bulk_of d) most_elements) h in
+      let parts = and_parts (nat_le (length d) bounds.rank) (nat_le (bulk_of d) bounds.elements) h in
       and_from (nat_le (length d) highest_rank) (nat_le (bulk_of d) most_elements)
-      (le-leb (length d) highest_rank (omega (arith, leb-true (length d) rank parts.0, within))) parts.1
+      (le-leb (length d) highest_rank (omega (arith, leb-true (length d) bounds.rank parts.0, within.rank)))
+      (le-leb (bulk_of d) most_elements (omega (arith, leb-true (bulk_of d) bounds.elements parts.1, within.elements)))
 
-  pub legal_dims-wider : (d : List ℕ) → Widens (legal_dims rank d) (legal_dims highest_rank d)
+  pub legal_dims-wider : (d : List ℕ) → Widens (legal_dims bounds d) (legal_dims widest d)
   legal_dims-wider d =
-      elim (cases_Bool (are_legal rank d)) [
+      elim (cases_Bool (are_legal bounds d)) [
         | inl legal ↦ record { same = λ h. rw (legal, are_legal-wider d legal) refl }
         | inr illegal ↦ record { same = λ h. let bad = rw illegal at h in (cc) }
       ]
 
-  unary_dims-wider : (o : Unary) (d : List ℕ) → Widens (unary_dims rank o d) (unary_dims highest_rank o d)
+  unary_dims-wider : (o : Unary) (d : List ℕ) → Widens (unary_dims bounds o d) (unary_dims widest o d)
   unary_dims-wider (each o) d = Widens-same _
   unary_dims-wider (constant v) d = Widens-same _
   unary_dims-wider (movement (broadcast counts)) d =
@@ -76,7 +78,7 @@ module _ (rank : ℕ) (within : rank ≤ highest_rank) where
       Widens-check (nat_eq (length pairs) (length d)) _ _ ShapeMismatch (legal_dims-wider (padded_dims pairs d))
   unary_dims-wider (reduce r axes) d = Widens-same _
 
-  binary_dims-wider : (o : Binary) (d e : List ℕ) → Widens (binary_dims rank o d e) (binary_dims highest_rank o d e)
+  binary_dims-wider : (o : Binary) (d e : List ℕ) → Widens (binary_dims bounds o d e) (binary_dims widest o d e)
   binary_dims-wider (pairwise o) d e = Widens-same _
   binary_dims-wider (concat axis) d e =
       Widens-check (nat_eq (length d) (length e)) _ _ ShapeMismatch
@@ -89,32 +91,32 @@ module _ (rank : ℕ) (within : rank ≤ highest_rank) where
       _ _ (λ f. Widens-same _) (legal_dims-wider (outer_dims pairs d e))))
   binary_dims-wider (convolve axes) d e = Widens-same _
 
-  two-wider : (o : Binary) (first second wider widest : Shaped) → Widens first wider → Widens second widest
-      → Widens (with_two (binary_dims rank o) first second) (with_two (binary_dims highest_rank o) wider widest)
-  two-wider o (Ok d) second wider widest w v =
-      let inner = Widens-one (binary_dims rank o d) (binary_dims highest_rank o d) second widest (binary_dims-wider o d) v in
-      record { same = λ h. ap (λ r. with_two (binary_dims highest_rank o) r widest) (w.same refl) ∙ inner.same h }
-  two-wider o (Err fault) second wider widest w v = record { same = λ h. (cc) }
+  two-wider : (o : Binary) (first second wider other : Shaped) → Widens first wider → Widens second other
+      → Widens (with_two (binary_dims bounds o) first second) (with_two (binary_dims widest o) wider other)
+  two-wider o (Ok d) second wider other w v =
+      let inner = Widens-one (binary_dims bounds o d) (binary_dims widest o d) second other (binary_dims-wider o d) v in
+      record { same = λ h. ap (λ r. with_two (binary_dims widest o) r other) (w.same refl) ∙ inner.same h }
+  two-wider o (Err fault) second wider other w v = record { same = λ h. (cc) }
 
-  -- what the expression's own rank allows is allowed
-  pub dims_of-wider : (t : Term) (inputs : List Contents) → Widens (dims_of rank t inputs) (dims_of highest_rank t inputs)
+  -- what the expression's own bounds allow is allowed
+  pub dims_of-wider : (t : Term) (inputs : List Contents) → Widens (dims_of bounds t inputs) (dims_of widest t inputs)
   dims_of-wider (input n) inputs = Widens-same _
   dims_of-wider (unary o a) inputs =
-      Widens-one (unary_dims rank o) (unary_dims highest_rank o) _ _ (unary_dims-wider o) (dims_of-wider a inputs)
+      Widens-one (unary_dims bounds o) (unary_dims widest o) _ _ (unary_dims-wider o) (dims_of-wider a inputs)
   dims_of-wider (binary o a b) inputs = two-wider o _ _ _ _ (dims_of-wider a inputs) (dims_of-wider b inputs)
   dims_of-wider (ternary o a b c) inputs =
       record {
         same = λ h.
-            let known = with_three-known (ternary_dims o) (dims_of rank a inputs) (dims_of rank b inputs) (dims_of rank c inputs) h in
-            ap (λ r. with_three (ternary_dims o) r (dims_of highest_rank b inputs) (dims_of highest_rank c inputs))
+            let known = with_three-known (ternary_dims o) (dims_of bounds a inputs) (dims_of bounds b inputs) (dims_of bounds c inputs) h in
+            ap (λ r. with_three (ternary_dims o) r (dims_of widest b inputs) (dims_of widest c inputs))
             ((dims_of-wider a inputs).same known.0)
-            ∙ ap (λ r. with_three (ternary_dims o) (dims_of rank a inputs) r (dims_of highest_rank c inputs))
+            ∙ ap (λ r. with_three (ternary_dims o) (dims_of bounds a inputs) r (dims_of widest c inputs))
             ((dims_of-wider b inputs).same known.1)
-            ∙ ap (with_three (ternary_dims o) (dims_of rank a inputs) (dims_of rank b inputs)) ((dims_of-wider c inputs).same known.2);
+            ∙ ap (with_three (ternary_dims o) (dims_of bounds a inputs) (dims_of bounds b inputs)) ((dims_of-wider c inputs).same known.2);
       }
 
   -- so the dims that it allows are those of the values
-  pub shape_of-within : (t : Term) (inputs : List Contents) (r : Shaped) → r ≡ dims_of rank t inputs
+  pub shape_of-within : (t : Term) (inputs : List Contents) (r : Shaped) → r ≡ dims_of bounds t inputs
       → IfOk r (λ d. shape_of t inputs ≡ d)
   shape_of-within t inputs (Ok d) h =
       ap (λ s. result_unwrap_or s []) ((dims_of-wider t inputs).same (rw (← h) refl) ∙ sym h)
