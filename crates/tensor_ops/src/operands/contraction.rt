@@ -12,12 +12,9 @@ use crate::operands::operand::Operand;
 use crate::operands::rows::rows_of;
 use crate::operands::strips::{strip_width, strips_of};
 use std::alloc::{AllocError, Global};
-use tensor_kernels::Contraction;
+use tensor_kernels::{Contraction, TILED_ROWS};
 use tensor_shape::Dims;
 use tensor_terms::paired_axes;
-
-/// How many rows of the second operand are few, beside rows that are taken as slices.
-const FEW: usize = 4;
 
 /// The shortest rows that are taken as slices. Shorter ones cost more to find than to pass.
 const SHORTEST_STRIP: usize = 64;
@@ -51,7 +48,7 @@ pub(crate) fn paired_contraction<'a>(
     let (first_count, second_count) = (first_dims.size() as usize, second_dims.size() as usize);
     let width = strip_width(first_dims, first_axes);
     let second_width = strip_width(second_dims, second_axes);
-    let (one, few) = (first_count == width, second_count < FEW * width);
+    let (one, few) = (first_count == width, second_count < TILED_ROWS * width);
     if SHORTEST_STRIP <= width && SHORTEST_STRIP <= second_width && (one || few) {
         let list = first.into_list(alloc, first_count)?;
         let left = strips_of(alloc, first_dims, list, first_axes)?;
