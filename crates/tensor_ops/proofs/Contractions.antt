@@ -1,10 +1,9 @@
 -- What a contraction is, as sums of products of rows.
-use Rattle.std.proofs.Common.{◌≡◌, ℕ, zero, suc, ℤ, pos, ◌+ℤ◌, ◌*ℤ◌, ◌*◌, ◌/◌, ◌%◌, ◌<◌, ◌≤◌, List}
+use Rattle.std.proofs.Common.{◌≡◌, ℕ, zero, suc, ℤ, pos, ◌+ℤ◌, ◌*ℤ◌, ◌*◌, ◌/◌, ◌%◌, ◌<◌, List}
 use Rattle.std.proofs.Common.{[], ◌∷◌, ◌++◌}
 use Rattle.std.proofs.Common.{length, map, take, drop, fold, refl, ap, sym, ◌∙◌, arith, add-one}
 use Rattle.std.proofs.Common.{IsOk, subst}
 use Rattle.std.specs.List.{range_with_len}
-use Rattle.std.proofs.lemmas.List.{length-map}
 use Rattle.std.proofs.lemmas.List.FromFn.{map-range_with_len_more}
 use Rattle.std.proofs.lemmas.List.Sums.{fold_push}
 use Rattle.std.proofs.lemmas.Simd.{map-map}
@@ -16,7 +15,6 @@ use Rattle.tensor_terms.specs.Contraction.{firsts, seconds, outer_dims, contract
 use Rattle.tensor_kernels.specs.Products.{sum_to, rows_dot}
 use Rattle.tensor_ops.specs.private.OperandRows.{IsOperand}
 use Rattle.tensor_terms.specs.Woven.{dims_at, other_dims, woven}
-use Rattle.tensor_terms.proofs.Dropped.{length-axes}
 use Rattle.tensor_terms.proofs.Known.{contraction-known}
 use Rattle.tensor_ops.proofs.OperandRows.{operand-same}
 use Rattle.tensor_kernels.proofs.ProductSums.{sum_to-ext}

@@ -19,8 +19,8 @@ placed-sync : (ℓ : NamedLft) → IsSync (placed.the_field ℓ).row
 placed-sync ℓ =
     sync-Placed ℓ (search sendable) (search (crosses, sendable)) (search sendable)
     (search sendable) (search sendable depth 60) (λ h s. Box-sync h s)
-    (search sendable depth 60) (search sendable) (search (crosses, sendable) depth 80)
-    (search sendable depth 60) (search (crosses, sendable) depth 60) (search sendable depth 20)
+    (search sendable depth 80) (search (crosses, sendable) depth 80)
+    (search sendable depth 60) (search (crosses, sendable) depth 80) (search sendable depth 20)
 
 -- runs of its values, and runs of either kind
 value_runs-sync : (ℓ : NamedLft) → IsSync (value_runs.the_field ℓ).row

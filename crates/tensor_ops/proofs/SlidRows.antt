@@ -1,5 +1,5 @@
 -- Convolutions as products of rows.
-use Rattle.std.proofs.Common.{◌≡◌, ℕ, ◌+◌, ◌-◌, ◌*◌, ◌/◌, ◌%◌, ◌<◌, ◌≤◌, List, [], ◌∷◌, length, get_or, drop, true, Ok}
+use Rattle.std.proofs.Common.{◌≡◌, ℕ, ◌+◌, ◌*◌, ◌/◌, ◌%◌, ◌<◌, ◌≤◌, List, [], ◌∷◌, length, get_or, drop, true, Ok}
 use Rattle.std.proofs.Common.{refl, ap, sym, subst, ◌∙◌, arith}
 use Rattle.std.proofs.lemmas.List.{get_or-map}
 use Rattle.std.proofs.Math.Nat.{mul-le-mul_right}

@@ -1,6 +1,6 @@
-use Rattle.std.proofs.Common.{◌≡◌, ◌<◌, pos, refl, sym, ◌∙◌}
+use Rattle.std.proofs.Common.{◌≡◌, ◌<◌, pos, length, vec_len, refl, ap, subst, sym, ◌∙◌, arith}
 use Rattle.tensor_shape.specs.Index.{size_of}
-use Rattle.tensor_views.specs.Axes.{axes_from, moved_axes, moved_start}
+use Rattle.tensor_views.specs.Axes.{HasRank, axes_from, moved_axes, moved_start}
 use Rattle.tensor_terms.specs.Movement.{moved}
 use Rattle.tensor_ops.specs.private.Placing.{IsView, meaning_at}
 use Rattle.tensor_terms.specs.Tree.{movement_at}
@@ -28,8 +28,8 @@ returns-in-Reshape c = record {
 pub kept-requires : goal.kept-requires
 kept-requires c = record { sound = c.requires.sound; count = c.requires.count }
 
-pub moved-view-requires : goal.moved-view-requires
-moved-view-requires c =
+pub moved-requires : goal.moved-requires
+moved-requires c =
     let m = movement_at c.args.movement in
     let ds = c.args.operand.dims in
     let rs = c.unwrap-dims.result in
@@ -39,8 +39,10 @@ moved-view-requires c =
     let view = view-whole inner ds c.in_ok-inner.ensures.sound c.in_ok-inner.ensures.count whole.few in
     let some : 0 < size_of rs = some-of c.size-count.ensures.value c.if-count-eq0.false in
     let short = rw whole.axes at whole.short in
+    let seen = c.in_ok-whole.whole.axes in
+    let long : length (axes_from 1 ds) ≡ vec_len seen = omega (arith, ap length whole.axes, seen.ok.0) in
     rw (whole.start, whole.axes) (record {
-      rank = has_rank-moved (axes_from 1 ds) ds rs view.along m is_rs;
+      rank = subst (HasRank m) long (has_rank-moved (axes_from 1 ds) ds rs view.along m is_rs);
       fits = moved_start-few m inner inner 0 (axes_from 1 ds) ds rs view is_rs some;
       short = short;
     })

@@ -263,8 +263,8 @@ led-returns-in_ok-second-in-Binary = led.led-returns-in_ok-second-in-Binary
 pub led-returns-in_ok-third-in-Select : goal.led-returns-in_ok-third-in-Select
 led-returns-in_ok-third-in-Select = led.led-returns-in_ok-third-in-Select
 
-pub led-then-joint-requires : goal.led-then-joint-requires
-led-then-joint-requires = led.led-then-joint-requires
+pub led-then-requires : goal.led-then-requires
+led-then-requires = led.led-then-requires
 
 pub led-led-requires-in-Some : goal.led-led-requires-in-Some
 led-led-requires-in-Some = led.led-led-requires-in-Some

@@ -1,4 +1,4 @@
-use Rattle.std.proofs.Common.{◌≡◌, ◌+◌, ◌≤◌, length, ◌∙◌, le_trans, le-add_right, arith}
+use Rattle.std.proofs.Common.{◌+◌, ◌≤◌, length, ◌∙◌, le_trans, le-add_right, arith}
 use Rattle.tensor_ops.specs.private.Meaning.{meaning}
 use Rattle.tensor_kernels.proofs.Parts.{length-written, get_or-written}
 use Rattle.tensor_ops.proofs.placed.Placed.fill.Goals as goal

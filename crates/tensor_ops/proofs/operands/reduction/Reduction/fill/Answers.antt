@@ -2,7 +2,7 @@ use Rattle.std.proofs.Common.{◌≡◌, ◌+◌, refl, ap, ◌∙◌, rules, ar
 use Rattle.std.proofs.lemmas.Int.{to_z-of_z}
 use Rattle.std.specs.Int.{w64}
 use mir.Val.{SFits, to_z, of_z}
-use Rattle.tensor_ops.specs.private.Reduced.{combined_at, reduction_at}
+use Rattle.tensor_ops.specs.private.Reduced.{combined_at}
 use Rattle.tensor_ops.proofs.operands.reduction.Reduction.fill.Goals as goal
 
 pub returns-clause-each : goal.returns-clause-each

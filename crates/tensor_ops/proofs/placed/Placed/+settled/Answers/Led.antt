@@ -161,8 +161,8 @@ led-returns-in_ok-third-in-Select t c =
     c.all.ensures)
 
 -- led over a view
-pub led-then-joint-requires : goal.led-then-joint-requires
-led-then-joint-requires t c =
+pub led-then-requires : goal.led-then-requires
+led-then-requires t c =
     let start = c.args.view.start in
     let axes = c.args.view.axes.now in
     let below = c.in-View.below in
