@@ -29,11 +29,11 @@ use crate::schedule::grain::Grain;
 use crate::schedule::rows::{is_tensor, row_width};
 use crate::schedule::sharding::{FEW_VALUES, Sharding, has_contiguous_parts};
 use crate::step::Step;
-use tensor_ops::{Binary, Node};
+use tensor_ops::{Binary, Node, TILED_ROWS};
 
 /// From so many rows of both operands on a contraction takes their values wherever they lie, where
 /// with fewer it goes over rows that lie side by side.
-const MANY_ROWS: u64 = 4;
+const MANY_ROWS: u64 = TILED_ROWS as u64;
 
 /// Over how many index lists a value is at least that is worked out of values as they come, where
 /// there are many of them. A shuffled operand is read in rows of as many places.

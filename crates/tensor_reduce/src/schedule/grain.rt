@@ -4,20 +4,21 @@ ghost use Rattle.std.specs.Prelude.{◌<◌};
 
 use crate::schedule::worth::Load;
 use crate::shards::MOST_SHARDS;
+use tensor_ops::{BAND_COLUMNS, PAIRED_COLUMNS, WIDE_BAND_COLUMNS};
 
 /// How many leaves of values that are combinations there are for each worker, so that none waits
 /// long for the last.
 const SHARES: u64 = 4;
 
 /// How many columns a leaf of a contraction has at least, where each share has as many.
-const COLUMNS: u64 = 32;
+const BAND: u64 = BAND_COLUMNS as u64;
 
 /// Up to how many columns each leaf packs the first operand for itself, so that there is one for each
 /// worker and no more.
-const FEW_COLUMNS: u64 = 128;
+const WIDE_BAND: u64 = WIDE_BAND_COLUMNS as u64;
 
 /// From how many columns on each leaf does so again.
-const MANY_COLUMNS: u64 = 1024;
+const PAIRED: u64 = PAIRED_COLUMNS as u64;
 
 /// How many columns it has then at most, or half as many at least: so many that packing takes little
 /// of its time.
@@ -75,7 +76,7 @@ impl Grain {
         let rows = rows.max(1);
         let all = values.div_ceil(rows);
         let shares = self.shares(values.max(places));
-        let columns = if all < MANY_COLUMNS {
+        let columns = if all < PAIRED {
             self.narrow(all, shares, rows)
         } else {
             self.wide(all, shares)
@@ -83,10 +84,10 @@ impl Grain {
         if self.workers <= 1 || columns >= all {
             return values.max(1);
         }
-        let whole = if columns < COLUMNS {
+        let whole = if columns < BAND {
             columns
         } else {
-            columns / COLUMNS * COLUMNS
+            columns / BAND * BAND
         };
         whole.saturating_mul(rows).max(1)
     }
@@ -97,12 +98,12 @@ impl Grain {
         requires shares { 0 < shares }
         requires rows { 0 < rows }
     {
-        let shares = if all <= FEW_COLUMNS {
+        let shares = if all <= WIDE_BAND {
             shares.min(u64::from(self.workers.max(1)))
         } else {
             shares
         };
-        all.div_ceil(shares).min((self.block / rows).max(COLUMNS))
+        all.div_ceil(shares).min((self.block / rows).max(BAND))
     }
 
     /// How many of many columns a leaf has that packs the first operand: as many as there are for each
@@ -114,7 +115,7 @@ impl Grain {
         let turns = all.div_ceil(workers.saturating_mul(WIDE).max(1)).max(1);
         let shares = shares.min(workers.saturating_mul(turns).max(1));
         let columns = all.div_ceil(shares).max(WIDE / 2);
-        columns.div_ceil(COLUMNS).saturating_mul(COLUMNS)
+        columns.div_ceil(BAND).saturating_mul(BAND)
     }
 
     /// Among how many leaves the work over so many places is shared: one for each block of them, up
