@@ -26,6 +26,7 @@ pub fn answer_messages<RT: Wait, C: Client, P: Protocol<RT>>(
 ) -> Result<(), StreamFault>
     requires by_messages { GoesBy (P.framing (P.rules protocol.old)) C.owes_nothing }
     requires new { IfSome (C.history client.old) IsNew }
+    requires can_answer { P.can_answer }
 
     ensures answered { (stream held : List ℕ) → C.remaining client.old ≡ Some stream
         → C.contents client.old ≡ Some held

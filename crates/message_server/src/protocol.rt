@@ -43,6 +43,9 @@ pub trait Protocol<RT> {
 
     ghost told: { Self.Answer → List ℕ };
 
+    // What answering asks of the runtime, as that threads may share it.
+    ghost can_answer: { Type 0 };
+
     /// Takes the next message, if one stands before the end of the client's bytes.
     ///
     /// # Errors
@@ -73,6 +76,7 @@ pub trait Protocol<RT> {
 
     /// Answers a message.
     fn answer(&mut self, rt: &RT, message: Self::Message) -> Self::Answer
+        requires { can_answer }
         ensures answer { (bytes : List ℕ) → is_kept bytes message
             → (framing (rules self.old)).IsAnswer bytes (told result) }
         ensures rules { rules self.new ≡ rules self.old };
