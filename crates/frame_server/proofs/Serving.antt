@@ -1,6 +1,6 @@
 -- The messages of a stream are its frames.
 use Rattle.std.proofs.Common.{◌≡◌, ◌<◌, ℕ, List, [], ◌∷◌, ◌++◌, length, Option, Some, None, IfSome, Result, OnOk}
-use Rattle.std.proofs.Common.{refl, ap, sym, ◌∙◌, subst, arith, inl, inr}
+use Rattle.std.proofs.Common.{refl, ap, ◌∙◌, subst, arith, inl, inr}
 use Rattle.std.proofs.lemmas.List.{append-nil}
 use Rattle.std.specs.List.{concat}
 use Rattle.message_server.specs.History.{History}
@@ -93,12 +93,12 @@ module _ (limits : Limits) where
       → CutsFramesShortWithin limits stream held c
   CutsFramesShort-some stream held c cut = elim cut.begun [
     | inl front ↦ record {
-        frames = cut.messages;
-        rest = front.0;
-        joined = front.1.parted ∙ ap (λ (l : List ℕ). l ++ front.0) (joined-frames cut.messages);
-        whole = front.1.whole;
-        short = cut.short;
-      }
+      frames = cut.messages;
+      rest = front.0;
+      joined = front.1.parted ∙ ap (λ (l : List ℕ). l ++ front.0) (joined-frames cut.messages);
+      whole = front.1.whole;
+      short = cut.short;
+    }
     | inr all ↦
         let done : cut.messages ≡ all.done = all.all ∙ ap (λ (l : List (List ℕ)). all.done ++ l) all.ending.1 ∙ append-nil all.done in
         record {

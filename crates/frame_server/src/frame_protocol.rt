@@ -35,7 +35,9 @@ pub(crate) struct NotedFrame {
 
 impl<RT: Threads + Wait + Sync, J: Journal + Drop> Protocol<RT> for FrameProtocol<J> {
     type Rules = Limits;
+
     type Message = NextFrame;
+
     type Answer = NotedFrame;
 
     ghost rules = { λ s. s.service.limits };

@@ -13,7 +13,7 @@ use Rattle.message_server.specs.Parting.{Parting, joined, IsParted, AreAll, Stop
 use Rattle.message_server.specs.Pieces.{AppendsFront, OwesNothingWhile}
 use Rattle.message_server.specs.Server.{IsAllOf, Serves}
 use Rattle.message_server.specs.Taking.{EndsBy, TakesMessage, StopsIn}
-use Rattle.message_server.specs.Serving.{Framing, AreAnswers, bytes_answering, Answers, BreaksOff, CutsShort, GoesBy}
+use Rattle.message_server.specs.Serving.{Framing, AreAnswers, bytes_answering, BreaksOff, CutsShort, GoesBy}
 use Rattle.message_server.specs.Streams.{HasFailed}
 use Rattle.message_server.specs.declared.ending.Ending.{Ending}
 use Rattle.message_server.specs.declared.fault.StreamFault.{StreamFault}

@@ -86,11 +86,7 @@ pub trait Protocol<RT> {
     /// # Errors
     ///
     /// [`StreamFault::WriteFault`]. A front of the answer was written then.
-    fn write<C: Client>(
-        &mut self,
-        client: &mut C,
-        answer: Self::Answer,
-    ) -> Result<(), StreamFault>
+    fn write<C: Client>(&mut self, client: &mut C, answer: Self::Answer) -> Result<(), StreamFault>
         ensures ok { OnOk result (Appends (C.contents client.old) (C.contents client.new)
             ((framing (rules self.old)).bytes_of (told answer))) }
         ensures noted { OnOk result (C.history client.new

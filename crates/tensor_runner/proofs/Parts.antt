@@ -1,6 +1,6 @@
 -- Lines and their line feeds.
 use Rattle.std.proofs.Common.{◌≡◌, ◌==◌, ◌<◌, ◌+◌, ◌-◌, ℕ, suc, min, List, [], ◌∷◌, ◌++◌, length, take, drop, get_or}
-use Rattle.std.proofs.Common.{true, false, All, refl, ap, sym, ◌∙◌, subst, append_assoc, arith, inl, inr}
+use Rattle.std.proofs.Common.{true, false, All, refl, ap, sym, ◌∙◌, subst, arith, inl, inr}
 use Rattle.std.specs.List.{slice_index}
 use Rattle.std.proofs.Math.Seq.{take-append-add, split_at}
 use Rattle.std.proofs.lemmas.List.{append-nil, take_all, take-append-le, length-take-le, length-take, get_or-take}

@@ -1,5 +1,5 @@
 -- The messages of a text are its lines.
-use Rattle.std.proofs.Common.{◌≡◌, ℕ, List, ◌++◌, Option, Result, Ok, Err, OnOk, refl, ap, sym, ◌∙◌, subst, inl, inr}
+use Rattle.std.proofs.Common.{◌≡◌, ℕ, List, ◌++◌, Option, Result, OnOk, refl, ap, sym, ◌∙◌, subst, inl, inr}
 use Rattle.message_server.specs.Parting.{AreAll, StopsReading, AnswersAll, CutsSome}
 use Rattle.message_server.specs.Streams.{HasFailed}
 use Rattle.message_server.proofs.Serving.{CutsShort-more}

@@ -34,7 +34,9 @@ pub(crate) struct NotedLine {
 
 impl<RT: Threads + Wait + Sync, J: Journal + Drop> Protocol<RT> for LineProtocol<J> {
     type Rules = Limits;
+
     type Message = KeptText;
+
     type Answer = NotedLine;
 
     ghost rules = { λ s. s.service.limits };
