@@ -14,7 +14,8 @@ use Rattle.frame_server.specs.private.Taking.{TakesCount, TakesValues, TakesHead
 use Rattle.frame_server.specs.declared.frame.Head.{Head}
 use Rattle.frame_server.specs.declared.frame.NextFrame.{NextFrame}
 use Rattle.frame_server.specs.declared.frame.NextFrame.TheVariants.{Whole, Passed}
-use Rattle.frame_server.proofs.Frames.{IsUnfinished-head, IsUnfinished-short, IsWhole-head, frame_in-head, header_len-append, value_count-append, values_of-append, length-values_of}
+use Rattle.frame_server.specs.private.Laws.{header_len-append, value_count-append}
+use Rattle.frame_server.proofs.Frames.{IsUnfinished-head, IsUnfinished-short, IsWhole-head, frame_in-head, values_of-append, length-values_of}
 use Rattle.message_server.proofs.Takings.{Takes-none, Takes-then, Takes-wait, Takes-move, FailsIn-on}
 
 pub TakesValues-none : (a : Option (List ℕ)) (h : Option History) (old : List ℕ) (values : List ℤ) → values ≡ [] → TakesValues a a h h old old values

@@ -1,98 +1,111 @@
--- From frame to frame.
-use Rattle.std.proofs.Common.{◌≡◌, ◌<◌, ℕ, List, [], ◌∷◌, ◌++◌, length, All, Option, Some, None, IfSome}
-use Rattle.std.proofs.Common.{refl, ap, sym, ◌∙◌, subst, append_assoc, arith, inl, inr}
+-- The messages of a stream are its frames.
+use Rattle.std.proofs.Common.{◌≡◌, ◌<◌, ℕ, List, [], ◌∷◌, ◌++◌, length, Option, Some, None, IfSome, Result, OnOk}
+use Rattle.std.proofs.Common.{refl, ap, ◌∙◌, subst, arith, inl, inr}
 use Rattle.std.proofs.lemmas.List.{append-nil}
-use Rattle.std.proofs.lemmas.List.Elements.{All-push}
-use Rattle.std.proofs.lemmas.List.Folds.{concat-append}
 use Rattle.std.specs.List.{concat}
-use Rattle.std.specs.Io.KnownBytes.{Consumes, IsAtEnd}
 use Rattle.message_server.specs.History.{History}
-use Rattle.message_server.specs.Pieces.{AppendsFront, Takes}
-use Rattle.message_server.specs.Server.{Serves}
-use Rattle.message_server.specs.Serving.{Answers}
-use Rattle.message_server.specs.Streams.{HasFailed}
-use Rattle.message_server.proofs.Serving.{Laws, Serves-end, Serves-cut, stream_of, rest_at_end}
-use Rattle.message_server.proofs.Streams.{Appends-none}
+use Rattle.message_server.specs.Parting.{IsCut, EndsWith, AnswersAll, CutsSome}
+use Rattle.message_server.specs.Parting as messages
+use Rattle.message_server.specs.Serving.{Answers, CutsShort}
+use Rattle.message_server.specs.Taking.{EndsBy, TakesMessage, StopsIn}
+use Rattle.message_server.proofs.Streams.{OnOk-follows}
 use Rattle.tensor_runner.specs.declared.limits.Limits.{Limits}
 use Rattle.frame_server.specs.Frame.{IsWhole, IsUnfinished}
-use Rattle.frame_server.specs.Limited.{IsFrameWithin, whole_frames_within, AnswersFramesWithin, CutsFramesShortWithin}
-use Rattle.frame_server.specs.private.Server.{by_sizes}
+use Rattle.frame_server.specs.Limited.{whole_frames_within, AnswersFramesWithin, CutsFramesShortWithin}
+use Rattle.frame_server.specs.private.Laws.{joined-frames}
+use Rattle.frame_server.specs.private.Parting.{by_sizes}
+use Rattle.frame_server.specs.private.Taking.{IsKept, TakesFrame, Ends, StopsInFrame}
 use Rattle.frame_server.specs.Stream.{EndsInside, StopsReading}
-use Rattle.frame_server.specs.private.Taking.{Ends, StopsInFrame}
+use Rattle.frame_server.specs.declared.frame.NextFrame.{NextFrame}
 use Rattle.frame_server.proofs.Frames.{IsUnfinished-short}
 
-concat-push : (done : List (List ℕ)) (frame rest : List ℕ) → concat (done ++ frame ∷ []) ++ rest ≡ concat done ++ (frame ++ rest)
-concat-push done frame rest =
-    ap (λ (l : List ℕ). l ++ rest) (concat-append done (frame ∷ []) ∙ ap (λ (l : List ℕ). concat done ++ l) (append-nil frame))
-    ∙ append_assoc (concat done) frame rest
+-- a front that has a byte
+IsCut-some : (bytes : List ℕ) → IsUnfinished bytes → 0 < length bytes → IsCut by_sizes bytes
+IsCut-some bytes unfinished some = record { unfinished = unfinished; no_end = λ last end. omega (arith, some, ap length end.0) }
+
+some-IsCut : (bytes : List ℕ) → IsCut by_sizes bytes → 0 < length bytes
+some-IsCut [] cut = absurd (cut.no_end [] (refl, refl))
+some-IsCut (b ∷ bytes) cut = omega arith
+
+pub StopsIn-frame : (a b : Option (List ℕ)) (failed fails : ℕ) (old : List ℕ) → StopsInFrame a b failed fails old → StopsIn by_sizes a b failed fails old
+StopsIn-frame a b failed fails old stops = record {
+  read = stops.read;
+  consumed = stops.consumed;
+  unfinished = stops.unfinished;
+  why = elim stops.why [
+    | inl broke ↦ inl broke
+    | inr ended ↦ inr (ended.0, ended.1, IsCut-some (old ++ stops.read) stops.unfinished ended.2)
+  ];
+}
+
+pub TakesMessage-frame : (a b : Option (List ℕ)) (h k : Option History) (old new : List ℕ) (next : NextFrame) → TakesFrame a b h k old new next
+    → TakesMessage by_sizes (λ (bytes : List ℕ) (kept : NextFrame). IsWhole bytes × IsKept bytes kept) a b h k old new next
+TakesMessage-frame a b h k old new next t = record { message = t.bytes; takes = t.takes; whole = t.whole; kept_of = (t.whole, t.kept) }
+
+pub EndsBy-frame : (a b : Option (List ℕ)) (h k : Option History) (old new : List ℕ) → Ends a b h k old new → EndsBy by_sizes a b h k old []
+EndsBy-frame a b h k old new e = record {
+  read = e.takes.read;
+  reads = e.takes.reads;
+  ending = (e.takes.parted ∙ e.nothing, refl);
+  at_end = e.at_end;
+}
+
+inside : (cut : List ℕ) (before after : Option (List ℕ)) → IsCut by_sizes cut → IfSome before (EndsWith by_sizes cut after) → IfSome before (EndsInside after)
+inside cut None after is ends = tt
+inside cut (Some stream) after is ends = record {
+  frames = ends.done;
+  cut = cut;
+  parted = record {
+    joined = ends.parted.parted ∙ ap (λ (l : List ℕ). l ++ cut) (joined-frames ends.done);
+    whole = ends.parted.whole;
+    unfinished = is.unfinished;
+  };
+  some = some-IsCut cut is;
+  nothing = ends.nothing;
+}
+
+-- why no more was read
+pub StopsReading-frame : (failed fails : ℕ) (before after : Option (List ℕ)) → messages.StopsReading by_sizes failed fails before after
+    → StopsReading failed fails before after
+StopsReading-frame failed fails before after stops = elim stops [
+  | inl broke ↦ inl broke
+  | inr ended ↦ inr (ended.0, inside ended.1 before after ended.2 ended.3)
+]
 
 -- under limits
 module _ (limits : Limits) where
-  pub laws : Laws (whole_frames_within limits) by_sizes
-  laws = record {
-    none = refl;
-    push = concat-push;
-    whole = λ done cut whole unfinished. (cut, record { joined = refl; whole = whole; unfinished = unfinished });
-  }
-
-  -- the client's bytes ended in a frame
-  inside : (r0 r1 r2 : Option (List ℕ)) (done : List (List ℕ)) (old read : List ℕ) → Consumes r0 r1 (concat done ++ old) → Consumes r1 r2 read
-      → All IsWhole done → IsUnfinished (old ++ read) → 0 < length (old ++ read) → IsAtEnd r2 → IfSome r0 (EndsInside r2)
-  inside None r1 r2 done old read first then whole unfinished some end = tt
-  inside (Some stream) r1 r2 done old read first then whole unfinished some end =
-      let known = stream_of (whole_frames_within limits) by_sizes laws (Some stream) r1 r2 stream (concat done ++ old) read first then refl in
-      let none : known.0 ≡ [] = rest_at_end r2 known.0 known.2 end in
+  pub OnOk-frames : {U E : Type 0} (r : Result U E) (stream held : List ℕ) (c : Option (List ℕ))
+      → OnOk r (AnswersAll by_sizes (whole_frames_within limits) stream held c) → OnOk r (AnswersFramesWithin limits stream held c)
+  OnOk-frames r stream held c = OnOk-follows r _ _ (λ is.
+      let all = is.all in
+      let done : is.messages ≡ all.done = all.all ∙ ap (λ (l : List (List ℕ)). all.done ++ l) all.ending.1 ∙ append-nil all.done in
       record {
-        frames = done;
-        cut = old ++ read;
+        frames = all.done;
         parted = record {
-          joined = known.1 ∙ ap (λ (l : List ℕ). ((concat done ++ old) ++ read) ++ l) none ∙ append-nil ((concat done ++ old) ++ read)
-              ∙ append_assoc (concat done) old read;
-          whole = whole;
-          unfinished = unfinished;
-        };
-        some = some;
-        nothing = known.2 ∙ ap Some none;
-      }
-
-  -- the end of the client's bytes, behind a frame
-  pub frames-end : (r0 r1 r2 c0 c1 c2 : Option (List ℕ)) (h k : Option History) (old new stream held : List ℕ)
-      → Serves (whole_frames_within limits) by_sizes r0 r1 c0 c1 h old → Ends r1 r2 h k old new → c2 ≡ c1
-      → r0 ≡ Some stream → c0 ≡ Some held → AnswersFramesWithin limits stream held c2
-  frames-end r0 r1 r2 c0 c1 c2 h k old new stream held s e quiet knows holds =
-      let all = Serves-end (whole_frames_within limits) by_sizes laws r0 r1 r2 c0 c1 c2 c2 h old e.takes.read stream held [] []
-      s e.takes.reads.consumed e.at_end tt quiet (Appends-none c2) knows holds in
-      record {
-        frames = all.0;
-        parted = record {
-          joined = all.2 ∙ ap (λ (l : List ℕ). concat all.0 ++ l) (e.takes.parted ∙ e.nothing);
-          whole = all.1;
+          joined = all.parted.parted ∙ ap (λ (l : List ℕ). l ++ all.rest) (joined-frames all.done) ∙ ap (λ (l : List ℕ). concat all.done ++ l) all.ending.0;
+          whole = all.parted.whole;
           unfinished = IsUnfinished-short [] (omega arith);
         };
-        answered = subst (λ (l : List (List ℕ)). Answers (whole_frames_within limits) l held c2) (append-nil all.0) all.3;
-      }
+        answered = subst (λ (l : List (List ℕ)). Answers (whole_frames_within limits) l held c) done is.answered;
+      })
 
-  -- why no more was read
-  pub frames-why : (r0 r1 r2 c0 c1 : Option (List ℕ)) (h : Option History) (first failed fails : ℕ) (old : List ℕ)
-      → Serves (whole_frames_within limits) by_sizes r0 r1 c0 c1 h old → failed ≡ first → StopsInFrame r1 r2 failed fails old → StopsReading first fails r0 r2
-  frames-why r0 r1 r2 c0 c1 h first failed fails old s same stops = elim stops.why [
-    | inl broke ↦ inl (subst (λ (n : ℕ). HasFailed n fails) same broke)
-    | inr ended ↦ inr (ended.0 ∙ same, inside r0 r1 r2 s.done old stops.read s.consumed stops.consumed s.whole stops.unfinished ended.2 ended.1)
+  pub CutsFramesShort-some : (stream held : List ℕ) (c : Option (List ℕ)) → CutsSome by_sizes (whole_frames_within limits) stream held c
+      → CutsFramesShortWithin limits stream held c
+  CutsFramesShort-some stream held c cut = elim cut.begun [
+    | inl front ↦ record {
+      frames = cut.messages;
+      rest = front.0;
+      joined = front.1.parted ∙ ap (λ (l : List ℕ). l ++ front.0) (joined-frames cut.messages);
+      whole = front.1.whole;
+      short = cut.short;
+    }
+    | inr all ↦
+        let done : cut.messages ≡ all.done = all.all ∙ ap (λ (l : List (List ℕ)). all.done ++ l) all.ending.1 ∙ append-nil all.done in
+        record {
+          frames = all.done;
+          rest = all.rest;
+          joined = all.parted.parted ∙ ap (λ (l : List ℕ). l ++ all.rest) (joined-frames all.done);
+          whole = all.parted.whole;
+          short = subst (λ (l : List (List ℕ)). CutsShort (whole_frames_within limits) l held c) done cut.short;
+        }
   ]
-
-  -- the answer was cut short
-  pub frames-cut : (r0 r1 r2 c0 c1 c2 c3 : Option (List ℕ)) (h k : Option History) (old new bytes stream held a : List ℕ)
-      → Serves (whole_frames_within limits) by_sizes r0 r1 c0 c1 h old → Takes r1 r2 h k old new bytes → IsWhole bytes → IsFrameWithin limits bytes a
-      → c2 ≡ c1 → AppendsFront c2 c3 a → r0 ≡ Some stream → c0 ≡ Some held → CutsFramesShortWithin limits stream held c3
-  frames-cut r0 r1 r2 c0 c1 c2 c3 h k old new bytes stream held a s t whole answers quiet cut knows holds =
-      let all = Serves-cut (whole_frames_within limits) by_sizes laws r0 r1 r2 c0 c1 c2 c3 h old t.read bytes stream held a
-      s t.reads.consumed answers quiet cut knows holds in
-      record {
-        frames = all.0 ++ bytes ∷ [];
-        rest = new ++ all.1;
-        joined = all.3
-            ∙ ap (λ (l : List ℕ). concat all.0 ++ l) (ap (λ (l : List ℕ). l ++ all.1) t.parted ∙ append_assoc bytes new all.1)
-            ∙ sym (concat-push all.0 bytes (new ++ all.1));
-        whole = All-push IsWhole all.0 bytes all.2 whole;
-        short = all.5;
-      }

@@ -5,6 +5,7 @@
 mod answer;
 mod ending;
 mod frame;
+mod frame_protocol;
 mod laws;
 mod reading;
 mod server;

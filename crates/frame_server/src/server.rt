@@ -8,10 +8,9 @@ ghost use Rattle.frame_server.specs.Stream.{CutsFramesShort, StopsReading};
 ghost use Rattle.message_server.specs.History.{IsNew};
 ghost use Rattle.message_server.specs.Streams.{HasFailed};
 
-use crate::answer::{answer, entry_of};
-use crate::taking::next_frame;
-use crate::writing::{OutputBuffer, write_frame};
-use message_server::{Client, InputBuffer, StreamFault};
+use crate::frame_protocol::FrameProtocol;
+use crate::writing::OutputBuffer;
+use message_server::{Client, StreamFault, answer_messages};
 use std::alloc::Global;
 use std::sync::Wait;
 use std::thread::Threads;
@@ -140,21 +139,10 @@ pub fn answer_frames_logged<RT: Threads + Wait + Sync, C: Client, J: Journal + D
     ensures no_failure { OnOk result ((C.read_failures client.new ≡ C.read_failures client.old)
         × (C.write_failures client.new ≡ C.write_failures client.old)) }
 {
-    let Service {
-        limits,
-        mut journal,
-    } = service;
-    let mut buffer = InputBuffer::new();
-    let mut room = OutputBuffer::new();
-    for turn in rt.forever() {
-        let Some(next) = next_frame(alloc, client, &mut buffer)? else {
-            return Ok(());
-        };
-        journal.begin();
-        let length = next.len();
-        let frame = answer(rt, alloc, limits, next);
-        write_frame(alloc, client, &mut room, &frame)?;
-        journal.end(&entry_of(length, &frame));
-    }
-    unreachable!()
+    let mut protocol = FrameProtocol {
+        alloc,
+        service,
+        room: OutputBuffer::new(),
+    };
+    answer_messages(rt, client, &mut protocol)
 }

@@ -1,6 +1,6 @@
 -- Bytes that are taken and given piece by piece.
 use Rattle.std.proofs.Common.{◌≡◌, ℕ, zero, suc, ◌<◌, Result, Ok, Err, OnErr, List, [], ◌+◌, ◌-◌, ◌++◌, length}
-use Rattle.std.proofs.Common.{take, drop, Option, Some, None, refl, ap, sym, ◌∙◌, append_assoc, arith}
+use Rattle.std.proofs.Common.{take, drop, Option, Some, None, OnOk, refl, ap, sym, ◌∙◌, subst, append_assoc, arith}
 use Rattle.message_server.specs.Streams.{took_some, failures_after}
 use Rattle.std.specs.Io.KnownBytes.{Appends, Consumes, Keeps}
 use Rattle.std.proofs.lemmas.List.{append-nil, take_all, length-drop}
@@ -68,3 +68,11 @@ failures_after-took_some r (suc count) n is some = ap (λ x. failures_after (too
 pub OnErr-any : {A E : Type 0} (r : Result A E) {X : Type 0} → X → OnErr r X
 OnErr-any (Ok x) holds = tt
 OnErr-any (Err e) holds = holds
+
+pub OnOk-follows : {A E : Type 0} (r : Result A E) (X Y : Type 0) → (X → Y) → OnOk r X → OnOk r Y
+OnOk-follows (Ok x) X Y then holds = then holds
+OnOk-follows (Err e) X Y then holds = tt
+
+-- what is so of this failure
+pub OnErr-of : {A E : Type 0} (r : Result A E) (e : E) (X : Type 0) → r ≡ Err e → OnErr r X → X
+OnErr-of {A = A} {E = E} r e X is holds = let x : OnErr {T = A} (Err e) X = subst (λ (s : Result A E). OnErr s X) is holds in x

@@ -1,6 +1,6 @@
 -- Lines and their line feeds.
 use Rattle.std.proofs.Common.{◌≡◌, ◌==◌, ◌<◌, ◌+◌, ◌-◌, ℕ, suc, min, List, [], ◌∷◌, ◌++◌, length, take, drop, get_or}
-use Rattle.std.proofs.Common.{true, false, All, refl, ap, sym, ◌∙◌, subst, append_assoc, arith, inl, inr}
+use Rattle.std.proofs.Common.{true, false, All, refl, ap, sym, ◌∙◌, subst, arith, inl, inr}
 use Rattle.std.specs.List.{slice_index}
 use Rattle.std.proofs.Math.Seq.{take-append-add, split_at}
 use Rattle.std.proofs.lemmas.List.{append-nil, take_all, take-append-le, length-take-le, length-take, get_or-take}
@@ -9,8 +9,9 @@ use Rattle.std.proofs.lemmas.Bool.{cases_lt, eqb-true, false_from_ne_true}
 use Rattle.memchr.specs.Find.{Passes, is_byte, Nowhere}
 use Rattle.message_server.specs.Serving.{AreAnswers}
 use Rattle.tensor_runner.specs.Limited.{line_within, lines_within}
+use Rattle.tensor_runner.specs.private.Laws.{with_feeds-cons}
 use Rattle.tensor_runner.specs.private.Taking.{HasNoFeed, with_feeds}
-use Rattle.tensor_runner.specs.Lines.{lines_of, whole_lines}
+use Rattle.tensor_runner.specs.Lines.{lines_of}
 use Rattle.tensor_runner.specs.declared.limits.Limits.{Limits}
 
 -- a byte that is no line feed
@@ -23,15 +24,6 @@ lines_of-feed [] more plain = refl
 lines_of-feed (b ∷ line) more plain =
     rw (All-head IsPlain b line plain, lines_of-feed line more (All-tail IsPlain b line plain)) refl
 
-pub whole_lines-feed : (line more : List ℕ) → HasNoFeed line → whole_lines (line ++ 10 ∷ more) ≡ line ∷ whole_lines more
-whole_lines-feed [] more plain = refl
-whole_lines-feed (b ∷ line) more plain =
-    rw (All-head IsPlain b line plain, whole_lines-feed line more (All-tail IsPlain b line plain)) refl
-
-with_feeds-cons : (line : List ℕ) (done : List (List ℕ)) (more : List ℕ)
-    → with_feeds (line ∷ done) ++ more ≡ line ++ 10 ∷ (with_feeds done ++ more)
-with_feeds-cons line done more = simp append_assoc
-
 -- lines with their line feeds, and more
 pub lines_of-with_feeds : (done : List (List ℕ)) (more : List ℕ) → All HasNoFeed done → lines_of (with_feeds done ++ more) ≡ done ++ lines_of more
 lines_of-with_feeds [] more plain = refl
@@ -40,34 +32,12 @@ lines_of-with_feeds (line ∷ done) more plain =
     ∙ lines_of-feed line (with_feeds done ++ more) (All-head HasNoFeed line done plain)
     ∙ ap (λ (l : List (List ℕ)). line ∷ l) (lines_of-with_feeds done more (All-tail HasNoFeed line done plain))
 
-pub whole_lines-with_feeds : (done : List (List ℕ)) (more : List ℕ) → All HasNoFeed done → whole_lines (with_feeds done ++ more) ≡ done ++ whole_lines more
-whole_lines-with_feeds [] more plain = refl
-whole_lines-with_feeds (line ∷ done) more plain =
-    ap whole_lines (with_feeds-cons line done more)
-    ∙ whole_lines-feed line (with_feeds done ++ more) (All-head HasNoFeed line done plain)
-    ∙ ap (λ (l : List (List ℕ)). line ∷ l) (whole_lines-with_feeds done more (All-tail HasNoFeed line done plain))
-
 -- bytes with no line feed are one line, where there are some
 pub lines_of-last : (line : List ℕ) → HasNoFeed line → 0 < length line → lines_of line ≡ line ∷ []
 lines_of-last [] plain some = absurd (omega arith)
 lines_of-last (b ∷ []) plain some = rw (All-head IsPlain b [] plain) refl
 lines_of-last (b ∷ c ∷ line) plain some =
     rw (All-head IsPlain b (c ∷ line) plain, lines_of-last (c ∷ line) (All-tail IsPlain b (c ∷ line) plain) (omega arith)) refl
-
--- and no whole one
-pub whole_lines-open : (line : List ℕ) → HasNoFeed line → whole_lines line ≡ []
-whole_lines-open [] plain = refl
-whole_lines-open (b ∷ line) plain =
-    rw (All-head IsPlain b line plain, whole_lines-open line (All-tail IsPlain b line plain)) refl
-
--- one line more, with its line feed
-pub with_feeds-push : (done : List (List ℕ)) (line more : List ℕ)
-    → with_feeds (done ++ line ∷ []) ++ more ≡ with_feeds done ++ (line ++ 10 ∷ more)
-with_feeds-push [] line more = with_feeds-cons line [] more
-with_feeds-push (first ∷ done) line more =
-    with_feeds-cons first (done ++ line ∷ []) more
-    ∙ ap (λ (t : List ℕ). first ++ 10 ∷ t) (with_feeds-push done line more)
-    ∙ sym (with_feeds-cons first done (line ++ 10 ∷ more))
 
 -- a piece behind what is kept of a line
 take-min : (k : ℕ) (piece : List ℕ) → take (min k (length piece)) piece ≡ take k piece

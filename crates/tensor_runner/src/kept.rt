@@ -15,14 +15,6 @@ pub(crate) enum KeptText {
     Counted(usize),
 }
 
-/// A line, or what stands behind the last line feed.
-#[derive(Drop)]
-pub(crate) struct NextLine {
-    pub(crate) kept: KeptText,
-    /// Whether a line feed ended it.
-    pub(crate) ended: bool,
-}
-
 impl KeptText {
     /// What is kept of no byte.
     pub(crate) fn new(alloc: Global) -> KeptText

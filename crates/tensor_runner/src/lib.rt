@@ -9,6 +9,7 @@ mod evaluation;
 mod journal;
 mod kept;
 mod limits;
+mod line_protocol;
 mod options;
 mod reading;
 mod server;

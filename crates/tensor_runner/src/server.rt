@@ -5,16 +5,13 @@ ghost use Rattle.tensor_runner.specs.History.{IsNew, GoesByLines};
 ghost use Rattle.tensor_runner.specs.Limited.{AnswersLinesWithin, BreaksOffWithin};
 ghost use Rattle.tensor_runner.specs.Limited.{CutsLinesShortWithin, GoesByLinesWithin};
 ghost use Rattle.tensor_runner.specs.Lines.{lines_of, AnswersLines, BreaksOff, CutsLinesShort};
-ghost use Rattle.tensor_runner.specs.private.Server.{IsNothing};
 ghost use Rattle.message_server.specs.Streams.{HasFailed};
 
-use crate::answer::{answer, entry_of};
 use crate::journal::{Journal, Silent};
-use crate::kept::NextLine;
 use crate::limits::Limits;
+use crate::line_protocol::LineProtocol;
 use crate::service::Service;
-use crate::taking::next_line;
-use message_server::{Client, InputBuffer, StreamFault, write_answer};
+use message_server::{Client, StreamFault, answer_messages};
 use std::alloc::Global;
 use std::sync::Wait;
 use std::thread::Threads;
@@ -140,31 +137,6 @@ pub fn answer_lines_logged<RT: Threads + Wait + Sync, C: Client, J: Journal + Dr
     ensures no_failure { OnOk result ((C.read_failures client.new ≡ C.read_failures client.old)
         × (C.write_failures client.new ≡ C.write_failures client.old)) }
 {
-    let Service {
-        limits,
-        mut journal,
-    } = service;
-    let mut buffer = InputBuffer::new();
-    for turn in rt.forever() {
-        let next = next_line(rt, alloc, client, &mut buffer)?;
-        if is_nothing(&next) {
-            return Ok(());
-        }
-        journal.begin();
-        let length = next.kept.len();
-        let line = answer(rt, alloc, limits, next.kept);
-        write_answer(client, line.bytes.as_slice())?;
-        journal.end(&entry_of(length, &line));
-        if !next.ended {
-            return Ok(());
-        }
-    }
-    unreachable!()
-}
-
-/// Whether no line feed and no byte is there.
-fn is_nothing(next: &NextLine) -> bool
-    ensures { IsNothing next.now result }
-{
-    !next.ended && next.kept.len() == 0
+    let mut protocol = LineProtocol { alloc, service };
+    answer_messages(rt, client, &mut protocol)
 }

@@ -1,13 +1,15 @@
 //! Takes a client's bytes, line by line.
 
-ghost use Rattle.std.specs.Prelude.{◌≡◌, IfOk, IfSome, IfErr, OnErr, MatchResult};
-ghost use Rattle.message_server.specs.Pieces.{pending_bytes, OwesNothingWhile, FailsIn};
-ghost use Rattle.message_server.specs.Streams.{HasFailed};
-ghost use Rattle.tensor_runner.specs.private.Taking.{HasNoFeed, TakesPiece, TakesLine};
+ghost use Rattle.std.specs.Prelude.{◌≡◌, IfOk, IfSome, IfErr, OnOk, OnErr};
+ghost use Rattle.message_server.specs.Pieces.{pending_bytes, OwesNothingWhile};
+ghost use Rattle.message_server.specs.Taking.{TakesNext, StopsIn};
+ghost use Rattle.tensor_runner.specs.private.Kept.{IsKept};
+ghost use Rattle.tensor_runner.specs.private.Parting.{by_feeds};
+ghost use Rattle.tensor_runner.specs.private.Taking.{HasNoFeed, TakesPiece};
 
-use crate::kept::{KeptText, NextLine};
+use crate::kept::KeptText;
 use memchr::memchr;
-use message_server::{Client, InputBuffer, StreamFault};
+use message_server::{Client, InputBuffer, Next, StreamFault};
 use std::alloc::Global;
 use std::sync::Wait;
 
@@ -33,8 +35,9 @@ fn take_piece(buffer: &mut InputBuffer, kept: &mut KeptText) -> bool
     }
 }
 
-/// Takes the next line, or what stands behind the last line feed where the client's bytes are at
-/// their end. Of a line that is longer than a text may be, the rest is passed over.
+/// Takes the next line. What stands behind the last line feed where the client's bytes are at their
+/// end is one where it has a byte. Of a line that is longer than a text may be, the rest is passed
+/// over.
 ///
 /// # Errors
 ///
@@ -44,29 +47,32 @@ pub(crate) fn next_line<RT: Wait, C: Client>(
     alloc: Global,
     client: &mut C,
     buffer: &mut InputBuffer,
-) -> Result<NextLine, StreamFault>
+) -> Result<Next<KeptText>, StreamFault>
     requires { IfSome (C.history client.old)
         (OwesNothingWhile HasNoFeed C.owes_nothing (pending_bytes buffer.old)) }
-    ensures line { IfOk result (TakesLine (C.remaining client.old) (C.remaining client.new)
+    ensures next { IfOk result (TakesNext by_feeds IsKept
+        (C.remaining client.old) (C.remaining client.new)
         (C.history client.old) (C.history client.new)
         (pending_bytes buffer.old) (pending_bytes buffer.new)) }
     ensures err { IfErr result (λ fault. fault ≡ StreamFault.ReadFault) }
-    ensures stops { OnErr result (FailsIn HasNoFeed (C.remaining client.old)
-        (C.remaining client.new) (pending_bytes buffer.old)) }
+    ensures stops { OnErr result (StopsIn by_feeds
+        (C.remaining client.old) (C.remaining client.new)
+        (C.read_failures client.old) (C.read_failures client.new) (pending_bytes buffer.old)) }
     ensures contents { C.contents client.new ≡ C.contents client.old }
-    ensures read_failures { MatchResult result
-        (λ _. C.read_failures client.new ≡ C.read_failures client.old)
-        (λ _. HasFailed (C.read_failures client.old) (C.read_failures client.new)) }
+    ensures read_failures { OnOk result (C.read_failures client.new ≡ C.read_failures client.old) }
     ensures write_failures { C.write_failures client.new ≡ C.write_failures client.old }
 {
     let mut kept = KeptText::new(alloc);
     for turn in rt.forever() {
         if take_piece(buffer, &mut kept) {
-            return Ok(NextLine { kept, ended: true });
+            return Ok(Next::Message(kept));
         }
         let more = buffer.wait_for(client, 1)?;
         if !more {
-            return Ok(NextLine { kept, ended: false });
+            if kept.len() == 0 {
+                return Ok(Next::End);
+            }
+            return Ok(Next::Last(kept));
         }
     }
     unreachable!()

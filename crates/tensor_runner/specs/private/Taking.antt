@@ -2,12 +2,10 @@
 use Rattle.std.specs.Prelude.{◌≡◌, ◌==◌, ℕ, List, [], ◌∷◌, ◌++◌, All}
 use Rattle.std.specs.Prelude.{Bool, false, if◌then◌else◌, Option}
 use Rattle.std.specs.List.{flat_map}
-use Rattle.std.specs.Io.KnownBytes.{IsAtEnd}
 use Rattle.message_server.specs.History.{History}
 use Rattle.message_server.specs.Pieces.{Takes}
 use Rattle.tensor_runner.specs.private.Kept.{IsKept}
 use Rattle.tensor_runner.specs.declared.kept.KeptText.{KeptText}
-use Rattle.tensor_runner.specs.declared.kept.NextLine.{NextLine}
 
 -- no byte is a line feed
 abbrev pub HasNoFeed : List ℕ → Type 0
@@ -36,13 +34,3 @@ pub record InLine (before after : Option (List ℕ)) (h k : Option History) (old
   pub takes : Takes before after h k old now line
   pub no_feed : HasNoFeed line
   pub kept_of : IsKept line kept
-
--- a line was taken of what was pending and what was read, with its line feed, or to the end
-pub record TakesLine (before after : Option (List ℕ)) (h k : Option History) (old new : List ℕ)
-    (next : NextLine) : Type 0 where
-  pub line : List ℕ
-  pub takes : Takes before after h k old (behind next.ended new) line
-  pub no_feed : HasNoFeed line
-  pub kept : IsKept line next.kept
-  pub emptied : next.ended ≡ false → new ≡ []
-  pub at_end : next.ended ≡ false → IsAtEnd after

@@ -1,5 +1,5 @@
 use Rattle.std.proofs.Common.{sym, ◌∙◌}
-use Rattle.frame_server.proofs.Frames.{parts_in_one_way}
+use Rattle.frame_server.specs.private.Laws.{parts_in_one_way}
 use Rattle.frame_server.proofs.laws.bytes_part_in_one_way.Goals as goal
 
 pub returns : goal.returns

@@ -1,0 +1,107 @@
+//! Says what a kind of message is: how messages stand in a client's bytes, and how one is answered.
+
+ghost use Rattle.std.specs.Prelude.{◌≡◌, ℕ, List, IfOk, IfSome, IfErr, OnOk, OnErr, option_map};
+ghost use Rattle.std.specs.Io.KnownBytes.{Appends};
+ghost use Rattle.message_server.specs.History.{writing};
+ghost use Rattle.message_server.specs.Parting.{Parting, Laws};
+ghost use Rattle.message_server.specs.Pieces.{pending_bytes, AppendsFront, OwesNothingWhile};
+ghost use Rattle.message_server.specs.Serving.{Framing};
+ghost use Rattle.message_server.specs.Streams.{HasFailed};
+ghost use Rattle.message_server.specs.Taking.{TakesNext, StopsIn};
+
+use crate::buffer::InputBuffer;
+use crate::client::Client;
+use crate::fault::StreamFault;
+
+/// What comes next of a client's bytes, by what is kept of a message.
+#[derive(Drop)]
+pub enum Next<M> {
+    /// A message, and more may come.
+    Message(M),
+    /// The last message, which the end of the bytes ends.
+    Last(M),
+    /// The end of the bytes.
+    End,
+}
+
+/// How messages stand in a client's bytes, and how one is answered.
+pub trait Protocol<RT> {
+    /// What its answers go by, as limits.
+    type Rules;
+    /// What is kept of a message.
+    type Message;
+    /// What answers a message.
+    type Answer;
+
+    ghost rules: { Self → Self.Rules };
+
+    ghost framing: { Self.Rules → Framing (List ℕ) };
+
+    ghost parting: { Parting };
+
+    ghost is_kept: { List ℕ → Self.Message → Type 0 };
+
+    ghost told: { Self.Answer → List ℕ };
+
+    // What answering asks of the runtime, as that threads may share it.
+    ghost can_answer: { Type 0 };
+
+    /// Takes the next message, if one stands before the end of the client's bytes.
+    ///
+    /// # Errors
+    ///
+    /// [`StreamFault::ReadFault`] at any error of a read, and where the client's bytes end in a message
+    /// that their end doesn't end.
+    fn take<C: Client>(
+        &mut self,
+        rt: &RT,
+        client: &mut C,
+        buffer: &mut InputBuffer,
+    ) -> Result<Next<Self::Message>, StreamFault>
+        requires { IfSome (C.history client.old)
+            (OwesNothingWhile parting.IsUnfinished C.owes_nothing (pending_bytes buffer.old)) }
+        ensures next { IfOk result (TakesNext parting is_kept
+            (C.remaining client.old) (C.remaining client.new)
+            (C.history client.old) (C.history client.new)
+            (pending_bytes buffer.old) (pending_bytes buffer.new)) }
+        ensures err { IfErr result (λ fault. fault ≡ StreamFault.ReadFault) }
+        ensures stops { OnErr result (StopsIn parting
+            (C.remaining client.old) (C.remaining client.new)
+            (C.read_failures client.old) (C.read_failures client.new) (pending_bytes buffer.old)) }
+        ensures contents { C.contents client.new ≡ C.contents client.old }
+        ensures read_failures { OnOk result
+            (C.read_failures client.new ≡ C.read_failures client.old) }
+        ensures write_failures { C.write_failures client.new ≡ C.write_failures client.old }
+        ensures rules { rules self.new ≡ rules self.old };
+
+    /// Answers a message.
+    fn answer(&mut self, rt: &RT, message: Self::Message) -> Self::Answer
+        requires { can_answer }
+        ensures answer { (bytes : List ℕ) → is_kept bytes message
+            → (framing (rules self.old)).IsAnswer bytes (told result) }
+        ensures rules { rules self.new ≡ rules self.old };
+
+    /// Writes an answer whole. Stops at the first write that fails or takes nothing.
+    ///
+    /// # Errors
+    ///
+    /// [`StreamFault::WriteFault`]. A front of the answer was written then.
+    fn write<C: Client>(&mut self, client: &mut C, answer: Self::Answer) -> Result<(), StreamFault>
+        ensures ok { OnOk result (Appends (C.contents client.old) (C.contents client.new)
+            ((framing (rules self.old)).bytes_of (told answer))) }
+        ensures noted { OnOk result (C.history client.new
+            ≡ option_map (writing ((framing (rules self.old)).bytes_of (told answer)))
+            (C.history client.old)) }
+        ensures ok_failures { OnOk result (C.write_failures client.new
+            ≡ C.write_failures client.old) }
+        ensures err { IfErr result (λ fault. fault ≡ StreamFault.WriteFault) }
+        ensures front { OnErr result (AppendsFront (C.contents client.old) (C.contents client.new)
+            ((framing (rules self.old)).bytes_of (told answer))) }
+        ensures failed { OnErr result
+            (HasFailed (C.write_failures client.old) (C.write_failures client.new)) }
+        ensures remaining { C.remaining client.new ≡ C.remaining client.old }
+        ensures read_failures { C.read_failures client.new ≡ C.read_failures client.old }
+        ensures rules { rules self.new ≡ rules self.old };
+
+    ghost laws: { (rules : Self.Rules) → Laws parting (framing rules) };
+}

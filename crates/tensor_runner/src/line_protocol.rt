@@ -1,0 +1,78 @@
+//! Lines as messages: each is a request, and is answered by a line.
+
+ghost use Rattle.std.specs.Thread.{IsSync};
+ghost use Rattle.std.specs.Cow.{cow_slice_items};
+ghost use Rattle.tensor_runner.specs.Limited.{lines_within};
+ghost use Rattle.tensor_runner.specs.private.Kept.{IsKept};
+ghost use Rattle.tensor_runner.specs.private.Laws.{laws};
+ghost use Rattle.tensor_runner.specs.private.Parting.{by_feeds};
+
+use crate::answer::{Line, answer, entry_of};
+use crate::journal::{Entry, Journal};
+use crate::kept::KeptText;
+use crate::limits::Limits;
+use crate::service::Service;
+use crate::taking::next_line;
+use message_server::{Client, InputBuffer, Next, Protocol, StreamFault, write_answer};
+use std::alloc::Global;
+use std::sync::Wait;
+use std::thread::Threads;
+
+/// Lines that are answered as a service does.
+#[derive(Drop)]
+pub(crate) struct LineProtocol<J: Journal + Drop> {
+    pub(crate) alloc: Global,
+    pub(crate) service: Service<J>,
+}
+
+/// A line that answers, and what is noted of it once it is written.
+#[derive(Drop)]
+pub(crate) struct NotedLine {
+    line: Line,
+    entry: Entry,
+}
+
+impl<RT: Threads + Wait + Sync, J: Journal + Drop> Protocol<RT> for LineProtocol<J> {
+    type Rules = Limits;
+
+    type Message = KeptText;
+
+    type Answer = NotedLine;
+
+    ghost rules = { λ s. s.service.limits };
+
+    ghost framing = { lines_within };
+
+    ghost parting = { by_feeds };
+
+    ghost is_kept = { IsKept };
+
+    ghost told = { λ answer. cow_slice_items answer.line.bytes };
+
+    ghost can_answer = { IsSync RT.row };
+
+    ghost laws = { laws };
+
+    fn take<C: Client>(
+        &mut self,
+        rt: &RT,
+        client: &mut C,
+        buffer: &mut InputBuffer,
+    ) -> Result<Next<KeptText>, StreamFault> {
+        next_line(rt, self.alloc, client, buffer)
+    }
+
+    fn answer(&mut self, rt: &RT, kept: KeptText) -> NotedLine {
+        self.service.journal.begin();
+        let length = kept.len();
+        let line = answer(rt, self.alloc, self.service.limits, kept);
+        let entry = entry_of(length, &line);
+        NotedLine { line, entry }
+    }
+
+    fn write<C: Client>(&mut self, client: &mut C, answer: NotedLine) -> Result<(), StreamFault> {
+        write_answer(client, answer.line.bytes.as_slice())?;
+        self.service.journal.end(&answer.entry);
+        Ok(())
+    }
+}
