@@ -14,7 +14,8 @@ use Rattle.std.proofs.lemmas.Bool.Decides.{Decides-int_eq}
 use Rattle.std.specs.Prelude.{if◌then◌else◌, cond, ltb}
 use Rattle.std.specs.Bool.{Decides}
 use Rattle.std.specs.Ordering.{int_eq}
-use Rattle.tensor_values.specs.Division.{floor_over, floor_quotient, remainder, is_rounded_up}
+use Rattle.tensor_values.specs.Division.{floor_over, floor_quotient, remainder}
+use Rattle.tensor_values.specs.private.Rounding.{is_rounded_up}
 
 -- the number below one that something of is left has the same quotient, below another the lesser
 above_a_multiple : (a n : ℕ) → 0 < suc a % suc n → a / suc n ≡ suc a / suc n
@@ -161,7 +162,7 @@ test_is x y p q =
     ∙ ap (is_rounded_up (int_rem x y)) (to_z-of_z w64 y q)
 
 -- what a quotient rounded down leaves
-remainder-left : (x y : ℤ) → y ≢ pos 0 → remainder x y ≡ x -ℤ floor_quotient x y *ℤ y
+pub remainder-left : (x y : ℤ) → y ≢ pos 0 → remainder x y ≡ x -ℤ floor_quotient x y *ℤ y
 remainder-left x y some = by (int_eq y (pos 0)) (Decides-int_eq y (pos 0))
   where
     by : (t : Bool) → Decides t (y ≡ pos 0)

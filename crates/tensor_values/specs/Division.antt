@@ -1,6 +1,7 @@
 -- Division that rounds down, and shifts, which multiply and divide by a power of two.
 use Rattle.std.specs.Prelude.{ℕ, ℤ, zero, suc, pos, negsuc, ◌/◌, ◌^◌, ◌-ℤ◌, ◌*ℤ◌, neg_ℤ, min}
-use Rattle.std.specs.Prelude.{Bool, int_lt, ◌&&◌, ◌||◌, if◌then◌else◌}
+use Rattle.std.specs.Prelude.{◌≡◌, ◌+ℤ◌, ◌<ℤ◌, ◌≤ℤ◌}
+use Rattle.std.specs.Prelude.{if◌then◌else◌}
 use Rattle.std.specs.Ordering.{int_eq}
 
 -- a number divided by one above 0, rounded down
@@ -18,11 +19,11 @@ floor_quotient x (negsuc n) = floor_over (neg_ℤ x) (suc n)
 abbrev pub remainder : ℤ → ℤ → ℤ
 remainder x y = if int_eq y (pos 0) then pos 0 else x -ℤ floor_quotient x y *ℤ y
 
--- whether what a quotient rounded toward 0 leaves has not the divisor's sign, so that it is rounded up
-abbrev pub is_rounded_up : ℤ → ℤ → Bool
-is_rounded_up rest divisor =
-    (int_lt rest (pos 0) && int_lt (pos 0) divisor)
-    || (int_lt (pos 0) rest && int_lt divisor (pos 0))
+-- q and r are a quotient and what it leaves: r lies between 0 and the divisor, on its side
+pub record AreDivided (x y q r : ℤ) : Type 0 where
+  pub whole : x ≡ q *ℤ y +ℤ r
+  pub above : pos 0 <ℤ y → (pos 0 ≤ℤ r) × (r <ℤ y)
+  pub below : y <ℤ pos 0 → (r ≤ℤ pos 0) × (y <ℤ r)
 
 -- how many places a count shifts by: all 64 where it is below 0 or above
 abbrev pub places_of : ℤ → ℕ

@@ -3,3 +3,4 @@ pub mod Division
 pub mod Scalars
 pub mod Splicing
 pub mod Values
+pub mod private

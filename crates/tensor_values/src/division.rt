@@ -1,10 +1,11 @@
 //! Division that rounds down, and shifts, for each two values: none is left out, as 0 for a divisor
 //! or a shift by more places than there are.
 
-ghost use Rattle.std.specs.Prelude.{◌≡◌};
+ghost use Rattle.std.specs.Prelude.{◌≡◌, ◌≢◌, ℤ, pos};
 ghost use Rattle.tensor_shape.specs.Wrap.{wrap};
-ghost use Rattle.tensor_values.specs.Division.{floor_quotient, remainder, is_rounded_up};
+ghost use Rattle.tensor_values.specs.Division.{floor_quotient, remainder, AreDivided};
 ghost use Rattle.tensor_values.specs.Division.{shifted_left, shifted_right};
+ghost use Rattle.tensor_values.specs.private.Rounding.{is_rounded_up};
 
 /// The quotient rounded down, modulo 2^64; by 0 it is 0.
 #[inline(always)]
@@ -37,6 +38,12 @@ pub fn remainder(x: i64, y: i64) -> i64
         rest
     }
 }
+
+/// A quotient and what it leaves make the number again, and what it leaves lies between 0 and the
+/// divisor: there are no other two that do.
+pub fn quotients_leave_remainders()
+    ensures { (x y : ℤ) → y ≢ pos 0 → AreDivided x y (floor_quotient x y) (remainder x y) }
+{}
 
 /// Whether a quotient rounded toward 0 is above the one that is rounded down, by what it leaves.
 #[inline(always)]

@@ -7,6 +7,7 @@ mod operations;
 mod reducer;
 mod turns;
 
+pub use division::quotients_leave_remainders;
 pub use operations::{BinaryScalar, UnaryScalar, applied, combined, is_true};
 pub use reducer::Reducer;
 pub use turns::Turns;

@@ -3,7 +3,8 @@ use Rattle.std.specs.Prelude.{int_div, int_rem}
 use Rattle.std.specs.Int.{w64, int_wrap}
 use Rattle.std.proofs.lemmas.Int.{wraps, to_z-of_z, quot_is, int_wrap_fits}
 use mir.Val.{SFits, of_z, to_z}
-use Rattle.tensor_values.specs.Division.{floor_quotient, is_rounded_up}
+use Rattle.tensor_values.specs.Division.{floor_quotient}
+use Rattle.tensor_values.specs.private.Rounding.{is_rounded_up}
 use Rattle.tensor_values.proofs.Floors.{floor_quotient-minus_one, floor_quotient-rounded_up}
 use Rattle.tensor_values.proofs.Floors.{floor_quotient-kept, quotient_fits, lesser_fits, test_is}
 use Rattle.tensor_values.proofs.division.floor_quotient.Goals as goal

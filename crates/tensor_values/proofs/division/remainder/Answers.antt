@@ -3,7 +3,7 @@ use Rattle.std.specs.Prelude.{int_rem}
 use Rattle.std.specs.Int.{w64}
 use Rattle.std.proofs.lemmas.Int.{to_z-of_z, rem_is}
 use mir.Val.{of_z, to_z}
-use Rattle.tensor_values.specs.Division.{is_rounded_up}
+use Rattle.tensor_values.specs.private.Rounding.{is_rounded_up}
 use Rattle.tensor_values.proofs.Floors.{rem_fits, sum_fits, test_is}
 use Rattle.tensor_values.proofs.Floors.{remainder-rounded_up, remainder-kept}
 use Rattle.tensor_values.proofs.division.remainder.Goals as goal
