@@ -37,7 +37,7 @@ pub fn frames_keep_versions()
 pub fn unfilled_headers_have_faults()
     ensures { (versions : Versions) (header : Data) (values : List ℤ) → filled_text values header ≡ None
         → unlocated (data_asked versions (frame_inputs values) header)
-        ≡ unlocated (data_asked versions (λ rank inputs. Err (here Fault.BadTensor)) header) }
+        ≡ unlocated (data_asked versions (λ bounds inputs. Err (here Fault.BadTensor)) header) }
 {}
 
 /// Arrays that have as many values as their tensors have places ask for what the frame asks for in
@@ -55,7 +55,7 @@ pub fn other_arrays_have_faults()
     ensures { (versions : Versions) (header : Data) (arrays : List (List ℤ))
         → header_sizes header ≢ Some (map length arrays)
         → unlocated (data_asked versions (array_inputs arrays) header)
-        ≡ unlocated (data_asked versions (λ rank inputs. Err (here Fault.BadTensor)) header) }
+        ≡ unlocated (data_asked versions (λ bounds inputs. Err (here Fault.BadTensor)) header) }
 {}
 
 /// The values of a frame decide nothing but the values of its inputs: with others, of the same

@@ -1,14 +1,16 @@
 //! The versions of texts and of frames, and what each allows.
 
-ghost use Rattle.std.specs.Prelude.{◌≡◌, ◌⊎◌, option_map};
+ghost use Rattle.std.specs.Prelude.{◌≡◌, option_map};
+ghost use Rattle.tensor_ops.specs.Legal.{IsPossible};
 ghost use Rattle.expr_reader.specs.Profile.{operation_named};
 ghost use Rattle.expr_reader.specs.Table.{operations_on_values, movements, operations_along_axes};
 ghost use Rattle.expr_reader.specs.Table.{operations_1, operations_2, operations_added};
 ghost use Rattle.expr_reader.specs.Table.{operations_on_integers};
 ghost use Rattle.expr_reader.specs.private.Version.{operation_under};
 
+use crate::{MAX_BLOCK, WIDEST_BLOCK};
 use crate::operation::{Binary, Operation, Unary};
-use tensor_ops::{BinaryScalar, Reducer, UnaryScalar};
+use tensor_ops::{BinaryScalar, Bounds, Reducer, UnaryScalar, WIDEST};
 
 /// A version of a text or a frame.
 #[derive(Clone, Copy, Debug, Eq, PartialEq)]
@@ -51,14 +53,25 @@ impl Version {
         }
     }
 
-    /// The highest rank of an input, and of a result.
-    pub(crate) fn rank(self) -> u32
-        ensures value { result ≡ (profile_under self).rank }
-        ensures limit { (result ≡ 6) ⊎ (result ≡ 8) }
+    /// The greatest block.
+    pub(crate) fn block(self) -> u64
+        ensures { result ≡ (profile_under self).block }
     {
         match self {
-            Version::One => 6,
-            Version::Two | Version::Three => 8,
+            Version::One | Version::Two => MAX_BLOCK,
+            Version::Three => WIDEST_BLOCK,
+        }
+    }
+
+    /// How large an input may get, and a result.
+    pub(crate) fn bounds(self) -> Bounds
+        ensures value { result ≡ (profile_under self).bounds }
+        ensures limit { IsPossible result }
+    {
+        match self {
+            Version::One => Bounds::of_text(6),
+            Version::Two => Bounds::of_text(8),
+            Version::Three => WIDEST,
         }
     }
 
