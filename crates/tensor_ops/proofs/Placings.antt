@@ -68,7 +68,7 @@ view-whole placed ds sound count few = record {
   means = λ index is_index. ap (meaning placed) (omega (arith, by_steps-from 1 ds index));
 }
 
--- a walk over such an operand
+-- a view over such an operand
 pub gives-walk : (m : Movement) (inner outer whole : Placed) (start from : ℕ) (axes along : List Axis) (ds rs : List ℕ)
     → IsView inner start axes outer ds → moved_dims highest_rank m ds ≡ Ok rs → from ≡ moved_start m start axes → along ≡ moved_axes m axes
     → ((p : ℕ) → meaning whole p ≡ meaning inner (reached from along p)) → count_of whole ≡ walk_size along

@@ -1,4 +1,4 @@
--- Settled expressions: how far walks reach, and values by index lists.
+-- Settled expressions: how far views reach, and values by index lists.
 use Rattle.std.proofs.Common.{◌≡◌, ℕ, ℤ, ◌+◌, ◌-◌, ◌*◌, ◌^◌, ◌<◌, ◌≤◌, List, [], ◌∷◌, if◌then◌else◌}
 use Rattle.std.proofs.Common.{refl, ap, sym, subst, ◌∙◌, arith, inl, inr, Bool, Result, IfOk}
 use Rattle.std.proofs.lemmas.Bool.{cases_Bool}
@@ -63,7 +63,7 @@ last-within (a ∷ rest) start some =
           subst P (sym place) (last-row a rest start (a.size - 1) q (omega (arith, row.0)) steps slower.0 slower.1)
     ]
 
--- so a walk that stays below a number spans no more
+-- so a view that stays below a number spans no more
 pub span-below : (axes : List Axis) (start limit : ℕ) → 0 < walk_size axes
     → ((p : ℕ) → p < walk_size axes → reached start axes p < limit) → start + span axes < limit
 span-below axes start limit some inside =
@@ -97,7 +97,7 @@ follows-spliced v w a b inner other x y r turns same_a same_b first second whole
           (λ q inside. second.means q (omega (arith, ap count_of same_b)) ∙ ap (λ z. meaning z q) same_b) p below;
     }
 
--- and a walk over what follows a function follows it along the walk
+-- and a view over what follows a function follows it along the view
 pub follows-along : (r placed : Placed) (places : ℕ) (at : ℕ → ℤ) (start : ℕ) (axes : List Axis)
     → Follows r (walk_size axes) (meaning_along placed start axes) → Follows placed places at
     → ((p : ℕ) → p < walk_size axes → reached start axes p < places)
@@ -128,7 +128,7 @@ lead-beside a b start axes same sound can = (
   (rw same can.1.0, (can.1.1.0, (can.1.1.1.0, λ p below. rw same (can.1.1.1.1 p below)))),
 )
 
--- what a walk in a walk reads can be settled, and led along both as one
+-- what a view in a view reads can be settled, and led along both as one
 pub settle-walked : (a : Placed) (start from : ℕ) (axes along : List Axis) → IsSound a → count_of a ≤ most_elements
     → ((p : ℕ) → p < walk_size axes → reached start axes p < count_of a) → 0 < walk_size along
     → ((p : ℕ) → p < walk_size along → reached from along p < walk_size axes) → CanSettle a
@@ -165,7 +165,7 @@ follows-same r inner a same follows = subst (λ z. Follows r (count_of z) (meani
 pub follows-beside : (r : Placed) (places others : ℕ) (at : ℕ → ℤ) → places ≡ others → Follows r places at → Follows r others at
 follows-beside r places others at same follows = subst (λ n. Follows r n at) same follows
 
--- or along two walks as one
+-- or along two views as one
 pub follows-joined : (r a : Placed) (start from joint : ℕ) (axes along both : List Axis) → IsJoint joint both from along start axes
     → Follows r (walk_size both) (meaning_along a joint both)
     → Follows r (walk_size along) (λ p. meaning a (reached start axes (reached from along p)))
@@ -225,7 +225,7 @@ second-few m n limit few = omega arith
 pub some-below : {m n : ℕ} → m < n → 0 < n
 some-below below = omega arith
 
--- two walks are within bounds where each stays in what it is over
+-- two views are within bounds where each stays in what it is over
 pub joined-takes : (a : Placed) (start from : ℕ) (axes along given : List Axis) → given ≡ axes → count_of a ≤ most_elements
     → walk_size axes ≤ most_elements → ((p : ℕ) → p < walk_size axes → reached start axes p < count_of a) → 0 < walk_size along
     → ((p : ℕ) → p < walk_size along → reached from along p < walk_size axes)

@@ -1,4 +1,4 @@
--- Placed expressions whose walks have gone down to what is read by places.
+-- Placed expressions whose views have gone down to what is read by places.
 use Rattle.std.specs.Prelude.{◌≡◌, ℕ, ℤ, ◌<◌, List}
 use Rattle.tensor_ops.specs.private.Meaning.{meaning, count_of, IsSound}
 use Rattle.tensor_views.specs.View.{reached}
@@ -11,6 +11,6 @@ pub record Follows (placed : Placed) (places : ℕ) (at : ℕ → ℤ) : Type 0 
   pub count : count_of placed ≡ places
   pub means : (p : ℕ) → p < places → meaning placed p ≡ at p
 
--- the value of a placed expression at the place that a walk reaches
+-- the value of a placed expression at the place that a view reaches
 abbrev pub meaning_along : Placed → ℕ → List Axis → ℕ → ℤ
 meaning_along placed start axes p = meaning placed (reached start axes p)

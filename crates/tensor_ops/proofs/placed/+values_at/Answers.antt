@@ -21,7 +21,7 @@ use Rattle.tensor_values.proofs.Runs.{places-applied, places-paired, places-sele
 use Rattle.tensor_views.proofs.Soundness.{reached-within}
 use Rattle.tensor_ops.proofs.placed.+values_at.Goals as goal
 
--- combined with what is read along a walk, or with values
+-- combined with what is read along a view, or with values
 pub combine_at-combine_row-requires-clause-room : goal.combine_at-combine_row-requires-clause-room
 combine_at-combine_row-requires-clause-room t c =
     omega (arith, c.repeated.ensures.count, c.len.ensures, c.requires.same)
