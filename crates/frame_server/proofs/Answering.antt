@@ -16,8 +16,7 @@ use Rattle.expr_reader.specs.Frame.{frame_inputs, request_of_frame}
 use Rattle.expr_reader.specs.Place.{here, unlocated}
 use Rattle.expr_reader.specs.Contents.{Contents}
 use Rattle.expr_reader.specs.Profile.{frame_profile_of}
-use Rattle.expr_reader.specs.Request.{Asked, data_of, text_asked}
-use Rattle.expr_reader.specs.Steps.{and_then}
+use Rattle.expr_reader.specs.Request.{Asked, text_asked}
 use Rattle.expr_reader.specs.declared.request.Request.{Request}
 use Rattle.expr_reader.specs.Limits.{most_bytes, most_values}
 use Rattle.expr_reader.specs.declared.fault.Fault.{Fault}
