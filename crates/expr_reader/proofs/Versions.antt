@@ -1,12 +1,12 @@
 -- A frame whose version is one of a text's.
-use Rattle.std.proofs.Common.{◌≡◌, ◌≢◌, ◌==◌, ap, refl, ℕ, Bool, true, false, cond, if◌then◌else◌}
-use Rattle.std.proofs.Common.{Option, Some, None, Result, ok_or}
+use Rattle.std.proofs.Common.{◌≡◌, ◌≢◌, ◌==◌, ap, refl, ℕ, Bool, true, false, if◌then◌else◌}
+use Rattle.std.proofs.Common.{Option, Some, None}
 use Rattle.std.proofs.lemmas.Bool.Decides.{Decides-eqb}
-use Rattle.std.specs.Prelude.{codes, option_and_then}
+use Rattle.std.specs.Prelude.{option_and_then}
 use Rattle.std.specs.Bool.{Decides}
 use Rattle.serde_json.specs.Data.{Data}
 use Rattle.expr_reader.specs.Fields.{Fields, fields_of, whole_of}
-use Rattle.expr_reader.specs.Profile.{Profile, version_3, profile_of, frame_profile_of}
+use Rattle.expr_reader.specs.Profile.{version_3, profile_of, frame_profile_of}
 use Rattle.expr_reader.specs.Request.{Naming, profile_in, fields_asked, data_asked, version_in}
 
 -- another number than 3 has the profile of a text
