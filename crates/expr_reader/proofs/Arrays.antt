@@ -7,6 +7,7 @@ use Rattle.std.proofs.lemmas.Bool.{leb-true, le-leb, eq-eqb, eqb-true}
 use Rattle.std.proofs.lemmas.List.{take_all, take_at}
 use Rattle.serde_json.specs.Data.{Data, Members, no_members, member}
 use Rattle.serde_json.specs.Find.{as_object}
+use Rattle.tensor_ops.specs.Bounds.{Bounds}
 use Rattle.tensor_ops.specs.Contents.{Contents}
 use Rattle.tensor_ops.specs.Index.{size_of}
 use Rattle.tensor_ops.specs.Legal.{are_legal}
@@ -55,13 +56,13 @@ has_size d size is = by_dims (dims_alone d) refl
     by_dims None alone = let none : places_in d ≡ None = rw alone refl in (cc)
     by_dims (Some dims) alone = by_sizes dims alone (list_in whole_of dims) refl
 
-module _ (rank : ℕ) (array : List ℤ) (d : Data) (sized : HasSize d (length array)) where
+module _ (bounds : Bounds) (array : List ℤ) (d : Data) (sized : HasSize d (length array)) where
   -- the tensor, where its dims are legal
   abbrev tensor_if : Bool → Option Contents
   tensor_if is_legal = if is_legal then Some (record { dims = sized.sizes; values = array }) else None
 
-  array_tensor-sized : array_tensor rank array d ≡ tensor_if (are_legal rank sized.sizes)
-  array_tensor-sized = rw (sized.alone, sized.listed) (by_legal (are_legal rank sized.sizes))
+  array_tensor-sized : array_tensor bounds array d ≡ tensor_if (are_legal bounds sized.sizes)
+  array_tensor-sized = rw (sized.alone, sized.listed) (by_legal (are_legal bounds sized.sizes))
     where
       whole : take (size_of sized.sizes) array ≡ array
       whole = take_all (size_of sized.sizes) array (omega (arith, sized.long))
@@ -72,8 +73,8 @@ module _ (rank : ℕ) (array : List ℤ) (d : Data) (sized : HasSize d (length a
       by_legal true =
           rw (le-leb (size_of sized.sizes) (length array) (omega (arith, sized.long)), whole, eq-eqb (length array) (length array) refl) refl
 
-  framed_tensor-sized : (rest : List ℤ) → framed_tensor rank (array ++ rest) d ≡ tensor_if (are_legal rank sized.sizes)
-  framed_tensor-sized rest = rw (sized.alone, sized.listed) (by_legal (are_legal rank sized.sizes))
+  framed_tensor-sized : (rest : List ℤ) → framed_tensor bounds (array ++ rest) d ≡ tensor_if (are_legal bounds sized.sizes)
+  framed_tensor-sized rest = rw (sized.alone, sized.listed) (by_legal (are_legal bounds sized.sizes))
     where
       first : take (size_of sized.sizes) (array ++ rest) ≡ array
       first = take_at array rest (size_of sized.sizes) (sym sized.long)
@@ -84,25 +85,25 @@ module _ (rank : ℕ) (array : List ℤ) (d : Data) (sized : HasSize d (length a
           rw (le-leb (size_of sized.sizes) (length (array ++ rest)) (omega (arith, sized.long, length-append array rest)), first) refl
 
   framed_tensors-sized : (rest : List ℤ) (name : List ℕ) (ms : Members)
-      → framed_tensors rank (array ++ rest) (member name d ms) ≡ cons_of (array_tensor rank array d) (framed_tensors rank rest ms)
-  framed_tensors-sized rest name ms = rw (framed_tensor-sized rest, array_tensor-sized) (by_legal (are_legal rank sized.sizes))
+      → framed_tensors bounds (array ++ rest) (member name d ms) ≡ cons_of (array_tensor bounds array d) (framed_tensors bounds rest ms)
+  framed_tensors-sized rest name ms = rw (framed_tensor-sized rest, array_tensor-sized) (by_legal (are_legal bounds sized.sizes))
     where
       by_legal : (is_legal : Bool)
-          → option_and_then (λ t. option_map (λ ts. t ∷ ts) (framed_tensors rank (drop (length t.values) (array ++ rest)) ms)) (tensor_if is_legal)
-          ≡ cons_of (tensor_if is_legal) (framed_tensors rank rest ms)
+          → option_and_then (λ t. option_map (λ ts. t ∷ ts) (framed_tensors bounds (drop (length t.values) (array ++ rest)) ms)) (tensor_if is_legal)
+          ≡ cons_of (tensor_if is_legal) (framed_tensors bounds rest ms)
       by_legal false = refl
       by_legal true = rw (drop-append_seam array rest) refl
 
 -- arrays of the members' sizes
-array_tensors-joined : (rank : ℕ) (ms : Members) (arrays : List (List ℤ)) → places_of_each ms ≡ Some (map length arrays)
-    → array_tensors rank arrays ms ≡ framed_tensors rank (joined arrays) ms
-array_tensors-joined rank no_members [] is = refl
-array_tensors-joined rank no_members (array ∷ arrays) is = (cc)
-array_tensors-joined rank (member name d ms) [] is = absurd (cons_of-some (places_in d) (places_of_each ms) is)
-array_tensors-joined rank (member name d ms) (array ∷ arrays) is =
+array_tensors-joined : (bounds : Bounds) (ms : Members) (arrays : List (List ℤ)) → places_of_each ms ≡ Some (map length arrays)
+    → array_tensors bounds arrays ms ≡ framed_tensors bounds (joined arrays) ms
+array_tensors-joined bounds no_members [] is = refl
+array_tensors-joined bounds no_members (array ∷ arrays) is = (cc)
+array_tensors-joined bounds (member name d ms) [] is = absurd (cons_of-some (places_in d) (places_of_each ms) is)
+array_tensors-joined bounds (member name d ms) (array ∷ arrays) is =
     let both = cons_of-both (places_in d) (places_of_each ms) (length array) (map length arrays) is in
-    ap (cons_of (array_tensor rank array d)) (array_tensors-joined rank ms arrays both.1)
-    ∙ sym (framed_tensors-sized rank array d (has_size d (length array) both.0) (joined arrays) name ms)
+    ap (cons_of (array_tensor bounds array d)) (array_tensors-joined bounds ms arrays both.1)
+    ∙ sym (framed_tensors-sized bounds array d (has_size d (length array) both.0) (joined arrays) name ms)
 
 pub arrays-frame : (header : Data) (arrays : List (List ℤ)) → header_sizes header ≡ Some (map length arrays)
     → unlocated (data_asked (array_inputs arrays) header) ≡ unlocated (data_asked (frame_inputs (joined arrays)) header)
@@ -114,11 +115,11 @@ arrays-frame header arrays is = by_fields (fields_of header) refl is
     by_inputs f None there found is = (cc)
     by_inputs f (Some ms) there found is =
         rw there
-        (fields_asked-same (array_inputs arrays) (frame_inputs (joined arrays)) f f.inputs (λ rank.
-        let same : named_by (array_tensors rank arrays) f.inputs ≡ framed_in (joined arrays) rank f.inputs =
-        rw (found, array_tensors-joined rank ms arrays is) refl in
-        or_place-same (bad_array rank arrays) (bad_framed rank (joined arrays)) f.inputs f.inputs
-        (named_by (array_tensors rank arrays) f.inputs) (framed_in (joined arrays) rank f.inputs) same))
+        (fields_asked-same (array_inputs arrays) (frame_inputs (joined arrays)) f f.inputs (λ bounds.
+        let same : named_by (array_tensors bounds arrays) f.inputs ≡ framed_in (joined arrays) bounds f.inputs =
+        rw (found, array_tensors-joined bounds ms arrays is) refl in
+        or_place-same (bad_array bounds arrays) (bad_framed bounds (joined arrays)) f.inputs f.inputs
+        (named_by (array_tensors bounds arrays) f.inputs) (framed_in (joined arrays) bounds f.inputs) same))
 
     by_fields : (f : Option Fields) → fields_of header ≡ f
         → option_and_then (λ f. option_and_then places_of_each (as_object f.inputs)) f ≡ Some (map length arrays)
@@ -127,8 +128,8 @@ arrays-frame header arrays is = by_fields (fields_of header) refl is
     by_fields (Some f) there is = by_inputs f (as_object f.inputs) there refl is
 
 -- a tensor has its array's size
-places_in-tensor : (rank : ℕ) (array : List ℤ) (d : Data) (t : Contents) → array_tensor rank array d ≡ Some t → places_in d ≡ Some (length array)
-places_in-tensor rank array d t is = by_dims (dims_alone d) refl is
+places_in-tensor : (bounds : Bounds) (array : List ℤ) (d : Data) (t : Contents) → array_tensor bounds array d ≡ Some t → places_in d ≡ Some (length array)
+places_in-tensor bounds array d t is = by_dims (dims_alone d) refl is
   where
     by_whole : (sizes : List ℕ) → size_of sizes ≤ length array → (is_whole : Bool) → eqb (length (take (size_of sizes) array)) (length array) ≡ is_whole
         → (if is_whole then Some (record { dims = sizes; values = take (size_of sizes) array }) else None) ≡ Some t → size_of sizes ≡ length array
@@ -150,58 +151,58 @@ places_in-tensor rank array d t is = by_dims (dims_alone d) refl is
     by_legal sizes true is = by_count sizes (leb (size_of sizes) (length array)) refl is
 
     by_sizes : (dims : Data) → dims_alone d ≡ Some dims → (sizes : Option (List ℕ)) → list_in whole_of dims ≡ sizes
-        → option_and_then (with_all array) (option_and_then (dealt array) (option_and_then (λ s. if are_legal rank s then Some s else None) sizes)) ≡ Some t
+        → option_and_then (with_all array) (option_and_then (dealt array) (option_and_then (λ s. if are_legal bounds s then Some s else None) sizes)) ≡ Some t
         → places_in d ≡ Some (length array)
     by_sizes dims alone None listed is = (cc)
-    by_sizes dims alone (Some sizes) listed is = rw (alone, listed) (ap Some (by_legal sizes (are_legal rank sizes) is))
+    by_sizes dims alone (Some sizes) listed is = rw (alone, listed) (ap Some (by_legal sizes (are_legal bounds sizes) is))
 
     by_dims : (dims : Option Data) → dims_alone d ≡ dims
         → option_and_then (with_all array) (option_and_then (λ e. option_and_then (dealt array)
-        (option_and_then (λ s. if are_legal rank s then Some s else None) (list_in whole_of e))) dims) ≡ Some t
+        (option_and_then (λ s. if are_legal bounds s then Some s else None) (list_in whole_of e))) dims) ≡ Some t
         → places_in d ≡ Some (length array)
     by_dims None alone is = (cc)
     by_dims (Some dims) alone is = by_sizes dims alone (list_in whole_of dims) refl is
 
 -- and so do tensors
-places_of_each-tensors : (rank : ℕ) (ms : Members) (arrays : List (List ℤ)) (ts : List Contents) → array_tensors rank arrays ms ≡ Some ts
+places_of_each-tensors : (bounds : Bounds) (ms : Members) (arrays : List (List ℤ)) (ts : List Contents) → array_tensors bounds arrays ms ≡ Some ts
     → places_of_each ms ≡ Some (map length arrays)
-places_of_each-tensors rank no_members [] ts is = refl
-places_of_each-tensors rank no_members (array ∷ arrays) ts is = (cc)
-places_of_each-tensors rank (member name d ms) [] ts is = (cc)
-places_of_each-tensors rank (member name d ms) (array ∷ arrays) ts is =
-    by_first (places_of_each-tensors rank ms arrays) (array_tensor rank array d) refl (array_tensors rank arrays ms) refl is
+places_of_each-tensors bounds no_members [] ts is = refl
+places_of_each-tensors bounds no_members (array ∷ arrays) ts is = (cc)
+places_of_each-tensors bounds (member name d ms) [] ts is = (cc)
+places_of_each-tensors bounds (member name d ms) (array ∷ arrays) ts is =
+    by_first (places_of_each-tensors bounds ms arrays) (array_tensor bounds array d) refl (array_tensors bounds arrays ms) refl is
   where
-    by_first : ((us : List Contents) → array_tensors rank arrays ms ≡ Some us → places_of_each ms ≡ Some (map length arrays))
-        → (first : Option Contents) → array_tensor rank array d ≡ first → (rest : Option (List Contents)) → array_tensors rank arrays ms ≡ rest
+    by_first : ((us : List Contents) → array_tensors bounds arrays ms ≡ Some us → places_of_each ms ≡ Some (map length arrays))
+        → (first : Option Contents) → array_tensor bounds array d ≡ first → (rest : Option (List Contents)) → array_tensors bounds arrays ms ≡ rest
         → cons_of first rest ≡ Some ts → places_of_each (member name d ms) ≡ Some (map length (array ∷ arrays))
     by_first behind None first rest others is = (cc)
     by_first behind (Some t) first None others is = (cc)
-    by_first behind (Some t) first (Some us) others is = rw (places_in-tensor rank array d t first, behind us others) refl
+    by_first behind (Some t) first (Some us) others is = rw (places_in-tensor bounds array d t first, behind us others) refl
 
 -- other arrays have no inputs
 abbrev no_inputs : Naming
-no_inputs rank inputs = Err (here BadTensor)
+no_inputs bounds inputs = Err (here BadTensor)
 
 pub arrays-no_frame : (header : Data) (arrays : List (List ℤ)) → header_sizes header ≢ Some (map length arrays)
     → unlocated (data_asked (array_inputs arrays) header) ≡ unlocated (data_asked no_inputs header)
 arrays-no_frame header arrays other = by_fields (fields_of header) refl
   where
-    unread : (f : Fields) → fields_of header ≡ Some f → ((rank : ℕ) → named_by (array_tensors rank arrays) f.inputs ≡ None)
+    unread : (f : Fields) → fields_of header ≡ Some f → ((bounds : Bounds) → named_by (array_tensors bounds arrays) f.inputs ≡ None)
         → unlocated (data_asked (array_inputs arrays) header) ≡ unlocated (data_asked no_inputs header)
-    unread f there none = rw there (fields_asked-same (array_inputs arrays) no_inputs f f.inputs (λ rank. rw (none rank) refl))
+    unread f there none = rw there (fields_asked-same (array_inputs arrays) no_inputs f f.inputs (λ bounds. rw (none bounds) refl))
 
     none_of : (f : Fields) (ms : Members) → fields_of header ≡ Some f → as_object f.inputs ≡ Some ms
-        → (rank : ℕ) (ts : Option (List Contents)) → array_tensors rank arrays ms ≡ ts → array_tensors rank arrays ms ≡ None
-    none_of f ms there found rank None is = is
-    none_of f ms there found rank (Some ts) is =
-        let sizes : header_sizes header ≡ Some (map length arrays) = rw (there, found) (places_of_each-tensors rank ms arrays ts is) in
+        → (bounds : Bounds) (ts : Option (List Contents)) → array_tensors bounds arrays ms ≡ ts → array_tensors bounds arrays ms ≡ None
+    none_of f ms there found bounds None is = is
+    none_of f ms there found bounds (Some ts) is =
+        let sizes : header_sizes header ≡ Some (map length arrays) = rw (there, found) (places_of_each-tensors bounds ms arrays ts is) in
         absurd (other sizes)
 
     by_inputs : (f : Fields) (ms : Option Members) → fields_of header ≡ Some f → as_object f.inputs ≡ ms
         → unlocated (data_asked (array_inputs arrays) header) ≡ unlocated (data_asked no_inputs header)
-    by_inputs f None there found = unread f there (λ rank. rw found refl)
+    by_inputs f None there found = unread f there (λ bounds. rw found refl)
     by_inputs f (Some ms) there found =
-        unread f there (λ rank. rw (found, none_of f ms there found rank (array_tensors rank arrays ms) refl) refl)
+        unread f there (λ bounds. rw (found, none_of f ms there found bounds (array_tensors bounds arrays ms) refl) refl)
 
     by_fields : (f : Option Fields) → fields_of header ≡ f
         → unlocated (data_asked (array_inputs arrays) header) ≡ unlocated (data_asked no_inputs header)

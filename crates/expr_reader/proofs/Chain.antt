@@ -1,7 +1,6 @@
 -- What is asked for from a field on, where those before it have no fault.
 use Rattle.std.specs.Prelude.{ℕ, codes, Result, Ok, ok_or}
 use Rattle.expr_reader.specs.Fields.{Fields, within}
-use Rattle.expr_reader.specs.Limits.{greatest_block}
 use Rattle.expr_reader.specs.Node.{tree_at}
 use Rattle.expr_reader.specs.Place.{field, Located, at, below}
 use Rattle.expr_reader.specs.Profile.{Profile}
@@ -17,7 +16,7 @@ tree_asked f p workers block named =
       workers = workers;
       block = block;
       inputs = named.tensors;
-      rank = p.rank;
+      bounds = p.bounds;
       term = tree.term;
     }))
 
@@ -25,12 +24,12 @@ module _ (named : Naming) where
   -- from the inputs, the block and the workers on
   abbrev pub inputs_asked : Fields → Profile → ℕ → ℕ → Result Asked Located
   inputs_asked f p workers block =
-      and_then (below (field (codes "inputs")) (named p.rank f.inputs))
+      and_then (below (field (codes "inputs")) (named p.bounds f.inputs))
       (tree_asked f p workers block)
 
   abbrev pub block_asked : Fields → Profile → ℕ → Result Asked Located
   block_asked f p workers =
-      and_then (ok_or (within 1 greatest_block f.block) (at (field (codes "block")) BadBlock))
+      and_then (ok_or (within 1 p.block f.block) (at (field (codes "block")) BadBlock))
       (inputs_asked f p workers)
 
   abbrev pub workers_asked : Fields → Profile → Result Asked Located

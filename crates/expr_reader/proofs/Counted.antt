@@ -14,6 +14,7 @@ use Rattle.serde_json.specs.Data.{Members, no_members, member, put}
 use Rattle.serde_json.specs.Events.{members_len}
 use Rattle.serde_json.specs.Find.{get_member, get, as_object}
 use Rattle.serde_json.specs.Read.{number_of, of_json, of_items, of_members, max_depth, read}
+use Rattle.tensor_ops.specs.Bounds.{Bounds}
 use Rattle.tensor_ops.specs.Contents.{Contents}
 use Rattle.expr_reader.specs.Arrays.{array_tensor, array_tensors}
 use Rattle.expr_reader.specs.private.Behind.{Source, in_text, behind, apart, tensors_by, place_by, naming_by}
@@ -175,60 +176,60 @@ AtMost-cons_of None rest m n more h = tt
 AtMost-cons_of (Some x) rest m n more h =
     AtMost-option_map length length m n (λ xs. x ∷ xs) (λ xs few. omega arith) rest h
 
-AtMost-tensors_in : (rank : ℕ) (ms : Members)
-    → AtMost length (count_in_members ms) (tensors_in rank ms)
-AtMost-tensors_in rank no_members = omega arith
-AtMost-tensors_in rank (member name d ms) =
-    AtMost-cons_of (tensor_in rank d) (tensors_in rank ms) (count_in_members ms)
-    (count_in_members (member name d ms)) (omega arith) (AtMost-tensors_in rank ms)
+AtMost-tensors_in : (bounds : Bounds) (ms : Members)
+    → AtMost length (count_in_members ms) (tensors_in bounds ms)
+AtMost-tensors_in bounds no_members = omega arith
+AtMost-tensors_in bounds (member name d ms) =
+    AtMost-cons_of (tensor_in bounds d) (tensors_in bounds ms) (count_in_members ms)
+    (count_in_members (member name d ms)) (omega arith) (AtMost-tensors_in bounds ms)
 
 AtMost-none_left : (values : List ℤ) → AtMost length 0 (none_left values)
 AtMost-none_left [] = omega arith
 AtMost-none_left (v ∷ vs) = tt
 
-AtMost-framed_tensors : (rank : ℕ) (values : List ℤ) (ms : Members)
-    → AtMost length (count_in_members ms) (framed_tensors rank values ms)
-AtMost-framed_tensors rank values no_members = AtMost-none_left values
-AtMost-framed_tensors rank values (member name d ms) =
+AtMost-framed_tensors : (bounds : Bounds) (values : List ℤ) (ms : Members)
+    → AtMost length (count_in_members ms) (framed_tensors bounds values ms)
+AtMost-framed_tensors bounds values no_members = AtMost-none_left values
+AtMost-framed_tensors bounds values (member name d ms) =
     AtMost-and_then (λ t. 0) length 0 (count_in_members (member name d ms))
-    (λ t. option_map (λ ts. t ∷ ts) (framed_tensors rank (drop (length t.values) values) ms))
+    (λ t. option_map (λ ts. t ∷ ts) (framed_tensors bounds (drop (length t.values) values) ms))
     (λ t none. AtMost-option_map length length (count_in_members ms) (count_in_members (member name d ms))
-    (λ ts. t ∷ ts) (λ ts few. omega arith) (framed_tensors rank (drop (length t.values) values) ms)
-    (AtMost-framed_tensors rank (drop (length t.values) values) ms))
-    (framed_tensor rank values d) (AtMost-none (framed_tensor rank values d))
+    (λ ts. t ∷ ts) (λ ts few. omega arith) (framed_tensors bounds (drop (length t.values) values) ms)
+    (AtMost-framed_tensors bounds (drop (length t.values) values) ms))
+    (framed_tensor bounds values d) (AtMost-none (framed_tensor bounds values d))
 
-AtMost-array_tensors : (rank : ℕ) (arrays : List (List ℤ)) (ms : Members)
-    → AtMost length (count_in_members ms) (array_tensors rank arrays ms)
-AtMost-array_tensors rank [] no_members = omega arith
-AtMost-array_tensors rank [] (member name d ms) = tt
-AtMost-array_tensors rank (values ∷ arrays) no_members = tt
-AtMost-array_tensors rank (values ∷ arrays) (member name d ms) =
+AtMost-array_tensors : (bounds : Bounds) (arrays : List (List ℤ)) (ms : Members)
+    → AtMost length (count_in_members ms) (array_tensors bounds arrays ms)
+AtMost-array_tensors bounds [] no_members = omega arith
+AtMost-array_tensors bounds [] (member name d ms) = tt
+AtMost-array_tensors bounds (values ∷ arrays) no_members = tt
+AtMost-array_tensors bounds (values ∷ arrays) (member name d ms) =
     AtMost-and_then (λ t. 0) length 0 (count_in_members (member name d ms))
-    (λ t. option_map (λ ts. t ∷ ts) (array_tensors rank arrays ms))
+    (λ t. option_map (λ ts. t ∷ ts) (array_tensors bounds arrays ms))
     (λ t none. AtMost-option_map length length (count_in_members ms) (count_in_members (member name d ms))
-    (λ ts. t ∷ ts) (λ ts few. omega arith) (array_tensors rank arrays ms) (AtMost-array_tensors rank arrays ms))
-    (array_tensor rank values d) (AtMost-none (array_tensor rank values d))
+    (λ ts. t ∷ ts) (λ ts few. omega arith) (array_tensors bounds arrays ms) (AtMost-array_tensors bounds arrays ms))
+    (array_tensor bounds values d) (AtMost-none (array_tensor bounds values d))
 
-AtMost-tensors_by : (source : Source) (rank : ℕ) (ms : Members)
-    → AtMost length (count_in_members ms) (tensors_by source rank ms)
-AtMost-tensors_by in_text rank ms = AtMost-tensors_in rank ms
-AtMost-tensors_by (behind values) rank ms = AtMost-framed_tensors rank values ms
-AtMost-tensors_by (apart arrays) rank ms = AtMost-array_tensors rank arrays ms
+AtMost-tensors_by : (source : Source) (bounds : Bounds) (ms : Members)
+    → AtMost length (count_in_members ms) (tensors_by source bounds ms)
+AtMost-tensors_by in_text bounds ms = AtMost-tensors_in bounds ms
+AtMost-tensors_by (behind values) bounds ms = AtMost-framed_tensors bounds values ms
+AtMost-tensors_by (apart arrays) bounds ms = AtMost-array_tensors bounds arrays ms
 
 -- what is read is there
 or_place-Ok : (place : Members → List Step) (d : Data) (named : Option Named) (n : Named) → or_place place d named ≡ Ok n → named ≡ Some n
 or_place-Ok place d None n is = (cc)
 or_place-Ok place d (Some m) n is = let same : m ≡ n = cc in ap Some same
 
-pub length-naming_by : (left : Source) (rank : ℕ) (d : Data) (n : Named) → naming_by left rank d ≡ Ok n
+pub length-naming_by : (left : Source) (bounds : Bounds) (d : Data) (n : Named) → naming_by left bounds d ≡ Ok n
     → length n.tensors ≤ member_count d
-length-naming_by left rank d n is =
-    subst (AtMost tensor_count (member_count d)) (or_place-Ok (place_by left rank) d (named_by (tensors_by left rank) d) n is) (all d)
+length-naming_by left bounds d n is =
+    subst (AtMost tensor_count (member_count d)) (or_place-Ok (place_by left bounds) d (named_by (tensors_by left bounds) d) n is) (all d)
   where
     tensor_count : Named → ℕ
     tensor_count named = length named.tensors
 
-    all : (d : Data) → AtMost tensor_count (member_count d) (named_by (tensors_by left rank) d)
+    all : (d : Data) → AtMost tensor_count (member_count d) (named_by (tensors_by left bounds) d)
     all null = tt
     all (boolean b) = tt
     all (number x) = tt
@@ -237,4 +238,4 @@ length-naming_by left rank d n is =
     all (object ms) =
         AtMost-option_map length tensor_count (count_in_members ms) (count_in_members ms)
         (λ tensors. record { names = names_in ms; tensors = tensors }) (λ tensors few. few)
-        (tensors_by left rank ms) (AtMost-tensors_by left rank ms)
+        (tensors_by left bounds ms) (AtMost-tensors_by left bounds ms)

@@ -16,6 +16,7 @@ use Rattle.std.specs.Str.{bytes_eq}
 use Rattle.serde_json.specs.Data.{Data, null, boolean, number, string, array, object, Members, no_members, member}
 use Rattle.serde_json.specs.Events.{members_len}
 use Rattle.serde_json.specs.Find.{get_member, as_object, of_integer}
+use Rattle.tensor_ops.specs.Bounds.{Bounds}
 use Rattle.tensor_ops.specs.Contents.{Contents}
 use Rattle.tensor_ops.specs.Index.{size_of}
 use Rattle.tensor_ops.specs.Legal.{are_legal}
@@ -23,7 +24,6 @@ use Rattle.expr_reader.specs.Fields.{Fields, signed_of, whole_of, within, each_o
 use Rattle.expr_reader.specs.Filled.{numbers_of, tensor_of, filled_tensor, filled_members}
 use Rattle.expr_reader.specs.Filled.{with_other, with_inputs, filled_text}
 use Rattle.expr_reader.specs.Frame.{dims_alone, dealt, framed_tensor, framed_tensors, bad_framed, framed_in, frame_inputs}
-use Rattle.expr_reader.specs.Limits.{greatest_block}
 use Rattle.expr_reader.specs.Place.{Step, field, Located, here, at, below, unlocated}
 use Rattle.expr_reader.specs.Request.{Asked, Naming, profile_in}
 use Rattle.expr_reader.specs.Request.{fields_asked, data_asked}
@@ -52,28 +52,28 @@ record IsFilled (values : List ℤ) (d : Data) : Type 0 where
 
 -- one that isn't is no tensor
 abbrev IsNoTensor : List ℤ → Data → Type 0
-IsNoTensor values d = (filled_tensor values d ≡ None) × ((rank : ℕ) → framed_tensor rank values d ≡ None)
+IsNoTensor values d = (filled_tensor values d ≡ None) × ((bounds : Bounds) → framed_tensor bounds values d ≡ None)
 
 filled_or_not : (values : List ℤ) (d : Data) → IsNoTensor values d ⊎ IsFilled values d
 filled_or_not values d = by_dims (dims_alone d) refl
   where
     by_count : (dims : Data) (sizes : List ℕ) → dims_alone d ≡ Some dims → list_in whole_of dims ≡ Some sizes
         → (enough : Bool) → leb (size_of sizes) (length values) ≡ enough → IsNoTensor values d ⊎ IsFilled values d
-    by_count dims sizes alone listed false enough = inl (rw (alone, listed, enough) refl, λ rank. rw (alone, listed) (lacking rank (are_legal rank sizes)))
+    by_count dims sizes alone listed false enough = inl (rw (alone, listed, enough) refl, λ bounds. rw (alone, listed) (lacking bounds (are_legal bounds sizes)))
       where
-        lacking : (rank : ℕ) (is_legal : Bool) → option_and_then (dealt values) (if is_legal then Some sizes else None) ≡ None
-        lacking rank false = refl
-        lacking rank true = rw enough refl
+        lacking : (bounds : Bounds) (is_legal : Bool) → option_and_then (dealt values) (if is_legal then Some sizes else None) ≡ None
+        lacking bounds false = refl
+        lacking bounds true = rw enough refl
     by_count dims sizes alone listed true enough =
         inr (record { dims = dims; sizes = sizes; alone = alone; listed = listed; enough = leb-true (size_of sizes) (length values) enough })
 
     by_sizes : (dims : Data) → dims_alone d ≡ Some dims → (sizes : Option (List ℕ)) → list_in whole_of dims ≡ sizes
         → IsNoTensor values d ⊎ IsFilled values d
-    by_sizes dims alone None listed = inl (rw (alone, listed) refl, λ rank. rw (alone, listed) refl)
+    by_sizes dims alone None listed = inl (rw (alone, listed) refl, λ bounds. rw (alone, listed) refl)
     by_sizes dims alone (Some sizes) listed = by_count dims sizes alone listed (leb (size_of sizes) (length values)) refl
 
     by_dims : (dims : Option Data) → dims_alone d ≡ dims → IsNoTensor values d ⊎ IsFilled values d
-    by_dims None alone = inl (rw alone refl, λ rank. rw alone refl)
+    by_dims None alone = inl (rw alone refl, λ bounds. rw alone refl)
     by_dims (Some dims) alone = by_sizes dims alone (list_in whole_of dims) refl
 
 module _ (values : List ℤ) (d : Data) (member_is : IsFilled values d) where
@@ -96,15 +96,15 @@ module _ (values : List ℤ) (d : Data) (member_is : IsFilled values d) where
   filled_tensor-filled : filled_tensor values d ≡ Some (size_of sizes_of, filling)
   filled_tensor-filled = rw (member_is.alone, member_is.listed, le-leb (size_of sizes_of) (length values) member_is.enough) refl
 
-  framed_tensor-filled : (rank : ℕ) → framed_tensor rank values d ≡ tensor_if (are_legal rank sizes_of)
-  framed_tensor-filled rank = rw (member_is.alone, member_is.listed) (by_legal (are_legal rank sizes_of))
+  framed_tensor-filled : (bounds : Bounds) → framed_tensor bounds values d ≡ tensor_if (are_legal bounds sizes_of)
+  framed_tensor-filled bounds = rw (member_is.alone, member_is.listed) (by_legal (are_legal bounds sizes_of))
     where
       by_legal : (is_legal : Bool) → option_and_then (dealt values) (if is_legal then Some sizes_of else None) ≡ tensor_if is_legal
       by_legal false = refl
       by_legal true = rw (le-leb (size_of sizes_of) (length values) member_is.enough) refl
 
-  tensor_in-filling : (rank : ℕ) → All (FitsSigned w64) values → tensor_in rank filling ≡ tensor_if (are_legal rank sizes_of)
-  tensor_in-filling rank fits = rw member_is.listed (by_legal (are_legal rank sizes_of))
+  tensor_in-filling : (bounds : Bounds) → All (FitsSigned w64) values → tensor_in bounds filling ≡ tensor_if (are_legal bounds sizes_of)
+  tensor_in-filling bounds fits = rw member_is.listed (by_legal (are_legal bounds sizes_of))
     where
       read : each_of signed_of (numbers_of first_of) ≡ Some first_of
       read = each_of-numbers_of first_of (All-take (FitsSigned w64) (size_of sizes_of) values fits)
@@ -115,37 +115,37 @@ module _ (values : List ℤ) (d : Data) (member_is : IsFilled values d) where
       by_legal true = rw (read, eq-eqb (length first_of) (size_of sizes_of) length-first) refl
 
   -- a tensor, and then those of the members behind it
-  framed_tensors-filled : (rank : ℕ) (name : List ℕ) (ms : Members)
-      → framed_tensors rank values (member name d ms)
-      ≡ cons_of (tensor_if (are_legal rank sizes_of)) (framed_tensors rank (drop (size_of sizes_of) values) ms)
-  framed_tensors-filled rank name ms = rw (framed_tensor-filled rank) (by_legal (are_legal rank sizes_of))
+  framed_tensors-filled : (bounds : Bounds) (name : List ℕ) (ms : Members)
+      → framed_tensors bounds values (member name d ms)
+      ≡ cons_of (tensor_if (are_legal bounds sizes_of)) (framed_tensors bounds (drop (size_of sizes_of) values) ms)
+  framed_tensors-filled bounds name ms = rw (framed_tensor-filled bounds) (by_legal (are_legal bounds sizes_of))
     where
       by_legal : (is_legal : Bool)
-          → option_and_then (λ t. option_map (λ ts. t ∷ ts) (framed_tensors rank (drop (length t.values) values) ms)) (tensor_if is_legal)
-          ≡ cons_of (tensor_if is_legal) (framed_tensors rank (drop (size_of sizes_of) values) ms)
+          → option_and_then (λ t. option_map (λ ts. t ∷ ts) (framed_tensors bounds (drop (length t.values) values) ms)) (tensor_if is_legal)
+          ≡ cons_of (tensor_if is_legal) (framed_tensors bounds (drop (size_of sizes_of) values) ms)
       by_legal false = refl
       by_legal true = rw length-first refl
 
 -- a filled object has the names and the tensors of the values and the object
-record IsSame (rank : ℕ) (values : List ℤ) (ms text : Members) : Type 0 where
-  tensors : framed_tensors rank values ms ≡ tensors_in rank text
+record IsSame (bounds : Bounds) (values : List ℤ) (ms text : Members) : Type 0 where
+  tensors : framed_tensors bounds values ms ≡ tensors_in bounds text
   names : names_in ms ≡ names_in text
 
-same_tensors : (rank : ℕ) (ms : Members) (values : List ℤ) → All (FitsSigned w64) values → (text : Members)
-    → filled_members values ms ≡ Some text → IsSame rank values ms text
-same_tensors rank no_members [] fits text is = let same : no_members ≡ text = cc in subst (IsSame rank [] no_members) same (record { tensors = refl; names = refl })
-same_tensors rank no_members (v ∷ vs) fits text is = (cc)
-same_tensors rank (member name d ms) values fits text is = elim (filled_or_not values d) [
+same_tensors : (bounds : Bounds) (ms : Members) (values : List ℤ) → All (FitsSigned w64) values → (text : Members)
+    → filled_members values ms ≡ Some text → IsSame bounds values ms text
+same_tensors bounds no_members [] fits text is = let same : no_members ≡ text = cc in subst (IsSame bounds [] no_members) same (record { tensors = refl; names = refl })
+same_tensors bounds no_members (v ∷ vs) fits text is = (cc)
+same_tensors bounds (member name d ms) values fits text is = elim (filled_or_not values d) [
   | inl lacks ↦ let unfilled : filled_members values (member name d ms) ≡ None = rw lacks.0 refl in (cc)
   | inr here ↦
-      by_rest here (same_tensors rank ms (drop (size_of here.sizes) values) (All-drop (FitsSigned w64) (size_of here.sizes) values fits))
+      by_rest here (same_tensors bounds ms (drop (size_of here.sizes) values) (All-drop (FitsSigned w64) (size_of here.sizes) values fits))
       (filled_members (drop (size_of here.sizes) values) ms) refl
 ]
   where
     by_rest : (here : IsFilled values d)
-        → ((more : Members) → filled_members (drop (size_of here.sizes) values) ms ≡ Some more → IsSame rank (drop (size_of here.sizes) values) ms more)
+        → ((more : Members) → filled_members (drop (size_of here.sizes) values) ms ≡ Some more → IsSame bounds (drop (size_of here.sizes) values) ms more)
         → (rest : Option Members) → filled_members (drop (size_of here.sizes) values) ms ≡ rest
-        → IsSame rank values (member name d ms) text
+        → IsSame bounds values (member name d ms) text
     by_rest here behind None left =
         let unfilled : filled_members values (member name d ms) ≡ None = rw (filled_tensor-filled values d here, left) refl in (cc)
     by_rest here behind (Some more) left =
@@ -153,20 +153,20 @@ same_tensors rank (member name d ms) values fits text is = elim (filled_or_not v
         rw (filled_tensor-filled values d here, left) refl in
         let same : member name (filling values d here) more ≡ text = cc in
         let others = behind more left in
-        subst (IsSame rank values (member name d ms)) same (record {
-          tensors = framed_tensors-filled values d here rank name ms
-              ∙ rw (others.tensors, tensor_in-filling values d here rank fits) refl;
+        subst (IsSame bounds values (member name d ms)) same (record {
+          tensors = framed_tensors-filled values d here bounds name ms
+              ∙ rw (others.tensors, tensor_in-filling values d here bounds fits) refl;
           names = ap (λ names. name ∷ names) others.names;
         })
 
 -- members that aren't filled are no tensors
-unfilled-none : (rank : ℕ) (ms : Members) (values : List ℤ) → filled_members values ms ≡ None → framed_tensors rank values ms ≡ None
-unfilled-none rank no_members [] is = (cc)
-unfilled-none rank no_members (v ∷ vs) is = refl
-unfilled-none rank (member name d ms) values is = elim (filled_or_not values d) [
-  | inl lacks ↦ rw (lacks.1 rank) refl
+unfilled-none : (bounds : Bounds) (ms : Members) (values : List ℤ) → filled_members values ms ≡ None → framed_tensors bounds values ms ≡ None
+unfilled-none bounds no_members [] is = (cc)
+unfilled-none bounds no_members (v ∷ vs) is = refl
+unfilled-none bounds (member name d ms) values is = elim (filled_or_not values d) [
+  | inl lacks ↦ rw (lacks.1 bounds) refl
   | inr here ↦
-      by_rest here (unfilled-none rank ms (drop (size_of here.sizes) values)) (filled_members (drop (size_of here.sizes) values) ms) refl
+      by_rest here (unfilled-none bounds ms (drop (size_of here.sizes) values)) (filled_members (drop (size_of here.sizes) values) ms) refl
 ]
   where
     none_behind : (head : Option Contents) → cons_of head None ≡ None
@@ -174,15 +174,15 @@ unfilled-none rank (member name d ms) values is = elim (filled_or_not values d) 
     none_behind (Some t) = refl
 
     by_rest : (here : IsFilled values d)
-        → (filled_members (drop (size_of here.sizes) values) ms ≡ None → framed_tensors rank (drop (size_of here.sizes) values) ms ≡ None)
+        → (filled_members (drop (size_of here.sizes) values) ms ≡ None → framed_tensors bounds (drop (size_of here.sizes) values) ms ≡ None)
         → (rest : Option Members) → filled_members (drop (size_of here.sizes) values) ms ≡ rest
-        → framed_tensors rank values (member name d ms) ≡ None
+        → framed_tensors bounds values (member name d ms) ≡ None
     by_rest here behind (Some more) left =
         let all : filled_members values (member name d ms) ≡ Some (member name (filling values d here) more) =
         rw (filled_tensor-filled values d here, left) refl in (cc)
     by_rest here behind None left =
-        framed_tensors-filled values d here rank name ms
-        ∙ rw (behind left) (none_behind (tensor_if values d here (are_legal rank here.sizes)))
+        framed_tensors-filled values d here bounds name ms
+        ∙ rw (behind left) (none_behind (tensor_if values d here (are_legal bounds here.sizes)))
 
 -- a member at another name stays, and the one at this name is replaced
 module _ (name : List ℕ) (other : Data) where
@@ -276,17 +276,17 @@ below-same i (Err k) (Ok m) next is = (cc)
 below-same i (Err k) (Err l) next is = let same : k.fault ≡ l.fault = cc in ap Err same
 
 pub fields_asked-same : (read other : Naming) (f : Fields) (inputs : Data)
-    → ((rank : ℕ) → unlocated (read rank f.inputs) ≡ unlocated (other rank inputs))
+    → ((bounds : Bounds) → unlocated (read bounds f.inputs) ≡ unlocated (other bounds inputs))
     → unlocated (fields_asked read f) ≡ unlocated (fields_asked other (record f { inputs = inputs }))
 fields_asked-same read other f inputs same =
     and_then-same (ok_or (profile_in f) (at (field (codes "version")) BadVersion))
     (workers_asked read f) (workers_asked other (record f { inputs = inputs }))
     (λ p. and_then-same (ok_or (within 1 p.workers f.workers) (at (field (codes "workers")) BadWorkers))
     (block_asked read f p) (block_asked other (record f { inputs = inputs }) p)
-    (λ workers. and_then-same (ok_or (within 1 greatest_block f.block) (at (field (codes "block")) BadBlock))
+    (λ workers. and_then-same (ok_or (within 1 p.block f.block) (at (field (codes "block")) BadBlock))
     (inputs_asked read f p workers) (inputs_asked other (record f { inputs = inputs }) p workers)
-    (λ block. below-same (field (codes "inputs")) (read p.rank f.inputs) (other p.rank inputs)
-    (tree_asked f p workers block) (same p.rank))))
+    (λ block. below-same (field (codes "inputs")) (read p.bounds f.inputs) (other p.bounds inputs)
+    (tree_asked f p workers block) (same p.bounds))))
 
 -- the same names and tensors, wherever a fault is
 pub or_place-same : (place other : Members → List Step) (d e : Data) (named same : Option Named) → named ≡ same
@@ -311,11 +311,11 @@ frame-text header text values fits is = by_fields (fields_of header) refl is
         let same : with_inputs inputs header ≡ text = cc in
         subst (λ t. unlocated (data_asked (frame_inputs values) header) ≡ unlocated (data_asked inputs_in t)) same
         (rw (there, fields_of-with_inputs inputs header f there)
-        (fields_asked-same (frame_inputs values) inputs_in f (object inputs) (λ rank.
-        let both = same_tensors rank ms values fits inputs all in
-        let same : framed_in values rank f.inputs ≡ named_in rank (object inputs) = rw (found, both.tensors, both.names) refl in
-        or_place-same (bad_framed rank values) (bad_member rank) f.inputs (object inputs)
-        (framed_in values rank f.inputs) (named_in rank (object inputs)) same)))
+        (fields_asked-same (frame_inputs values) inputs_in f (object inputs) (λ bounds.
+        let both = same_tensors bounds ms values fits inputs all in
+        let same : framed_in values bounds f.inputs ≡ named_in bounds (object inputs) = rw (found, both.tensors, both.names) refl in
+        or_place-same (bad_framed bounds values) (bad_member bounds) f.inputs (object inputs)
+        (framed_in values bounds f.inputs) (named_in bounds (object inputs)) same)))
 
     by_inputs : (f : Fields) (ms : Option Members) → fields_of header ≡ Some f → as_object f.inputs ≡ ms
         → option_and_then (λ ms. option_map (λ inputs. with_inputs inputs header) (filled_members values ms)) ms ≡ Some text
@@ -331,26 +331,26 @@ frame-text header text values fits is = by_fields (fields_of header) refl is
 
 -- a frame without a text has no inputs
 abbrev no_inputs : Naming
-no_inputs rank inputs = Err (here BadTensor)
+no_inputs bounds inputs = Err (here BadTensor)
 
 pub frame-no_text : (header : Data) (values : List ℤ) → filled_text values header ≡ None
     → unlocated (data_asked (frame_inputs values) header) ≡ unlocated (data_asked no_inputs header)
 frame-no_text header values is = by_fields (fields_of header) refl is
   where
-    unread : (f : Fields) → fields_of header ≡ Some f → ((rank : ℕ) → framed_in values rank f.inputs ≡ None)
+    unread : (f : Fields) → fields_of header ≡ Some f → ((bounds : Bounds) → framed_in values bounds f.inputs ≡ None)
         → unlocated (data_asked (frame_inputs values) header) ≡ unlocated (data_asked no_inputs header)
-    unread f there none = rw there (fields_asked-same (frame_inputs values) no_inputs f f.inputs (λ rank. rw (none rank) refl))
+    unread f there none = rw there (fields_asked-same (frame_inputs values) no_inputs f f.inputs (λ bounds. rw (none bounds) refl))
 
     by_members : (f : Fields) (ms : Members) (filled_ms : Option Members) → fields_of header ≡ Some f → as_object f.inputs ≡ Some ms
         → filled_members values ms ≡ filled_ms → option_map (λ inputs. with_inputs inputs header) filled_ms ≡ None
         → unlocated (data_asked (frame_inputs values) header) ≡ unlocated (data_asked no_inputs header)
     by_members f ms (Some inputs) there found all is = (cc)
-    by_members f ms None there found all is = unread f there (λ rank. rw (found, unfilled-none rank ms values all) refl)
+    by_members f ms None there found all is = unread f there (λ bounds. rw (found, unfilled-none bounds ms values all) refl)
 
     by_inputs : (f : Fields) (ms : Option Members) → fields_of header ≡ Some f → as_object f.inputs ≡ ms
         → option_and_then (λ ms. option_map (λ inputs. with_inputs inputs header) (filled_members values ms)) ms ≡ None
         → unlocated (data_asked (frame_inputs values) header) ≡ unlocated (data_asked no_inputs header)
-    by_inputs f None there found is = unread f there (λ rank. rw found refl)
+    by_inputs f None there found is = unread f there (λ bounds. rw found refl)
     by_inputs f (Some ms) there found is = by_members f ms (filled_members values ms) there found refl is
 
     by_fields : (f : Option Fields) → fields_of header ≡ f

@@ -5,6 +5,7 @@ use Rattle.std.proofs.Common.{option_map, option_and_then, refl, ap, sym, ◌∙
 use Rattle.std.proofs.Common.{if◌then◌else◌, ◌+◌, get_or, drop, add-one, drop-cons, append_assoc}
 use Rattle.std.proofs.lemmas.List.{append-nil, drop_all}
 use Rattle.std.proofs.lemmas.Bool.{eq-eqb, ne_eqb, lt-leb}
+use Rattle.tensor_ops.specs.Bounds.{Bounds}
 use Rattle.tensor_ops.specs.Legal.{are_legal}
 use Rattle.serde_json.specs.Data.{Data, Items, no_items, item}
 use Rattle.serde_json.specs.Events.{items_len}
@@ -117,10 +118,10 @@ values_in-same size d ds is same = rw is (some (each_of signed_of ds) (length-ea
     some (Some xs) long = rw (eq-eqb (length xs) size (long xs refl ∙ same)) refl
 
 -- too long a list is no legal dims
-pub dims_in-long : (rank : ℕ) (d : Data) (ds : Items) → as_array d ≡ Some ds → rank < items_len ds → dims_in rank d ≡ None
-dims_in-long rank d ds is long = rw is (none (each_of whole_of ds) (length-each_of whole_of ds))
+pub dims_in-long : (bounds : Bounds) (d : Data) (ds : Items) → as_array d ≡ Some ds → bounds.rank < items_len ds → dims_in bounds d ≡ None
+dims_in-long bounds d ds is long = rw is (none (each_of whole_of ds) (length-each_of whole_of ds))
   where
     none : (dims : Option (List ℕ)) → ((xs : List ℕ) → dims ≡ Some xs → length xs ≡ items_len ds)
-        → option_and_then (λ xs. if are_legal rank xs then Some xs else None) dims ≡ None
+        → option_and_then (λ xs. if are_legal bounds xs then Some xs else None) dims ≡ None
     none None same = refl
-    none (Some xs) same = rw (lt-leb (length xs) rank (omega (arith, same xs refl))) refl
+    none (Some xs) same = rw (lt-leb (length xs) bounds.rank (omega (arith, same xs refl))) refl

@@ -10,6 +10,7 @@ use Rattle.serde_json.specs.Data.{Data, null, boolean, number, string, array, ob
 use Rattle.serde_json.specs.Data.{no_items, item, Members, no_members, member}
 use Rattle.serde_json.specs.Events.{items_len}
 use Rattle.serde_json.specs.Find.{as_object}
+use Rattle.tensor_ops.specs.Bounds.{Bounds}
 use Rattle.tensor_ops.specs.Contents.{Contents}
 use Rattle.tensor_ops.specs.Index.{size_of}
 use Rattle.tensor_ops.specs.Result.{unary_dims, binary_dims, ternary_dims, dims_of}
@@ -19,7 +20,7 @@ use Rattle.expr_reader.specs.Arguments.{Form, Arguments, arguments_at}
 use Rattle.expr_reader.specs.Faults.{text_fault}
 use Rattle.expr_reader.specs.Fields.{Fields, fields_of, within}
 use Rattle.expr_reader.specs.Frame.{dims_alone, dealt, none_left, framed_tensors, bad_framed, frame_inputs, request_of_frame}
-use Rattle.expr_reader.specs.Limits.{greatest_block, most_values}
+use Rattle.expr_reader.specs.Limits.{most_values}
 use Rattle.expr_reader.specs.Node.{Tree, within_limit, operation_at, checked, made, node_at, applied, tree_at}
 use Rattle.expr_reader.specs.Place.{Step, field, index, Located, here, at, below, unlocated}
 use Rattle.expr_reader.specs.Profile.{Profile}
@@ -32,18 +33,18 @@ use Rattle.expr_reader.specs.declared.fault.Fault.TheVariants.{BadField, BadVers
 use Rattle.expr_reader.specs.Alike.{HaveSameDims, AskAlike}
 use Rattle.expr_reader.proofs.Chain.{tree_asked, inputs_asked, block_asked, workers_asked}
 
-module _ (ts us : List Contents) (same : HaveSameDims ts us) (rank : ℕ) where
+module _ (ts us : List Contents) (same : HaveSameDims ts us) (bounds : Bounds) where
   -- the dims of a term over them
-  pub dims_of-same : (t : Term) → dims_of rank t ts ≡ dims_of rank t us
+  pub dims_of-same : (t : Term) → dims_of bounds t ts ≡ dims_of bounds t us
   dims_of-same (input n) = ap Ok (same n)
-  dims_of-same (unary o a) = ap (with_one (unary_dims rank o)) (dims_of-same a)
+  dims_of-same (unary o a) = ap (with_one (unary_dims bounds o)) (dims_of-same a)
   dims_of-same (binary o a b) =
-      ap (λ d. with_two (binary_dims rank o) d (dims_of rank b ts)) (dims_of-same a)
-      ∙ ap (λ e. with_two (binary_dims rank o) (dims_of rank a us) e) (dims_of-same b)
+      ap (λ d. with_two (binary_dims bounds o) d (dims_of bounds b ts)) (dims_of-same a)
+      ∙ ap (λ e. with_two (binary_dims bounds o) (dims_of bounds a us) e) (dims_of-same b)
   dims_of-same (ternary o a b c) =
-      ap (λ d. with_three (ternary_dims o) d (dims_of rank b ts) (dims_of rank c ts)) (dims_of-same a)
-      ∙ ap (λ e. with_three (ternary_dims o) (dims_of rank a us) e (dims_of rank c ts)) (dims_of-same b)
-      ∙ ap (λ f. with_three (ternary_dims o) (dims_of rank a us) (dims_of rank b us) f) (dims_of-same c)
+      ap (λ d. with_three (ternary_dims o) d (dims_of bounds b ts) (dims_of bounds c ts)) (dims_of-same a)
+      ∙ ap (λ e. with_three (ternary_dims o) (dims_of bounds a us) e (dims_of bounds c ts)) (dims_of-same b)
+      ∙ ap (λ f. with_three (ternary_dims o) (dims_of bounds a us) (dims_of bounds b us) f) (dims_of-same c)
 
 and_then-same : {A B : Type 0} (found other : Result A Located) (f g : A → Result B Located) → found ≡ other
     → ((x : A) → f x ≡ g x) → and_then found f ≡ and_then other g
@@ -62,12 +63,12 @@ module _ (profile : Profile) (names : List (List ℕ)) (ts us : List Contents) (
   second = record { names = names; tensors = us }
 
   made-same : (fs : List Form) (i : ℕ) (items : Items) (make : Arguments fs → Term) (end : ℕ)
-      → made (given profile.rank first) fs i items make end ≡ made (given profile.rank second) fs i items make end
+      → made (given profile.bounds first) fs i items make end ≡ made (given profile.bounds second) fs i items make end
   made-same fs i items make end =
       and_then-same (arguments_at i fs items) (arguments_at i fs items)
-      (λ a. checked (given profile.rank first) (make a) end) (λ a. checked (given profile.rank second) (make a) end) refl
+      (λ a. checked (given profile.bounds first) (make a) end) (λ a. checked (given profile.bounds second) (make a) end) refl
       (λ a. ap (result_map_both (λ dims. record { term = make a; end = end }) (λ fault. here (text_fault fault)))
-      (dims_of-same ts us same profile.rank (make a)))
+      (dims_of-same ts us same profile.bounds (make a)))
 
   mutual
     node_at-same : (n : ℕ) (d : Data) → node_at profile first n d ≡ node_at profile second n d
@@ -130,7 +131,7 @@ AreAlike-cons t u head None (Some us) alike = absurd alike
 AreAlike-cons t u head (Some ts) None alike = absurd alike
 AreAlike-cons t u head (Some ts) (Some us) alike = HaveSameDims-cons t u ts us head alike
 
-module _ (rank : ℕ) where
+module _ (bounds : Bounds) where
   AreAlike-none_left : (vs ws : List ℤ) → length vs ≡ length ws → AreAlike (none_left vs) (none_left ws)
   AreAlike-none_left [] [] long = λ n. refl
   AreAlike-none_left [] (w ∷ ws) long = absurd (omega arith)
@@ -138,15 +139,15 @@ module _ (rank : ℕ) where
   AreAlike-none_left (v ∷ vs) (w ∷ ws) long = tt
 
   AreAlike-framed_tensors : (ms : Members) (vs ws : List ℤ) → length vs ≡ length ws
-      → AreAlike (framed_tensors rank vs ms) (framed_tensors rank ws ms)
+      → AreAlike (framed_tensors bounds vs ms) (framed_tensors bounds ws ms)
   AreAlike-framed_tensors no_members vs ws long = AreAlike-none_left vs ws long
   AreAlike-framed_tensors (member name d ms) vs ws long = by_dims (AreAlike-framed_tensors ms) (dims_alone d)
     where
       AllAlike : Type 0
-      AllAlike = (xs ys : List ℤ) → length xs ≡ length ys → AreAlike (framed_tensors rank xs ms) (framed_tensors rank ys ms)
+      AllAlike = (xs ys : List ℤ) → length xs ≡ length ys → AreAlike (framed_tensors bounds xs ms) (framed_tensors bounds ys ms)
 
       behind : List ℤ → Contents → Option (List Contents)
-      behind values t = option_map (λ ts. t ∷ ts) (framed_tensors rank (drop (length t.values) values) ms)
+      behind values t = option_map (λ ts. t ∷ ts) (framed_tensors bounds (drop (length t.values) values) ms)
 
       by_room : AllAlike → (sizes : List ℕ) (has_room : Bool)
           → AreAlike (option_and_then (behind vs) (if has_room then Some (record { dims = sizes; values = take (size_of sizes) vs }) else None))
@@ -160,7 +161,7 @@ module _ (rank : ℕ) where
           let left : length (drop first vs) ≡ length (drop second ws) =
           length-drop first vs ∙ ap (λ n. n - first) long ∙ ap (λ k. length ws - k) taken ∙ sym (length-drop second ws) in
           AreAlike-cons (record { dims = sizes; values = take (size_of sizes) vs }) (record { dims = sizes; values = take (size_of sizes) ws }) refl
-          (framed_tensors rank (drop first vs) ms) (framed_tensors rank (drop second ws) ms)
+          (framed_tensors bounds (drop first vs) ms) (framed_tensors bounds (drop second ws) ms)
           (alike (drop first vs) (drop second ws) left)
 
       by_sizes : AllAlike → (sizes : Option (List ℕ))
@@ -169,10 +170,10 @@ module _ (rank : ℕ) where
       by_sizes alike (Some sizes) = rw long (by_room alike sizes (leb (size_of sizes) (length ws)))
 
       by_dims : AllAlike → (dims : Option Data)
-          → AreAlike (option_and_then (behind vs) (option_and_then (λ dims. option_and_then (dealt vs) (dims_in rank dims)) dims))
-          (option_and_then (behind ws) (option_and_then (λ dims. option_and_then (dealt ws) (dims_in rank dims)) dims))
+          → AreAlike (option_and_then (behind vs) (option_and_then (λ dims. option_and_then (dealt vs) (dims_in bounds dims)) dims))
+          (option_and_then (behind ws) (option_and_then (λ dims. option_and_then (dealt ws) (dims_in bounds dims)) dims))
       by_dims alike None = tt
-      by_dims alike (Some dims) = by_sizes alike (dims_in rank dims)
+      by_dims alike (Some dims) = by_sizes alike (dims_in bounds dims)
 
 -- a fault, or what is asked alike where something was found
 AskAlike-and_then : {A : Type 0} (found : Result A Located) (f g : A → Result Asked Located)
@@ -187,7 +188,7 @@ module _ (f : Fields) (profile : Profile) (workers block : ℕ) (names : List (L
   AskAlike-tree_asked ts us same =
       rw (tree_at-same profile names ts us same 0 f.expr)
       (AskAlike-and_then (below (field (codes "expr")) (tree_at profile (record { names = names; tensors = us }) 0 f.expr)) _ _
-      (λ tree. record { workers = refl; block = refl; rank = refl; term = refl; inputs = same }))
+      (λ tree. record { workers = refl; block = refl; bounds = refl; term = refl; inputs = same }))
 
   -- where there are none, the places may be others
   AskAlike-named : (p q : List Step) (ts us : Option (List Contents)) → AreAlike ts us
@@ -207,12 +208,12 @@ module _ (vs ws : List ℤ) (long : length vs ≡ length ws) where
       → AskAlike (unlocated (inputs_asked (frame_inputs vs) f profile workers block))
       (unlocated (inputs_asked (frame_inputs ws) f profile workers block))
   AskAlike-inputs f profile workers block =
-      by_members (as_object f.inputs) (option_map_or (bad_framed profile.rank vs) (as_object f.inputs) [])
-      (option_map_or (bad_framed profile.rank ws) (as_object f.inputs) [])
+      by_members (as_object f.inputs) (option_map_or (bad_framed profile.bounds vs) (as_object f.inputs) [])
+      (option_map_or (bad_framed profile.bounds ws) (as_object f.inputs) [])
     where
       read : List ℤ → List Step → Option Members → Result Named Located
       read values place ms =
-          ok_or (option_and_then (λ ms. option_map (λ ts. record { names = names_in ms; tensors = ts }) (framed_tensors profile.rank values ms)) ms)
+          ok_or (option_and_then (λ ms. option_map (λ ts. record { names = names_in ms; tensors = ts }) (framed_tensors profile.bounds values ms)) ms)
           (record { fault = BadTensor; place = place })
 
       by_members : (ms : Option Members) (p q : List Step)
@@ -220,8 +221,8 @@ module _ (vs ws : List ℤ) (long : length vs ≡ length ws) where
           (unlocated (and_then (below (field (codes "inputs")) (read ws q ms)) (tree_asked f profile workers block)))
       by_members None p q = refl
       by_members (Some ms) p q =
-          AskAlike-named f profile workers block (names_in ms) p q (framed_tensors profile.rank vs ms) (framed_tensors profile.rank ws ms)
-          (AreAlike-framed_tensors profile.rank ms vs ws long)
+          AskAlike-named f profile workers block (names_in ms) p q (framed_tensors profile.bounds vs ms) (framed_tensors profile.bounds ws ms)
+          (AreAlike-framed_tensors profile.bounds ms vs ws long)
 
   AskAlike-fields : (f : Fields) → AskAlike (unlocated (fields_asked (frame_inputs vs) f)) (unlocated (fields_asked (frame_inputs ws) f))
   AskAlike-fields f =
@@ -229,7 +230,7 @@ module _ (vs ws : List ℤ) (long : length vs ≡ length ws) where
       (workers_asked (frame_inputs vs) f) (workers_asked (frame_inputs ws) f)
       (λ p. AskAlike-and_then (ok_or (within 1 p.workers f.workers) (at (field (codes "workers")) BadWorkers))
       (block_asked (frame_inputs vs) f p) (block_asked (frame_inputs ws) f p)
-      (λ workers. AskAlike-and_then (ok_or (within 1 greatest_block f.block) (at (field (codes "block")) BadBlock))
+      (λ workers. AskAlike-and_then (ok_or (within 1 p.block f.block) (at (field (codes "block")) BadBlock))
       (inputs_asked (frame_inputs vs) f p workers) (inputs_asked (frame_inputs ws) f p workers)
       (λ block. AskAlike-inputs f p workers block)))
 

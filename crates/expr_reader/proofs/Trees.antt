@@ -49,7 +49,7 @@ AreCounted-input_at named name n below = from (number_of named.names name)
 
 AreCounted-checked : (inputs : Given) (t : Term) (n end : ℕ) → n + nodes_of t ≤ end
     → end ≤ most_nodes → AreCounted n (checked inputs t end)
-AreCounted-checked inputs t n end counted few = from (dims_of inputs.rank t inputs.tensors)
+AreCounted-checked inputs t n end counted few = from (dims_of inputs.bounds t inputs.tensors)
   where
     from : (dims : Shaped)
         → AreCounted n (result_map_both (λ dims. record { term = t; end = end }) (λ fault. here (text_fault fault))
@@ -109,7 +109,7 @@ module _ (profile : Profile) (named : Named) where
         AreCounted-and_then (n + 1) n 1 (tree_at profile named (n + 1) a) _
         (AreCounted-within_limit (n + 1) (node_at profile named (n + 1) a)
         (AreCounted-node_at (n + 1) a))
-        (λ x counted few. AreCounted-made (given profile.rank named) forms 2 rest
+        (λ x counted few. AreCounted-made (given profile.bounds named) forms 2 rest
         (λ args. unary (make args) x.term) n x.end (λ args. omega arith) few)
     AreCounted-applied n (two forms make) no_items = tt
     AreCounted-applied n (two forms make) (item a no_items) = tt
@@ -120,7 +120,7 @@ module _ (profile : Profile) (named : Named) where
         (λ x first few. AreCounted-and_then x.end n 2 (tree_at profile named x.end b) _
         (AreCounted-within_limit x.end (node_at profile named x.end b)
         (AreCounted-node_at x.end b))
-        (λ y second enough. AreCounted-made (given profile.rank named) forms 3 rest
+        (λ y second enough. AreCounted-made (given profile.bounds named) forms 3 rest
         (λ args. binary (make args) x.term y.term) n y.end (λ args. omega arith) enough))
     AreCounted-applied n (three forms make) no_items = tt
     AreCounted-applied n (three forms make) (item a no_items) = tt
@@ -135,7 +135,7 @@ module _ (profile : Profile) (named : Named) where
         (λ y second enough. AreCounted-and_then y.end n 3 (tree_at profile named y.end c) _
         (AreCounted-within_limit y.end (node_at profile named y.end c)
         (AreCounted-node_at y.end c))
-        (λ z third all. AreCounted-made (given profile.rank named) forms 4 rest
+        (λ z third all. AreCounted-made (given profile.bounds named) forms 4 rest
         (λ args. ternary (make args) x.term y.term z.term) n z.end (λ args. omega arith) all)))
 
   pub nodes_of-tree_at : (n : ℕ) (d : Data) (tree : Tree) → tree_at profile named n d ≡ Ok tree

@@ -8,6 +8,7 @@ use Rattle.serde_json.specs.Events.{items_len}
 use Rattle.serde_json.specs.View.{view, items_view}
 use Rattle.serde_json.specs.declared.value.Value.{Value, Array}
 use Rattle.serde_json.proofs.Views.{view-Array, items_len-items_view}
+use Rattle.tensor_ops.specs.Bounds.{Bounds}
 use Rattle.tensor_ops.specs.Contents.{Contents, Given}
 use Rattle.std.specs.Prelude.{◌&&◌}
 use Rattle.tensor_ops.specs.Result.{dims_of, operand_dims}
@@ -66,9 +67,9 @@ made-unread inputs fs i items make end l found = from (arguments_at i fs items) 
 
 -- what arguments make of an operand has that operand
 pub made-unary : {A : Type 0} (make : A → Unary) (t u : Term) (there : Result A Located)
-    → map_found (λ a. unary (make a) t) there ≡ Ok u → (rank : ℕ) (inputs : List Contents) → operand_dims rank u inputs ≡ dims_of rank t inputs ∷ []
-made-unary make t u (Err l) h rank inputs = absurd (cc)
-made-unary make t u (Ok a) h rank inputs = let same : u ≡ unary (make a) t = cc in rw same refl
+    → map_found (λ a. unary (make a) t) there ≡ Ok u → (bounds : Bounds) (inputs : List Contents) → operand_dims bounds u inputs ≡ dims_of bounds t inputs ∷ []
+made-unary make t u (Err l) h bounds inputs = absurd (cc)
+made-unary make t u (Ok a) h bounds inputs = let same : u ≡ unary (make a) t = cc in rw same refl
 
 -- whose inputs are those of its operand
 pub made-unary-inputs : {A : Type 0} (make : A → Unary) (t u : Term) (there : Result A Located)
@@ -79,11 +80,11 @@ made-unary-inputs make t u (Ok a) h count = let same : u ≡ unary (make a) t = 
 -- the same of two operands
 pub made-binary : {A : Type 0} (make : A → Binary) (t s u : Term) (there : Result A Located)
     → map_found (λ a. binary (make a) t s) there ≡ Ok u
-    → ((rank : ℕ) (inputs : List Contents) → operand_dims rank u inputs ≡ dims_of rank t inputs ∷ dims_of rank s inputs ∷ [])
+    → ((bounds : Bounds) (inputs : List Contents) → operand_dims bounds u inputs ≡ dims_of bounds t inputs ∷ dims_of bounds s inputs ∷ [])
     × ((count : ℕ) → has_inputs u count ≡ has_inputs t count && has_inputs s count)
 made-binary make t s u (Err l) h = absurd (cc)
 made-binary make t s u (Ok a) h =
-    let same : u ≡ binary (make a) t s = cc in ((λ rank inputs. rw same refl), (λ count. rw same refl))
+    let same : u ≡ binary (make a) t s = cc in ((λ bounds inputs. rw same refl), (λ count. rw same refl))
 
 -- each operation has an operand
 no_operand : (o : Operation) → 1 ≡ 1 + arity_of o → ⊥
@@ -168,13 +169,13 @@ module _ (profile : Profile) (named : Named) (n : ℕ) (few : n < most_nodes) (h
       → length list.items ≡ 2 + length forms → a ≡ get_or list.items 1 a
       → tree_at profile named n (view v)
       ≡ and_then (below (index 1) (tree_at profile named (n + 1) (view a))) (λ x.
-      made (given profile.rank named) forms 2 (items_view (drop 2 list.items)) (λ args. unary (make args) x.term) x.end)
+      made (given profile.bounds named) forms 2 (items_view (drop 2 list.items)) (λ args. unary (make args) x.term) x.end)
   tree_at-one forms make a names long first = from list.items refl long first
     where
       from : (vs : List Value) → list.items ≡ vs → length vs ≡ 2 + length forms → a ≡ get_or vs 1 a
           → tree_at profile named n (view v)
           ≡ and_then (below (index 1) (tree_at profile named (n + 1) (view a))) (λ x.
-          made (given profile.rank named) forms 2 (items_view (drop 2 vs)) (λ args. unary (make args) x.term) x.end)
+          made (given profile.bounds named) forms 2 (items_view (drop 2 vs)) (λ args. unary (make args) x.term) x.end)
       from [] same long first = absurd (omega arith)
       from (x ∷ []) same long first = absurd (omega arith)
       from (x ∷ y ∷ vs) same long first =
@@ -186,13 +187,13 @@ module _ (profile : Profile) (named : Named) (n : ℕ) (few : n < most_nodes) (h
       → length list.items ≡ 3 + length forms → a ≡ get_or list.items 1 a → b ≡ get_or list.items 2 b
       → tree_at profile named n (view v)
       ≡ and_then (below (index 1) (tree_at profile named (n + 1) (view a))) (λ x. and_then (below (index 2) (tree_at profile named x.end (view b))) (λ y.
-      made (given profile.rank named) forms 3 (items_view (drop 3 list.items)) (λ args. binary (make args) x.term y.term) y.end))
+      made (given profile.bounds named) forms 3 (items_view (drop 3 list.items)) (λ args. binary (make args) x.term y.term) y.end))
   tree_at-two forms make a b names long first second = from list.items refl long first second
     where
       from : (vs : List Value) → list.items ≡ vs → length vs ≡ 3 + length forms → a ≡ get_or vs 1 a → b ≡ get_or vs 2 b
           → tree_at profile named n (view v)
           ≡ and_then (below (index 1) (tree_at profile named (n + 1) (view a))) (λ x. and_then (below (index 2) (tree_at profile named x.end (view b))) (λ y.
-          made (given profile.rank named) forms 3 (items_view (drop 3 vs)) (λ args. binary (make args) x.term y.term) y.end))
+          made (given profile.bounds named) forms 3 (items_view (drop 3 vs)) (λ args. binary (make args) x.term y.term) y.end))
       from [] same long first second = absurd (omega arith)
       from (x ∷ []) same long first second = absurd (omega arith)
       from (x ∷ y ∷ []) same long first second = absurd (omega arith)
@@ -207,13 +208,13 @@ module _ (profile : Profile) (named : Named) (n : ℕ) (few : n < most_nodes) (h
       → length list.items ≡ 4 → a ≡ get_or list.items 1 a → b ≡ get_or list.items 2 b → c ≡ get_or list.items 3 c
       → tree_at profile named n (view v)
       ≡ and_then (below (index 1) (tree_at profile named (n + 1) (view a))) (λ x. and_then (below (index 2) (tree_at profile named x.end (view b))) (λ y.
-      and_then (below (index 3) (tree_at profile named y.end (view c))) (λ z. checked (given profile.rank named) (ternary (make tt) x.term y.term z.term) z.end)))
+      and_then (below (index 3) (tree_at profile named y.end (view c))) (λ z. checked (given profile.bounds named) (ternary (make tt) x.term y.term z.term) z.end)))
   tree_at-three make a b c names long first second third = from list.items refl long first second third
     where
       from : (vs : List Value) → list.items ≡ vs → length vs ≡ 4 → a ≡ get_or vs 1 a → b ≡ get_or vs 2 b → c ≡ get_or vs 3 c
           → tree_at profile named n (view v)
           ≡ and_then (below (index 1) (tree_at profile named (n + 1) (view a))) (λ x. and_then (below (index 2) (tree_at profile named x.end (view b))) (λ y.
-          and_then (below (index 3) (tree_at profile named y.end (view c))) (λ z. checked (given profile.rank named) (ternary (make tt) x.term y.term z.term) z.end)))
+          and_then (below (index 3) (tree_at profile named y.end (view c))) (λ z. checked (given profile.bounds named) (ternary (make tt) x.term y.term z.term) z.end)))
       from [] same long first second third = absurd (omega arith)
       from (x ∷ []) same long first second third = absurd (omega arith)
       from (x ∷ y ∷ []) same long first second third = absurd (omega arith)

@@ -12,7 +12,7 @@ HaveSameDims ts us = (n : ℕ) → (input_of ts n).dims ≡ (input_of us n).dims
 pub record IsAlike (a b : Asked) : Type 0 where
   pub workers : a.workers ≡ b.workers
   pub block : a.block ≡ b.block
-  pub rank : a.rank ≡ b.rank
+  pub bounds : a.bounds ≡ b.bounds
   pub term : a.term ≡ b.term
   pub inputs : HaveSameDims a.inputs b.inputs
 

@@ -6,6 +6,7 @@ use Rattle.std.specs.Prelude.{Result, Err, if◌then◌else◌}
 use Rattle.std.specs.Option.{option_map_or}
 use Rattle.serde_json.specs.Data.{Data, Members, no_members, member}
 use Rattle.serde_json.specs.Find.{as_object}
+use Rattle.tensor_ops.specs.Bounds.{Bounds}
 use Rattle.tensor_ops.specs.Contents.{Contents}
 use Rattle.tensor_ops.specs.Index.{size_of}
 use Rattle.expr_reader.specs.Fields.{whole_of, cons_of, list_in, fields_of}
@@ -32,28 +33,28 @@ abbrev pub with_all : List ℤ → Contents → Option Contents
 with_all array t = if length t.values == length array then Some t else None
 
 -- an object of exactly dims, with an array of as many values as the dims have places
-abbrev pub array_tensor : ℕ → List ℤ → Data → Option Contents
-array_tensor rank array d = option_and_then (with_all array) (framed_tensor rank array d)
+abbrev pub array_tensor : Bounds → List ℤ → Data → Option Contents
+array_tensor bounds array d = option_and_then (with_all array) (framed_tensor bounds array d)
 
 -- the tensor of each member, in the members' order, with an array for each and none left
-abbrev pub array_tensors : ℕ → List (List ℤ) → Members → Option (List Contents)
-array_tensors rank [] no_members = Some []
-array_tensors rank (array ∷ arrays) no_members = None
-array_tensors rank [] (member name d ms) = None
-array_tensors rank (array ∷ arrays) (member name d ms) =
-    cons_of (array_tensor rank array d) (array_tensors rank arrays ms)
+abbrev pub array_tensors : Bounds → List (List ℤ) → Members → Option (List Contents)
+array_tensors bounds [] no_members = Some []
+array_tensors bounds (array ∷ arrays) no_members = None
+array_tensors bounds [] (member name d ms) = None
+array_tensors bounds (array ∷ arrays) (member name d ms) =
+    cons_of (array_tensor bounds array d) (array_tensors bounds arrays ms)
 
 -- the place of the first member that is no tensor
-abbrev pub bad_array : ℕ → List (List ℤ) → Members → List Step
-bad_array rank arrays no_members = []
-bad_array rank [] (member name d ms) = field name ∷ []
-bad_array rank (array ∷ arrays) (member name d ms) =
-    option_map_or (λ t. bad_array rank arrays ms) (array_tensor rank array d) (field name ∷ [])
+abbrev pub bad_array : Bounds → List (List ℤ) → Members → List Step
+bad_array bounds arrays no_members = []
+bad_array bounds [] (member name d ms) = field name ∷ []
+bad_array bounds (array ∷ arrays) (member name d ms) =
+    option_map_or (λ t. bad_array bounds arrays ms) (array_tensor bounds array d) (field name ∷ [])
 
--- the inputs of a header and arrays, where ranks end there, or their fault
-abbrev pub array_inputs : List (List ℤ) → ℕ → Data → Result Named Located
-array_inputs arrays rank d =
-    or_place (bad_array rank arrays) d (named_by (array_tensors rank arrays) d)
+-- the inputs of a header and arrays, within bounds, or their fault
+abbrev pub array_inputs : List (List ℤ) → Bounds → Data → Result Named Located
+array_inputs arrays bounds d =
+    or_place (bad_array bounds arrays) d (named_by (array_tensors bounds arrays) d)
 
 -- how many places the dims have, in an object of nothing else
 abbrev pub places_in : Data → Option ℕ

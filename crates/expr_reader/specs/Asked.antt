@@ -9,6 +9,6 @@ asked_under r =
       workers = r.workers;
       block = r.block;
       inputs = r.inputs.tensors;
-      rank = r.inputs.rank;
+      bounds = r.inputs.bounds;
       term = term_of r.expr;
     }

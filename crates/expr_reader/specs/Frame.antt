@@ -6,6 +6,7 @@ use Rattle.std.specs.Prelude.{if◌then◌else◌}
 use Rattle.std.specs.Option.{option_map_or}
 use Rattle.serde_json.specs.Data.{Data, Members, no_members, member}
 use Rattle.serde_json.specs.Find.{get}
+use Rattle.tensor_ops.specs.Bounds.{Bounds}
 use Rattle.tensor_ops.specs.Index.{size_of}
 use Rattle.tensor_ops.specs.Contents.{Contents}
 use Rattle.expr_reader.specs.Fields.{has_members}
@@ -28,9 +29,9 @@ dealt values dims =
     else None
 
 -- an object of exactly dims, with the first of the values
-abbrev pub framed_tensor : ℕ → List ℤ → Data → Option Contents
-framed_tensor rank values d =
-    option_and_then (λ dims. option_and_then (dealt values) (dims_in rank dims)) (dims_alone d)
+abbrev pub framed_tensor : Bounds → List ℤ → Data → Option Contents
+framed_tensor bounds values d =
+    option_and_then (λ dims. option_and_then (dealt values) (dims_in bounds dims)) (dims_alone d)
 
 -- no tensors, where no values are left for any
 abbrev pub none_left : List ℤ → Option (List Contents)
@@ -38,25 +39,25 @@ none_left [] = Some []
 none_left (v ∷ vs) = None
 
 -- the tensor of each member, in the members' order; those behind it have the values that it leaves
-abbrev pub framed_tensors : ℕ → List ℤ → Members → Option (List Contents)
-framed_tensors rank values no_members = none_left values
-framed_tensors rank values (member name d ms) =
+abbrev pub framed_tensors : Bounds → List ℤ → Members → Option (List Contents)
+framed_tensors bounds values no_members = none_left values
+framed_tensors bounds values (member name d ms) =
     option_and_then (λ t. option_map (λ ts. t ∷ ts)
-    (framed_tensors rank (drop (length t.values) values) ms)) (framed_tensor rank values d)
+    (framed_tensors bounds (drop (length t.values) values) ms)) (framed_tensor bounds values d)
 
 -- the place of the first member that is no tensor
-abbrev pub bad_framed : ℕ → List ℤ → Members → List Step
-bad_framed rank values no_members = []
-bad_framed rank values (member name d ms) =
-    option_map_or (λ t. bad_framed rank (drop (length t.values) values) ms)
-    (framed_tensor rank values d) (field name ∷ [])
+abbrev pub bad_framed : Bounds → List ℤ → Members → List Step
+bad_framed bounds values no_members = []
+bad_framed bounds values (member name d ms) =
+    option_map_or (λ t. bad_framed bounds (drop (length t.values) values) ms)
+    (framed_tensor bounds values d) (field name ∷ [])
 
-abbrev pub framed_in : List ℤ → ℕ → Data → Option Named
-framed_in values rank d = named_by (framed_tensors rank values) d
+abbrev pub framed_in : List ℤ → Bounds → Data → Option Named
+framed_in values bounds d = named_by (framed_tensors bounds values) d
 
--- the inputs of a frame, where ranks end there, or their fault
-abbrev pub frame_inputs : List ℤ → ℕ → Data → Result Named Located
-frame_inputs values rank d = or_place (bad_framed rank values) d (framed_in values rank d)
+-- the inputs of a frame, within bounds, or their fault
+abbrev pub frame_inputs : List ℤ → Bounds → Data → Result Named Located
+frame_inputs values bounds d = or_place (bad_framed bounds values) d (framed_in values bounds d)
 
 -- the request of a frame, or its first fault
 abbrev pub request_of_frame : List ℕ → List ℤ → Result Asked Fault

@@ -13,7 +13,7 @@ most_values = 16777216
 abbrev pub most_workers : ℕ
 most_workers = 256
 
--- the greatest block
+-- the greatest block of a text
 abbrev pub greatest_block : ℕ
 greatest_block = 1048576
 

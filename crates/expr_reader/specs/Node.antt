@@ -47,7 +47,7 @@ input_at named name end =
 abbrev pub checked : Given → Term → ℕ → Result Tree Located
 checked inputs t end =
     result_map_both (λ dims. record { term = t; end = end }) (λ fault. here (text_fault fault))
-    (dims_of inputs.rank t inputs.tensors)
+    (dims_of inputs.bounds t inputs.tensors)
 
 -- what arguments of these forms make, the first of which has this index, up to this end
 abbrev pub made : Given → (fs : List Form) → ℕ → Items → (Arguments fs → Term) → ℕ
@@ -63,7 +63,7 @@ module _ (profile : Profile) (named : Named) where
   made_of fs first items make end =
       and_then (arguments_at first fs items) (λ a. result_map_both
       (λ dims. record { term = make a; end = end }) (λ fault. here (text_fault fault))
-      (dims_of profile.rank (make a) named.tensors))
+      (dims_of profile.bounds (make a) named.tensors))
 
   abbrev mutual
     -- a node behind n others: a name, or an operation by its name

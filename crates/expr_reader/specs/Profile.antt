@@ -1,19 +1,34 @@
 -- What the versions of the text allow.
 use Rattle.std.specs.Prelude.{ℕ, List, [], ◌∷◌, Option, Some, None, ◌==◌, if◌then◌else◌}
 use Rattle.std.specs.Str.{bytes_eq}
+use Rattle.tensor_ops.specs.Bounds.{Bounds}
+use Rattle.tensor_ops.specs.Legal.{text_bounds}
+use Rattle.expr_reader.specs.Limits.{greatest_block}
 use Rattle.expr_reader.specs.Table.{Operation, operations_1, operations_2}
 
--- the greatest number of workers, the highest rank, and the operations by their names
+-- the greatest number of workers and of places of a block, how large tensors get, and the
+-- operations by their names
 pub record Profile : Type 0 where
   pub workers : ℕ
-  pub rank : ℕ
+  pub block : ℕ
+  pub bounds : Bounds
   pub operations : List (List ℕ × Operation)
 
 abbrev pub version_1 : Profile
-version_1 = record { workers = 64; rank = 6; operations = operations_1 }
+version_1 = record {
+  workers = 64;
+  block = greatest_block;
+  bounds = text_bounds 6;
+  operations = operations_1;
+}
 
 abbrev pub version_2 : Profile
-version_2 = record { workers = 256; rank = 8; operations = operations_2 }
+version_2 = record {
+  workers = 256;
+  block = greatest_block;
+  bounds = text_bounds 8;
+  operations = operations_2;
+}
 
 abbrev pub profile_of : ℕ → Option Profile
 profile_of version =

@@ -2,10 +2,11 @@
 use Rattle.std.specs.Prelude.{ℕ, List, length, codes, nat_lt, Option, Result, Ok, Err, ok_or}
 use Rattle.std.specs.Prelude.{option_and_then, if◌then◌else◌}
 use Rattle.serde_json.specs.Data.{Data}
+use Rattle.tensor_ops.specs.Bounds.{Bounds}
 use Rattle.tensor_ops.specs.Contents.{Contents}
 use Rattle.tensor_ops.specs.Term.{Term}
 use Rattle.expr_reader.specs.Fields.{Fields, fields_of, reading, whole_of, within}
-use Rattle.expr_reader.specs.Limits.{most_bytes, greatest_block}
+use Rattle.expr_reader.specs.Limits.{most_bytes}
 use Rattle.expr_reader.specs.Node.{within_limit, node_at}
 use Rattle.expr_reader.specs.Place.{field, Located, here, at, below, unlocated}
 use Rattle.expr_reader.specs.Profile.{Profile, profile_of}
@@ -15,21 +16,21 @@ use Rattle.expr_reader.specs.declared.fault.Fault.{Fault}
 use Rattle.expr_reader.specs.declared.fault.Fault.TheVariants.{TooLong, NotJson, BadField}
 use Rattle.expr_reader.specs.declared.fault.Fault.TheVariants.{BadVersion, BadWorkers, BadBlock}
 
--- what a text asks for; results have at most this rank
+-- what a text asks for; results are within these bounds
 pub record Asked : Type 0 where
   pub workers : ℕ
   pub block : ℕ
   pub inputs : List Contents
-  pub rank : ℕ
+  pub bounds : Bounds
   pub term : Term
 
 -- what the version allows
 abbrev pub profile_in : Fields → Option Profile
 profile_in f = option_and_then profile_of (whole_of f.version)
 
--- what inputs are read as, where ranks end there: names and tensors, or their fault
+-- what inputs are read as, within bounds: names and tensors, or their fault
 abbrev pub Naming : Type 0
-Naming = ℕ → Data → Result Named Located
+Naming = Bounds → Data → Result Named Located
 
 module _ (named : Naming) where
   -- what fields ask for: each is looked at where those before it have no fault
@@ -38,15 +39,15 @@ module _ (named : Naming) where
       and_then (ok_or (profile_in f) (at (field (codes "version")) BadVersion)) (λ p.
       and_then (ok_or (within 1 p.workers f.workers) (at (field (codes "workers")) BadWorkers))
       (λ workers.
-      and_then (ok_or (within 1 greatest_block f.block) (at (field (codes "block")) BadBlock))
+      and_then (ok_or (within 1 p.block f.block) (at (field (codes "block")) BadBlock))
       (λ block.
-      and_then (below (field (codes "inputs")) (named p.rank f.inputs)) (λ inputs.
+      and_then (below (field (codes "inputs")) (named p.bounds f.inputs)) (λ inputs.
       and_then (below (field (codes "expr")) (within_limit 0 (node_at p inputs 0 f.expr))) (λ tree.
       Ok (record {
         workers = workers;
         block = block;
         inputs = inputs.tensors;
-        rank = p.rank;
+        bounds = p.bounds;
         term = tree.term;
       }))))))
 

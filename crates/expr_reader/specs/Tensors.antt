@@ -6,6 +6,7 @@ use Rattle.std.specs.Option.{option_map_or}
 use Rattle.std.specs.Str.{bytes_eq}
 use Rattle.serde_json.specs.Data.{Data, Members, no_members, member}
 use Rattle.serde_json.specs.Find.{as_object}
+use Rattle.tensor_ops.specs.Bounds.{Bounds}
 use Rattle.tensor_ops.specs.Index.{size_of}
 use Rattle.tensor_ops.specs.Legal.{are_legal}
 use Rattle.tensor_ops.specs.Contents.{Contents, Given}
@@ -15,8 +16,8 @@ use Rattle.expr_reader.specs.Place.{Step, field, Located}
 use Rattle.expr_reader.specs.declared.fault.Fault.TheVariants.{BadTensor}
 
 -- a list of whole numbers that are legal dims
-abbrev pub dims_in : ℕ → Data → Option (List ℕ)
-dims_in rank d = only (are_legal rank) (list_in whole_of d)
+abbrev pub dims_in : Bounds → Data → Option (List ℕ)
+dims_in bounds d = only (are_legal bounds) (list_in whole_of d)
 
 -- a list of this many whole numbers
 abbrev pub values_in : ℕ → Data → Option (List ℤ)
@@ -28,36 +29,36 @@ filled d dims =
     option_map (λ values. record { dims = dims; values = values }) (values_in (size_of dims) d)
 
 -- an object of exactly dims and data
-abbrev pub tensor_in : ℕ → Data → Option Contents
-tensor_in rank d =
+abbrev pub tensor_in : Bounds → Data → Option Contents
+tensor_in bounds d =
     if has_members 2 d then
     with_member d (codes "dims") (λ dims. with_member d (codes "data") (λ values.
-    option_and_then (filled values) (dims_in rank dims)))
+    option_and_then (filled values) (dims_in bounds dims)))
     else None
 
 -- the tensor of each member, in the members' order
-abbrev pub tensors_in : ℕ → Members → Option (List Contents)
-tensors_in rank no_members = Some []
-tensors_in rank (member name d ms) = cons_of (tensor_in rank d) (tensors_in rank ms)
+abbrev pub tensors_in : Bounds → Members → Option (List Contents)
+tensors_in bounds no_members = Some []
+tensors_in bounds (member name d ms) = cons_of (tensor_in bounds d) (tensors_in bounds ms)
 
 abbrev pub names_in : Members → List (List ℕ)
 names_in no_members = []
 names_in (member name d ms) = name ∷ names_in ms
 
 -- the place of the first member that is no tensor
-abbrev pub bad_member : ℕ → Members → List Step
-bad_member rank no_members = []
-bad_member rank (member name d ms) =
-    option_map_or (λ t. bad_member rank ms) (tensor_in rank d) (field name ∷ [])
+abbrev pub bad_member : Bounds → Members → List Step
+bad_member bounds no_members = []
+bad_member bounds (member name d ms) =
+    option_map_or (λ t. bad_member bounds ms) (tensor_in bounds d) (field name ∷ [])
 
 -- names and their tensors, each at the same number
 pub record Named : Type 0 where
   pub names : List (List ℕ)
   pub tensors : List Contents
 
--- the tensors of names, where ranks end there
-abbrev pub given : ℕ → Named → Given
-given rank named = record { tensors = named.tensors; rank = rank }
+-- the tensors of names, within bounds
+abbrev pub given : Bounds → Named → Given
+given bounds named = record { tensors = named.tensors; bounds = bounds }
 
 -- the names of an object's members, and the tensors that are read of them
 abbrev pub named_by : (Members → Option (List Contents)) → Data → Option Named
@@ -70,12 +71,12 @@ abbrev pub or_place : (Members → List Step) → Data → Option Named → Resu
 or_place place d named =
     ok_or named (record { fault = BadTensor; place = option_map_or place (as_object d) [] })
 
-abbrev pub named_in : ℕ → Data → Option Named
-named_in rank d = named_by (tensors_in rank) d
+abbrev pub named_in : Bounds → Data → Option Named
+named_in bounds d = named_by (tensors_in bounds) d
 
--- the inputs of a text, where ranks end there, or their fault
-abbrev pub inputs_in : ℕ → Data → Result Named Located
-inputs_in rank d = or_place (bad_member rank) d (named_in rank d)
+-- the inputs of a text, within bounds, or their fault
+abbrev pub inputs_in : Bounds → Data → Result Named Located
+inputs_in bounds d = or_place (bad_member bounds) d (named_in bounds d)
 
 -- the number of a name
 abbrev pub number_of : List (List ℕ) → List ℕ → Option ℕ

@@ -29,7 +29,7 @@ pub fn frames_mean_texts()
 pub fn unfilled_headers_have_faults()
     ensures { (header : Data) (values : List ℤ) → filled_text values header ≡ None
         → unlocated (data_asked (frame_inputs values) header)
-        ≡ unlocated (data_asked (λ rank inputs. Err (here Fault.BadTensor)) header) }
+        ≡ unlocated (data_asked (λ bounds inputs. Err (here Fault.BadTensor)) header) }
 {}
 
 /// Arrays that have as many values as their tensors have places ask for what the frame asks for in
@@ -47,7 +47,7 @@ pub fn other_arrays_have_faults()
     ensures { (header : Data) (arrays : List (List ℤ))
         → header_sizes header ≢ Some (map length arrays)
         → unlocated (data_asked (array_inputs arrays) header)
-        ≡ unlocated (data_asked (λ rank inputs. Err (here Fault.BadTensor)) header) }
+        ≡ unlocated (data_asked (λ bounds inputs. Err (here Fault.BadTensor)) header) }
 {}
 
 /// The values of a frame decide nothing but the values of its inputs: with others, of the same

@@ -5,6 +5,8 @@ ghost use Rattle.std.specs.Prelude.{Ok, Err, MatchResult, OnOk, IfErr, if◌then
 ghost use Rattle.std.specs.Option.{option_or};
 ghost use Rattle.std.specs.Str.{bytes_eq};
 ghost use Rattle.serde_json.specs.View.{view, members_view};
+ghost use Rattle.tensor_ops.specs.Bounds.{Bounds};
+ghost use Rattle.tensor_ops.specs.Legal.{IsPossible};
 ghost use Rattle.expr_reader.specs.private.Behind.{source_of, tensors_by, place_by, naming_by};
 ghost use Rattle.expr_reader.specs.private.Counted.{member_count};
 ghost use Rattle.expr_reader.specs.Limits.{most_bytes};
@@ -20,7 +22,7 @@ use crate::values::Values;
 use serde_json::{Map, Value};
 use std::alloc::Global;
 use std::collections::BTreeMap;
-use tensor_ops::Inputs;
+use tensor_ops::{Bounds, Inputs};
 
 /// Inputs, and the number of each by its name. A map in order, so that no choice of names makes it
 /// slow.
@@ -35,31 +37,31 @@ impl<'v, 'a> NamedInputs<'v, 'a> {
     pub(crate) fn read(
         alloc: Global,
         value: &'v Value,
-        rank: u32,
+        bounds: Bounds,
         values: Values<'a>,
         place: &mut Place<'v>,
     ) -> Result<NamedInputs<'v, 'a>, Fault>
-        requires rank { (rank ≡ 6) ⊎ (rank ≡ 8) }
+        requires bounds { IsPossible bounds }
         requires few { member_count (view value.now) ≤ most_bytes + 1 }
         ensures { MatchResult result
             (λ found. (n : Named)
-            × (naming_by (source_of values.entry) rank (view value.now) ≡ Ok n)
-            × IsNamed found rank n)
+            × (naming_by (source_of values.entry) bounds (view value.now) ≡ Ok n)
+            × IsNamed found bounds n)
             (λ fault. (fault ≡ Fault.NoMemory)
             ⊎ (below (field (codes "inputs"))
-            (naming_by (source_of values.entry) rank (view value.now))
+            (naming_by (source_of values.entry) bounds (view value.now))
             ≡ Err (record { fault = fault; place = steps_under place.new }))) }
     {
         let Some(members) = value.as_object() else {
             *place = Place::Field("inputs");
             return Err(Fault::BadTensor);
         };
-        read_members(alloc, members, rank, values, place)
+        read_members(alloc, members, bounds, values, place)
     }
 
     /// The number of a name.
     pub(crate) fn number(&self, name: &str) -> Option<u32>
-        ensures { (rank : ℕ) (n : Named) → IsNamed self.now rank n
+        ensures { (bounds : Bounds) (n : Named) → IsNamed self.now bounds n
             → result ≡ number_of n.names name.now }
     {
         self.numbers.get(name).copied()
@@ -71,27 +73,27 @@ impl<'v, 'a> NamedInputs<'v, 'a> {
 fn read_members<'v, 'a>(
     alloc: Global,
     members: &'v Map<String, Value>,
-    rank: u32,
+    bounds: Bounds,
     values: Values<'a>,
     place: &mut Place<'v>,
 ) -> Result<NamedInputs<'v, 'a>, Fault>
-    requires rank { (rank ≡ 6) ⊎ (rank ≡ 8) }
+    requires bounds { IsPossible bounds }
     requires few { length members.now.entries ≤ most_bytes + 1 }
     ensures { MatchResult result
         (λ found. (n : Named)
-        × (tensors_by (source_of values.entry) rank (members_view members.now.entries)
+        × (tensors_by (source_of values.entry) bounds (members_view members.now.entries)
         ≡ Some n.tensors)
-        × (n.names ≡ names_in (members_view members.now.entries)) × IsNamed found rank n)
+        × (n.names ≡ names_in (members_view members.now.entries)) × IsNamed found bounds n)
         (λ fault. (fault ≡ Fault.NoMemory) ⊎ ((fault ≡ Fault.BadTensor)
-        × (tensors_by (source_of values.entry) rank (members_view members.now.entries) ≡ None)
+        × (tensors_by (source_of values.entry) bounds (members_view members.now.entries) ≡ None)
         × (steps_under place.new ≡ field (codes "inputs")
-        ∷ place_by (source_of values.entry) rank (members_view members.now.entries)))) }
+        ∷ place_by (source_of values.entry) bounds (members_view members.now.entries)))) }
 {
     let mut numbers = BTreeMap::new(alloc);
     let mut tensors = Vec::new(alloc);
     let mut left = values;
     for (name, value) in members {
-        let tensor = match left.first_tensor(alloc, value, rank as usize) {
+        let tensor = match left.first_tensor(alloc, value, bounds) {
             Ok(tensor) => tensor,
             Err(fault) => {
                 *place = Place::Input(name.as_str());
@@ -109,7 +111,7 @@ fn read_members<'v, 'a>(
         *place = Place::Field("inputs");
         return Err(Fault::BadTensor);
     }
-    let inputs = Inputs::with_rank(tensors, rank);
+    let inputs = Inputs::with_bounds(tensors, bounds);
     Ok(NamedInputs { numbers, inputs })
 }
 

@@ -3,6 +3,7 @@
 ghost use Rattle.std.specs.Prelude.{◌≡◌, ◌+◌, ◌-◌, ◌<◌, ◌≤◌, ℕ, [], length, map, IsTrue, Ok};
 ghost use Rattle.std.specs.Prelude.{Result, MatchResult, IfOk, OnOk, OnErr};
 ghost use Rattle.serde_json.specs.View.{view, items_view};
+ghost use Rattle.tensor_ops.specs.Bounds.{Bounds};
 ghost use Rattle.tensor_ops.specs.Contents.{Given};
 ghost use Rattle.tensor_ops.specs.Result.{operand_dims};
 ghost use Rattle.tensor_ops.specs.Term.{has_inputs, unary, binary, ternary, select};
@@ -47,10 +48,10 @@ pub(crate) fn read_node(
     before: u64,
     way: &mut Indices,
 ) -> Result<Subtree, Fault>
-    requires named { (n : Named) × IsNamed named.now (profile_under version).rank n }
+    requires named { (n : Named) × IsNamed named.now (profile_under version).bounds n }
     requires start { way.old.items ≡ [] }
-    ensures tree { (n : Named) → IsNamed named.now (profile_under version).rank n
-        → IsFound (given (profile_under version).rank n)
+    ensures tree { (n : Named) → IsNamed named.now (profile_under version).bounds n
+        → IsFound (given (profile_under version).bounds n)
         (tree_at (profile_under version) n before (view value.now)) way.new.items result }
     ensures end { IfOk result (λ tree. before < tree.end) }
     ensures kept { OnOk result (way.new.items ≡ []) }
@@ -115,9 +116,9 @@ fn behind(position: u8, found: Result<Subtree, Fault>, way: &mut Indices) -> Res
 
 /// The input of a name, which is a node up to this end.
 fn read_name(named: &NamedInputs<'_, '_>, name: &str, end: u64) -> Result<Subtree, Fault>
-    requires { (rank : ℕ) × (n : Named) × IsNamed named.now rank n }
-    ensures tree { (rank : ℕ) (n : Named) → IsNamed named.now rank n
-        → IsFound (given rank n) (input_at n name.now end) [] result }
+    requires { (bounds : Bounds) × (n : Named) × IsNamed named.now bounds n }
+    ensures tree { (bounds : Bounds) (n : Named) → IsNamed named.now bounds n
+        → IsFound (given bounds n) (input_at n name.now end) [] result }
     ensures end { IfOk result (λ tree. tree.end ≡ end) }
 {
     let Some(number) = named.number(name) else {
@@ -242,11 +243,11 @@ fn boxed(alloc: Global, expr: Expr) -> Result<Box<Expr>, Fault>
 /// An operation on operands of these dims, which ends there, where its own checks have no fault.
 fn checked(inputs: &Inputs, expr: Expr, operands: &[Dims], end: u64) -> Result<Subtree, Fault>
     requires inputs { IsTrue (has_inputs (term_of expr) (length inputs.now.tensors)) }
-    requires operands { operand_dims inputs.now.rank (term_of expr) inputs.now.tensors
+    requires operands { operand_dims inputs.now.bounds (term_of expr) inputs.now.tensors
         ≡ map Ok operands.now }
     ensures tree { IsFound inputs.now (checked inputs.now (term_of expr) end) [] result }
     ensures end { IfOk result (λ tree. tree.end ≡ end) }
 {
-    let dims = expr.dims_over(inputs.rank_limit() as usize, inputs, operands)?;
+    let dims = expr.dims_over(inputs.bounds(), inputs, operands)?;
     Ok(Subtree { expr, dims, end })
 }

@@ -25,14 +25,14 @@ pub struct Parsed {
 pub struct Request<'a> {
     /// How many workers take part, from 1 to 256.
     pub workers: u32,
-    /// How many places are worked on at a time, from 1 to 1,048,576.
+    /// How many places are worked on at a time, from 1 to the greatest block of its version.
     pub block: u64,
     /// The tensors, in the order of their names.
     pub inputs: Inputs<'a>,
     /// The expression, which has result dims.
     pub expr: Expr,
     pub ghost has_inputs: { IsTrue (has_inputs (term_of expr) (length inputs.tensors)) },
-    pub ghost has_dims: { IsOk (dims_of inputs.rank (term_of expr) inputs.tensors) },
+    pub ghost has_dims: { IsOk (dims_of inputs.bounds (term_of expr) inputs.tensors) },
     pub ghost some_workers: { 1 ≤ workers },
     pub ghost few_workers: { workers ≤ most_workers },
     pub ghost some_block: { 1 ≤ block },

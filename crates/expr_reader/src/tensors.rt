@@ -2,7 +2,7 @@
 
 ghost use Rattle.std.specs.Prelude.{◌≡◌, ◌≤◌, length, IfOk, IfSome};
 ghost use Rattle.serde_json.specs.View.{view};
-ghost use Rattle.tensor_ops.specs.Legal.{highest_rank};
+ghost use Rattle.tensor_ops.specs.Legal.{IsPossible, IsWithin};
 ghost use Rattle.expr_reader.specs.Arrays.{array_tensor};
 ghost use Rattle.expr_reader.specs.Frame.{framed_tensor};
 ghost use Rattle.expr_reader.specs.private.Outcome.{IsReadOr};
@@ -14,24 +14,24 @@ use crate::items::read_list;
 use arrayvec::ArrayVec;
 use serde_json::Value;
 use std::alloc::Global;
-use tensor_ops::{Dims, MAX_RANK, Tensor};
+use tensor_ops::{Bounds, Dims, MAX_RANK, Tensor};
 
 /// A tensor: an object of exactly `dims` and `data`.
 pub(crate) fn read_tensor(
     alloc: Global,
     value: &Value,
-    rank: usize,
+    bounds: Bounds,
 ) -> Result<Tensor<'static>, Fault>
-    requires { rank ≤ highest_rank }
-    ensures tensor { IsReadOr Fault.BadTensor (λ t. t) (tensor_in rank (view value.now)) result }
-    ensures rank { IfOk result (λ t. length t.dims ≤ rank) }
+    requires { IsPossible bounds }
+    ensures tensor { IsReadOr Fault.BadTensor (λ t. t) (tensor_in bounds (view value.now)) result }
+    ensures bounds { IfOk result (λ t. IsWithin bounds t.dims) }
 {
     if !has_members(value, 2) {
         return Err(Fault::BadTensor);
     }
     let dims = value.get("dims").ok_or(Fault::BadTensor)?;
     let values = value.get("data").ok_or(Fault::BadTensor)?;
-    let dims = read_dims(dims, rank).ok_or(Fault::BadTensor)?;
+    let dims = read_dims(dims, bounds).ok_or(Fault::BadTensor)?;
     let values = read_values(alloc, values, dims.size())?;
     Ok(Tensor::new(dims, values))
 }
@@ -39,20 +39,20 @@ pub(crate) fn read_tensor(
 /// A tensor of a frame: an object of exactly `dims`, to which the first of these values are lent.
 pub(crate) fn read_framed_tensor<'a>(
     value: &Value,
-    rank: usize,
+    bounds: Bounds,
     values: &'a [i64],
 ) -> Result<Tensor<'a>, Fault>
-    requires { rank ≤ highest_rank }
+    requires { IsPossible bounds }
     ensures tensor { IsReadOr Fault.BadTensor (λ t. t)
-        (framed_tensor rank values.now (view value.now)) result }
-    ensures rank { IfOk result (λ t. length t.dims ≤ rank) }
+        (framed_tensor bounds values.now (view value.now)) result }
+    ensures bounds { IfOk result (λ t. IsWithin bounds t.dims) }
     ensures few { IfOk result (λ t. length t.values ≤ length values.now) }
 {
     if !has_members(value, 1) {
         return Err(Fault::BadTensor);
     }
     let dims = value.get("dims").ok_or(Fault::BadTensor)?;
-    let dims = read_dims(dims, rank).ok_or(Fault::BadTensor)?;
+    let dims = read_dims(dims, bounds).ok_or(Fault::BadTensor)?;
     let size = dims.size() as usize;
     if values.len() < size {
         return Err(Fault::BadTensor);
@@ -64,15 +64,15 @@ pub(crate) fn read_framed_tensor<'a>(
 /// them are lent.
 pub(crate) fn read_array_tensor<'a>(
     value: &Value,
-    rank: usize,
+    bounds: Bounds,
     values: &'a [i64],
 ) -> Result<Tensor<'a>, Fault>
-    requires { rank ≤ highest_rank }
+    requires { IsPossible bounds }
     ensures tensor { IsReadOr Fault.BadTensor (λ t. t)
-        (array_tensor rank values.now (view value.now)) result }
-    ensures rank { IfOk result (λ t. length t.dims ≤ rank) }
+        (array_tensor bounds values.now (view value.now)) result }
+    ensures bounds { IfOk result (λ t. IsWithin bounds t.dims) }
 {
-    let tensor = read_framed_tensor(value, rank, values)?;
+    let tensor = read_framed_tensor(value, bounds, values)?;
     if tensor.values().len() == values.len() {
         Ok(tensor)
     } else {
@@ -80,21 +80,21 @@ pub(crate) fn read_array_tensor<'a>(
     }
 }
 
-/// Legal dims of at most this rank. Takes no memory, however long the list is.
-fn read_dims(value: &Value, rank: usize) -> Option<Dims>
-    requires { rank ≤ highest_rank }
-    ensures dims { result ≡ dims_in rank (view value.now) }
-    ensures rank { IfSome result (λ dims. length dims ≤ rank) }
+/// Dims within these bounds. Takes no memory, however long the list is.
+fn read_dims(value: &Value, bounds: Bounds) -> Option<Dims>
+    requires { IsPossible bounds }
+    ensures dims { result ≡ dims_in bounds (view value.now) }
+    ensures bounds { IfSome result (λ dims. IsWithin bounds dims) }
 {
     let list = value.as_array()?;
-    if list.len() > rank {
+    if list.len() > bounds.rank {
         return None;
     }
     let mut sizes: ArrayVec<u64, MAX_RANK> = ArrayVec::new();
     for size in list {
         sizes.push(size.as_u64()?);
     }
-    Dims::new(sizes.as_slice()).ok()
+    Dims::within(bounds, sizes.as_slice()).ok()
 }
 
 /// A list of this many whole numbers of the `i64` range.

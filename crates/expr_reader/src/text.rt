@@ -30,7 +30,7 @@ use crate::place::{Indices, Located, Place};
 use crate::request::{Parsed, Request};
 use crate::values::Values;
 use crate::version::Version;
-use crate::{MAX_BLOCK, MAX_TEXT, MAX_VALUES};
+use crate::{MAX_TEXT, MAX_VALUES};
 use serde_json::Value;
 use std::alloc::Global;
 
@@ -203,11 +203,11 @@ fn read_fields<'v, 'a>(
         *place = Place::Field("workers");
         return Err(Fault::BadWorkers);
     };
-    let Some(block) = within(fields.block, 1, MAX_BLOCK) else {
+    let Some(block) = within(fields.block, 1, version.block()) else {
         *place = Place::Field("block");
         return Err(Fault::BadBlock);
     };
-    let named = NamedInputs::read(alloc, fields.inputs, version.rank(), values, place)?;
+    let named = NamedInputs::read(alloc, fields.inputs, version.bounds(), values, place)?;
     let tree = read_tree(alloc, version, &named, fields.expr, place)?;
     Ok(Request {
         workers: workers as u32,
@@ -225,11 +225,11 @@ fn read_tree(
     expr: &Value,
     place: &mut Place<'_>,
 ) -> Result<Subtree, Fault>
-    requires { (n : Named) × IsNamed named.now (profile_under version).rank n }
-    ensures { (n : Named) → IsNamed named.now (profile_under version).rank n
+    requires { (n : Named) × IsNamed named.now (profile_under version).bounds n }
+    ensures { (n : Named) → IsNamed named.now (profile_under version).bounds n
         → MatchResult result
         (λ tree. (tree_at (profile_under version) n 0 (view expr.now) ≡ Ok (tree_under tree))
-        × IsShaped (given (profile_under version).rank n) tree)
+        × IsShaped (given (profile_under version).bounds n) tree)
         (λ fault. (fault ≡ Fault.NoMemory)
         ⊎ (below (field (codes "expr")) (tree_at (profile_under version) n 0 (view expr.now))
         ≡ Err (record { fault = fault; place = steps_under place.new }))) }

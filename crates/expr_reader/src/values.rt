@@ -2,7 +2,7 @@
 
 ghost use Rattle.std.specs.Prelude.{◌≡◌, ◌≤◌, length, IfOk};
 ghost use Rattle.serde_json.specs.View.{view};
-ghost use Rattle.tensor_ops.specs.Legal.{highest_rank};
+ghost use Rattle.tensor_ops.specs.Legal.{IsPossible, IsWithin};
 ghost use Rattle.expr_reader.specs.private.Outcome.{IsReadOr};
 
 use crate::array::Array;
@@ -10,7 +10,7 @@ use crate::fault::Fault;
 use crate::tensors::{read_array_tensor, read_framed_tensor, read_tensor};
 use serde_json::Value;
 use std::alloc::Global;
-use tensor_ops::Tensor;
+use tensor_ops::{Bounds, Tensor};
 
 /// The values of each tensor stand in its `data`, or those of all of them behind the text, or each
 /// tensor's in an array of its own.
@@ -29,19 +29,19 @@ impl<'a> Values<'a> {
         self,
         alloc: Global,
         value: &Value,
-        rank: usize,
+        bounds: Bounds,
     ) -> Result<Tensor<'a>, Fault>
-        requires { rank ≤ highest_rank }
+        requires { IsPossible bounds }
         ensures tensor { IsReadOr Fault.BadTensor (λ t. t)
-            (tensor_by (source_of self.entry) rank (view value.now)) result }
-        ensures rank { IfOk result (λ t. length t.dims ≤ rank) }
+            (tensor_by (source_of self.entry) bounds (view value.now)) result }
+        ensures bounds { IfOk result (λ t. IsWithin bounds t.dims) }
         ensures first { IfOk result (λ t. HasFirst (source_of self.entry) t) }
     {
         match self {
-            Values::InText => read_tensor(alloc, value, rank),
-            Values::Behind(values) => read_framed_tensor(value, rank, values),
+            Values::InText => read_tensor(alloc, value, bounds),
+            Values::Behind(values) => read_framed_tensor(value, bounds, values),
             Values::Apart(arrays) => match arrays.first() {
-                Some(first) => read_array_tensor(value, rank, first.values),
+                Some(first) => read_array_tensor(value, bounds, first.values),
                 None => Err(Fault::BadTensor),
             },
         }

@@ -1,13 +1,15 @@
 //! The versions of the text and what each allows.
 
-ghost use Rattle.std.specs.Prelude.{◌≡◌, ◌⊎◌, option_map};
+ghost use Rattle.std.specs.Prelude.{◌≡◌, option_map};
+ghost use Rattle.tensor_ops.specs.Legal.{IsPossible};
 ghost use Rattle.expr_reader.specs.Profile.{operation_named};
 ghost use Rattle.expr_reader.specs.Table.{operations_on_values, movements, operations_along_axes};
 ghost use Rattle.expr_reader.specs.Table.{operations_1, operations_added};
 ghost use Rattle.expr_reader.specs.private.Version.{operation_under};
 
+use crate::MAX_BLOCK;
 use crate::operation::{Binary, Operation, Unary};
-use tensor_ops::{BinaryScalar, Reducer, UnaryScalar};
+use tensor_ops::{BinaryScalar, Bounds, Reducer, UnaryScalar};
 
 /// A version of the text.
 #[derive(Clone, Copy, Debug, Eq, PartialEq)]
@@ -41,14 +43,23 @@ impl Version {
         }
     }
 
-    /// The highest rank of an input, and of a result.
-    pub(crate) fn rank(self) -> u32
-        ensures value { result ≡ (profile_under self).rank }
-        ensures limit { (result ≡ 6) ⊎ (result ≡ 8) }
+    /// The greatest block.
+    pub(crate) fn block(self) -> u64
+        ensures { result ≡ (profile_under self).block }
     {
         match self {
-            Version::One => 6,
-            Version::Two => 8,
+            Version::One | Version::Two => MAX_BLOCK,
+        }
+    }
+
+    /// How large an input may get, and a result.
+    pub(crate) fn bounds(self) -> Bounds
+        ensures value { result ≡ (profile_under self).bounds }
+        ensures limit { IsPossible result }
+    {
+        match self {
+            Version::One => Bounds::of_text(6),
+            Version::Two => Bounds::of_text(8),
         }
     }
 

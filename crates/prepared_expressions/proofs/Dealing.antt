@@ -1,14 +1,15 @@
 -- Arrays dealt to inputs, one after another.
 use Rattle.std.proofs.Common.{◌≡◌, ◌<◌, ◌≤◌, ◌≢◌, ◌&&◌, ◌==◌, ℕ, zero, suc, ℤ, Bool, true, false, List, [], ◌∷◌, ◌++◌, length, take, drop, nat_le}
-use Rattle.std.proofs.Common.{Result, Ok, Err, if◌then◌else◌, refl, ap, sym, ◌∙◌, subst, arith, append_assoc}
+use Rattle.std.proofs.Common.{Result, Ok, Err, if◌then◌else◌, refl, ap, sym, ◌∙◌, subst, inl, inr, ⊥, arith, append_assoc}
 use Rattle.std.proofs.lemmas.Bool.{and_parts, and_from, le-leb, leb-true}
 use Rattle.std.proofs.lemmas.List.{take-append-drop, length-append, length-take}
 use Rattle.std.proofs.Math.Seq.{take-append_seam, drop-append_seam}
 use Rattle.tensor_shape.specs.Index.{size_of}
-use Rattle.tensor_shape.specs.Legal.{are_legal, bulk_of, most_elements}
-use Rattle.tensor_terms.specs.Contents.{Contents, HaveRank, input_of}
+use Rattle.tensor_shape.specs.Legal.{are_legal, bulk_of, IsWithin}
+use Rattle.tensor_shape.specs.declared.bounds.Bounds.{Bounds}
+use Rattle.tensor_terms.specs.Contents.{Contents, AreWithin, input_of}
 use Rattle.prepared_expressions.specs.private.Dealing.{Dealing, One, one_from, after, next_from, all_from}
-use Rattle.prepared_expressions.specs.Prepared.{recorded_dims, all_legal, dims_of_all, values_of_all, before, dealt, Prepared, IsPrepared, record_of}
+use Rattle.prepared_expressions.specs.Prepared.{recorded_dims, all_legal, dims_of_all, values_of_all, before, dealt, Prepared, IsPrepared, IsRecordable, form_of, record_of}
 use Rattle.tensor_terms.specs.Term.{Term}
 use Rattle.prepared_expressions.specs.Recorded.{recorded}
 use Rattle.expr_reader.specs.Arrays.{arrays_under}
@@ -25,68 +26,68 @@ after-after xs ys (Ok d) = simp append_assoc
 after-after xs ys (Err f) = refl
 
 -- what was read of a tensor's dims is recorded, and is legal
-pub record IsOne (rank : ℕ) (vs : List ℤ) (ns : List ℕ) (one : One) : Type 0 where
+pub record IsOne (bounds : Bounds) (vs : List ℤ) (ns : List ℕ) (one : One) : Type 0 where
   pub numbers : ns ≡ length one.tensor.dims ∷ one.tensor.dims ++ one.rest
   pub values : one.tensor.values ≡ vs
-  pub legal : are_legal rank one.tensor.dims ≡ true
+  pub legal : are_legal bounds one.tensor.dims ≡ true
 
-one_from-back : (rank : ℕ) (vs : List ℤ) (ns : List ℕ) (one : One) → one_from rank vs ns ≡ Ok one → IsOne rank vs ns one
-one_from-back rank vs [] one is = absurd (cc)
-one_from-back rank vs (n ∷ ns) one is =
-    by_test (nat_le n (length ns) && are_legal rank (take n ns)) (length vs == size_of (take n ns)) refl is
+one_from-back : (bounds : Bounds) (vs : List ℤ) (ns : List ℕ) (one : One) → one_from bounds vs ns ≡ Ok one → IsOne bounds vs ns one
+one_from-back bounds vs [] one is = absurd (cc)
+one_from-back bounds vs (n ∷ ns) one is =
+    by_test (nat_le n (length ns) && are_legal bounds (take n ns)) (length vs == size_of (take n ns)) refl is
   where
-    by_test : (b c : Bool) → (nat_le n (length ns) && are_legal rank (take n ns)) ≡ b
+    by_test : (b c : Bool) → (nat_le n (length ns) && are_legal bounds (take n ns)) ≡ b
         → (if b then (if c
         then Ok (record { tensor = record { dims = take n ns; values = vs }; rest = drop n ns }) else Err OtherArrays) else Err NoRecord) ≡ Ok one
-        → IsOne rank vs (n ∷ ns) one
+        → IsOne bounds vs (n ∷ ns) one
     by_test false c test is = absurd (cc)
     by_test true false test is = absurd (cc)
     by_test true true test is =
-        let both = and_parts (nat_le n (length ns)) (are_legal rank (take n ns)) test in
+        let both = and_parts (nat_le n (length ns)) (are_legal bounds (take n ns)) test in
         let few : n ≤ length ns = leb-true n (length ns) both.0 in
         let long : length (take n ns) ≡ n = omega (arith, length-take n ns) in
         let made : One = record { tensor = record { dims = take n ns; values = vs }; rest = drop n ns } in
         let same : made ≡ one = cc in
-        subst (IsOne rank vs (n ∷ ns)) same
+        subst (IsOne bounds vs (n ∷ ns)) same
         (record { numbers = rw (long, take-append-drop n ns) refl; values = refl; legal = both.1 })
 
 -- the same of all tensors
-pub record IsAll (rank : ℕ) (arrays : List (List ℤ)) (ns : List ℕ) (d : Dealing) : Type 0 where
+pub record IsAll (bounds : Bounds) (arrays : List (List ℤ)) (ns : List ℕ) (d : Dealing) : Type 0 where
   pub numbers : ns ≡ recorded_dims (dims_of_all d.tensors) d.rest
   pub values : values_of_all d.tensors ≡ arrays
-  pub legal : all_legal rank (dims_of_all d.tensors) ≡ true
+  pub legal : all_legal bounds (dims_of_all d.tensors) ≡ true
 
-pub all_from-back : (rank : ℕ) (arrays : List (List ℤ)) (ns : List ℕ) (d : Dealing) → all_from rank arrays ns ≡ Ok d → IsAll rank arrays ns d
-all_from-back rank [] ns d is =
+pub all_from-back : (bounds : Bounds) (arrays : List (List ℤ)) (ns : List ℕ) (d : Dealing) → all_from bounds arrays ns ≡ Ok d → IsAll bounds arrays ns d
+all_from-back bounds [] ns d is =
     let made : Dealing = record { tensors = []; rest = ns } in
-    let same : made ≡ d = cc in subst (IsAll rank [] ns) same (record { numbers = refl; values = refl; legal = refl })
-all_from-back rank (vs ∷ arrays) ns d is = by_one (λ ms e found. all_from-back rank arrays ms e found) (one_from rank vs ns) refl is
+    let same : made ≡ d = cc in subst (IsAll bounds [] ns) same (record { numbers = refl; values = refl; legal = refl })
+all_from-back bounds (vs ∷ arrays) ns d is = by_one (λ ms e found. all_from-back bounds arrays ms e found) (one_from bounds vs ns) refl is
   where
-    by_rest : ((ms : List ℕ) (e : Dealing) → all_from rank arrays ms ≡ Ok e → IsAll rank arrays ms e)
-        → (one : One) → IsOne rank vs ns one → (r : Result Dealing Refusal) → all_from rank arrays one.rest ≡ r
-        → after (one.tensor ∷ []) r ≡ Ok d → IsAll rank (vs ∷ arrays) ns d
+    by_rest : ((ms : List ℕ) (e : Dealing) → all_from bounds arrays ms ≡ Ok e → IsAll bounds arrays ms e)
+        → (one : One) → IsOne bounds vs ns one → (r : Result Dealing Refusal) → all_from bounds arrays one.rest ≡ r
+        → after (one.tensor ∷ []) r ≡ Ok d → IsAll bounds (vs ∷ arrays) ns d
     by_rest back one first (Err f) others is = absurd (cc)
     by_rest back one first (Ok e) others is =
         let more = back one.rest e others in
         let made : Dealing = record { tensors = one.tensor ∷ e.tensors; rest = e.rest } in
         let same : made ≡ d = cc in
-        subst (IsAll rank (vs ∷ arrays) ns) same
+        subst (IsAll bounds (vs ∷ arrays) ns) same
         (record {
           numbers = first.numbers ∙ ap (λ l. (length one.tensor.dims ∷ one.tensor.dims) ++ l) more.numbers;
           values = ap (λ v. v ∷ values_of_all e.tensors) first.values ∙ ap (λ l. vs ∷ l) more.values;
-          legal = and_from (are_legal rank one.tensor.dims) (all_legal rank (dims_of_all e.tensors)) first.legal more.legal;
+          legal = and_from (are_legal bounds one.tensor.dims) (all_legal bounds (dims_of_all e.tensors)) first.legal more.legal;
         })
 
-    by_one : ((ms : List ℕ) (e : Dealing) → all_from rank arrays ms ≡ Ok e → IsAll rank arrays ms e)
-        → (r : Result One Refusal) → one_from rank vs ns ≡ r → next_from (all_from rank arrays) r ≡ Ok d → IsAll rank (vs ∷ arrays) ns d
+    by_one : ((ms : List ℕ) (e : Dealing) → all_from bounds arrays ms ≡ Ok e → IsAll bounds arrays ms e)
+        → (r : Result One Refusal) → one_from bounds vs ns ≡ r → next_from (all_from bounds arrays) r ≡ Ok d → IsAll bounds (vs ∷ arrays) ns d
     by_one back (Err f) first is = absurd (cc)
-    by_one back (Ok one) first is = by_rest back one (one_from-back rank vs ns one first) (all_from rank arrays one.rest) refl is
+    by_one back (Ok one) first is = by_rest back one (one_from-back bounds vs ns one first) (all_from bounds arrays one.rest) refl is
 
 -- what is recorded is read again
-one_from-recorded : (rank : ℕ) (vs : List ℤ) (d rest : List ℕ) → are_legal rank d ≡ true
-    → one_from rank vs (length d ∷ d ++ rest)
+one_from-recorded : (bounds : Bounds) (vs : List ℤ) (d rest : List ℕ) → are_legal bounds d ≡ true
+    → one_from bounds vs (length d ∷ d ++ rest)
     ≡ (if length vs == size_of d then Ok (record { tensor = record { dims = d; values = vs }; rest = rest }) else Err OtherArrays)
-one_from-recorded rank vs d rest legal =
+one_from-recorded bounds vs d rest legal =
     let within : nat_le (length d) (length (d ++ rest)) ≡ true = le-leb (length d) (length (d ++ rest)) (omega (arith, length-append d rest)) in
     rw (within, take-append_seam d rest, drop-append_seam d rest, legal) refl
 
@@ -95,25 +96,25 @@ abbrev pub told : List ℕ → Result (List Contents) Refusal → Result Dealing
 told rest (Ok ts) = Ok (record { tensors = ts; rest = rest })
 told rest (Err f) = Err f
 
-pub all_from-recorded : (rank : ℕ) (arrays : List (List ℤ)) (ds : List (List ℕ)) (rest : List ℕ)
-    → length ds ≡ length arrays → all_legal rank ds ≡ true
-    → all_from rank arrays (recorded_dims ds rest) ≡ told rest (dealt ds arrays)
-all_from-recorded rank [] [] rest same legal = refl
-all_from-recorded rank [] (d ∷ ds) rest same legal = absurd (omega arith)
-all_from-recorded rank (vs ∷ arrays) [] rest same legal = absurd (omega arith)
-all_from-recorded rank (vs ∷ arrays) (d ∷ ds) rest same legal =
-    let parts = and_parts (are_legal rank d) (all_legal rank ds) legal in
-    ap (next_from (all_from rank arrays)) (one_from-recorded rank vs d (recorded_dims ds rest) parts.0)
-    ∙ by_size (length vs == size_of d) (by_dealt (dealt ds arrays) (all_from-recorded rank arrays ds rest (omega arith) parts.1))
+pub all_from-recorded : (bounds : Bounds) (arrays : List (List ℤ)) (ds : List (List ℕ)) (rest : List ℕ)
+    → length ds ≡ length arrays → all_legal bounds ds ≡ true
+    → all_from bounds arrays (recorded_dims ds rest) ≡ told rest (dealt ds arrays)
+all_from-recorded bounds [] [] rest same legal = refl
+all_from-recorded bounds [] (d ∷ ds) rest same legal = absurd (omega arith)
+all_from-recorded bounds (vs ∷ arrays) [] rest same legal = absurd (omega arith)
+all_from-recorded bounds (vs ∷ arrays) (d ∷ ds) rest same legal =
+    let parts = and_parts (are_legal bounds d) (all_legal bounds ds) legal in
+    ap (next_from (all_from bounds arrays)) (one_from-recorded bounds vs d (recorded_dims ds rest) parts.0)
+    ∙ by_size (length vs == size_of d) (by_dealt (dealt ds arrays) (all_from-recorded bounds arrays ds rest (omega arith) parts.1))
   where
-    by_dealt : (r : Result (List Contents) Refusal) → all_from rank arrays (recorded_dims ds rest) ≡ told rest r
-        → after (record { dims = d; values = vs } ∷ []) (all_from rank arrays (recorded_dims ds rest)) ≡ told rest (before (record { dims = d; values = vs }) r)
+    by_dealt : (r : Result (List Contents) Refusal) → all_from bounds arrays (recorded_dims ds rest) ≡ told rest r
+        → after (record { dims = d; values = vs } ∷ []) (all_from bounds arrays (recorded_dims ds rest)) ≡ told rest (before (record { dims = d; values = vs }) r)
     by_dealt (Ok ts) is = rw is refl
     by_dealt (Err f) is = rw is refl
 
     by_size : (b : Bool)
-        → after (record { dims = d; values = vs } ∷ []) (all_from rank arrays (recorded_dims ds rest)) ≡ told rest (before (record { dims = d; values = vs }) (dealt ds arrays))
-        → next_from (all_from rank arrays) (if b then Ok (record { tensor = record { dims = d; values = vs }; rest = recorded_dims ds rest }) else Err OtherArrays)
+        → after (record { dims = d; values = vs } ∷ []) (all_from bounds arrays (recorded_dims ds rest)) ≡ told rest (before (record { dims = d; values = vs }) (dealt ds arrays))
+        → next_from (all_from bounds arrays) (if b then Ok (record { tensor = record { dims = d; values = vs }; rest = recorded_dims ds rest }) else Err OtherArrays)
         ≡ told rest (if b then before (record { dims = d; values = vs }) (dealt ds arrays) else Err OtherArrays)
     by_size true more = more
     by_size false more = refl
@@ -131,16 +132,19 @@ dealt-other (d ∷ ds) (vs ∷ arrays) other =
     by_size true rest = rw rest refl
     by_size false rest = refl
 
--- legal dims have no higher rank
-pub all_legal-rank : (rank : ℕ) (ts : List Contents) → all_legal rank (dims_of_all ts) ≡ true → HaveRank rank ts
-all_legal-rank rank [] legal n within = absurd (omega arith)
-all_legal-rank rank (t ∷ ts) legal zero within =
-    let parts = and_parts (are_legal rank t.dims) (all_legal rank (dims_of_all ts)) legal in
-    let both = and_parts (nat_le (length t.dims) rank) (nat_le (bulk_of t.dims) most_elements) parts.0 in
-    leb-true (length t.dims) rank both.0
-all_legal-rank rank (t ∷ ts) legal (suc n) within =
-    let parts = and_parts (are_legal rank t.dims) (all_legal rank (dims_of_all ts)) legal in
-    all_legal-rank rank ts parts.1 n (omega arith)
+-- legal dims are within the bounds
+pub all_legal-within : (bounds : Bounds) (ts : List Contents) → all_legal bounds (dims_of_all ts) ≡ true → AreWithin bounds ts
+all_legal-within bounds [] legal n within = absurd (omega arith)
+all_legal-within bounds (t ∷ ts) legal zero within =
+    let parts = and_parts (are_legal bounds t.dims) (all_legal bounds (dims_of_all ts)) legal in
+    let both = and_parts (nat_le (length t.dims) bounds.rank) (nat_le (bulk_of t.dims) bounds.elements) parts.0 in
+    record {
+      rank = leb-true (length t.dims) bounds.rank both.0;
+      elements = leb-true (bulk_of t.dims) bounds.elements both.1;
+    }
+all_legal-within bounds (t ∷ ts) legal (suc n) within =
+    let parts = and_parts (are_legal bounds t.dims) (all_legal bounds (dims_of_all ts)) legal in
+    all_legal-within bounds ts parts.1 n (omega arith)
 
 pub length-dims_of_all : (ts : List Contents) → length (dims_of_all ts) ≡ length ts
 length-dims_of_all [] = refl
@@ -163,18 +167,19 @@ recorded_dims-take (t ∷ ts) zero rest within = refl
 recorded_dims-take (t ∷ ts) (suc i) rest within =
     ap (λ l. length t.dims ∷ t.dims ++ l) (recorded_dims-take ts i rest (omega arith))
 
-pub all_legal-take : (rank : ℕ) (ts : List Contents) (i : ℕ) → i < length ts → all_legal rank (dims_of_all (take i ts)) ≡ true
-    → are_legal rank (input_of ts i).dims ≡ true → all_legal rank (dims_of_all (take (suc i) ts)) ≡ true
-all_legal-take rank [] i within before here = absurd (omega arith)
-all_legal-take rank (t ∷ ts) zero within before here = and_from (are_legal rank t.dims) true here refl
-all_legal-take rank (t ∷ ts) (suc i) within before here =
-    let parts = and_parts (are_legal rank t.dims) (all_legal rank (dims_of_all (take i ts))) before in
-    and_from (are_legal rank t.dims) (all_legal rank (dims_of_all (take (suc i) ts))) parts.0
-    (all_legal-take rank ts i (omega arith) parts.1 here)
+pub all_legal-take : (bounds : Bounds) (ts : List Contents) (i : ℕ) → i < length ts → all_legal bounds (dims_of_all (take i ts)) ≡ true
+    → are_legal bounds (input_of ts i).dims ≡ true → all_legal bounds (dims_of_all (take (suc i) ts)) ≡ true
+all_legal-take bounds [] i within before here = absurd (omega arith)
+all_legal-take bounds (t ∷ ts) zero within before here = and_from (are_legal bounds t.dims) true here refl
+all_legal-take bounds (t ∷ ts) (suc i) within before here =
+    let parts = and_parts (are_legal bounds t.dims) (all_legal bounds (dims_of_all (take i ts))) before in
+    and_from (are_legal bounds t.dims) (all_legal bounds (dims_of_all (take (suc i) ts))) parts.0
+    (all_legal-take bounds ts i (omega arith) parts.1 here)
 
-pub are_legal-from : (rank : ℕ) (d : List ℕ) → length d ≤ rank → bulk_of d ≤ most_elements → are_legal rank d ≡ true
-are_legal-from rank d low few =
-    and_from (nat_le (length d) rank) (nat_le (bulk_of d) most_elements) (le-leb (length d) rank low) (le-leb (bulk_of d) most_elements few)
+pub are_legal-from : (bounds : Bounds) (d : List ℕ) → IsWithin bounds d → are_legal bounds d ≡ true
+are_legal-from bounds d within =
+    and_from (nat_le (length d) bounds.rank) (nat_le (bulk_of d) bounds.elements)
+    (le-leb (length d) bounds.rank within.rank) (le-leb (bulk_of d) bounds.elements within.elements)
 
 -- what was told of tensors that were dealt, or were not
 pub told-ok : (rest : List ℕ) (r : Result (List Contents) Refusal) (d : Dealing) → told rest r ≡ Ok d → (r ≡ Ok d.tensors) × (d.rest ≡ rest)
@@ -191,31 +196,54 @@ told-err rest (Ok ts) f is = absurd (cc)
 pub written-list : (new old list rest : List ℕ) → new ++ rest ≡ (old ++ list) ++ rest → new ++ rest ≡ old ++ (list ++ rest)
 written-list new old list rest is = rw append_assoc at is
 
--- what the beginning of a record says
-pub record Begun (q : Prepared) (arrays : List (List ℤ)) (r n : ℕ) (rest : List ℕ) : Type 0 where
-  pub rank : r ≡ q.rank
-  pub count : n ≡ length q.dims
-  pub dealing : n ≡ length arrays → all_from r arrays rest ≡ told (recorded q.term []) (dealt q.dims arrays)
+-- bounds that a record can say are told apart by it
+same_elements : (b c : Bounds) → IsRecordable b → IsRecordable c → form_of b.elements ≡ form_of c.elements
+    → b.elements ≡ c.elements
+same_elements b c first second same =
+    elim first.elements [
+      | inl text ↦ elim second.elements [
+        | inl both ↦ text ∙ sym both
+        | inr other ↦ absurd (one-two (ap form_of (sym text) ∙ same ∙ ap form_of other))
+      ]
+      | inr wide ↦ elim second.elements [
+        | inl other ↦ absurd (one-two (sym (ap form_of (sym wide) ∙ same ∙ ap form_of other)))
+        | inr both ↦ wide ∙ sym both
+      ]
+    ]
+  where
+    one-two : 1 ≡ 2 → ⊥
+    one-two h = omega arith
 
-pub begun : (q : Prepared) → IsPrepared q → (arrays : List (List ℤ)) (numbers rest : List ℕ) (r n : ℕ)
-    → numbers ≡ 1 ∷ r ∷ n ∷ rest → numbers ≡ record_of q → Begun q arrays r n rest
-begun q ok arrays numbers rest r n here is =
-    let both : 1 ∷ r ∷ n ∷ rest ≡ record_of q = sym here ∙ is in
-    let rank : r ≡ q.rank = cc in
+same_bounds : (b c : Bounds) → b.rank ≡ c.rank → b.elements ≡ c.elements → b ≡ c
+same_bounds b c rank elements = λ i. record { rank = rank i; elements = elements i }
+
+-- what the beginning of a record says
+pub record Begun (q : Prepared) (arrays : List (List ℤ)) (b : Bounds) (n : ℕ) (rest : List ℕ) : Type 0 where
+  pub bounds : b ≡ q.bounds
+  pub count : n ≡ length q.dims
+  pub dealing : n ≡ length arrays → all_from b arrays rest ≡ told (recorded q.term []) (dealt q.dims arrays)
+
+pub begun : (q : Prepared) → IsPrepared q → (arrays : List (List ℤ)) (numbers rest : List ℕ) (b : Bounds) (n : ℕ) → IsRecordable b
+    → numbers ≡ form_of b.elements ∷ b.rank ∷ n ∷ rest → numbers ≡ record_of q → Begun q arrays b n rest
+begun q ok arrays numbers rest b n can here is =
+    let both : form_of b.elements ∷ b.rank ∷ n ∷ rest ≡ record_of q = sym here ∙ is in
+    let form : form_of b.elements ≡ form_of q.bounds.elements = cc in
+    let rank : b.rank ≡ q.bounds.rank = cc in
+    let bounds = same_bounds b q.bounds rank (same_elements b q.bounds can ok.bounds form) in
     let count : n ≡ length q.dims = cc in
     let behind : rest ≡ recorded_dims q.dims (recorded q.term []) = cc in
     record {
-      rank = rank;
+      bounds = bounds;
       count = count;
-      dealing = λ same. ap (λ s. all_from s arrays rest) rank ∙ ap (all_from q.rank arrays) behind
-          ∙ all_from-recorded q.rank arrays q.dims (recorded q.term []) (sym count ∙ same) ok.legal;
+      dealing = λ same. ap (λ s. all_from s arrays rest) bounds ∙ ap (all_from q.bounds arrays) behind
+          ∙ all_from-recorded q.bounds arrays q.dims (recorded q.term []) (sym count ∙ same) ok.legal;
     }
 
 -- the numbers of a record, from what was read of them
-pub filled-written : (numbers rest behind left : List ℕ) (r n rank : ℕ) (ts us : List Contents) (t : Term)
-    → numbers ≡ 1 ∷ r ∷ n ∷ rest → rest ≡ recorded_dims (dims_of_all ts) behind → behind ≡ recorded t left → left ≡ []
-    → n ≡ length ts → rank ≡ r → us ≡ ts
-    → numbers ≡ 1 ∷ rank ∷ length (dims_of_all us) ∷ recorded_dims (dims_of_all us) (recorded t [])
-filled-written numbers rest behind left r n rank ts us t here dims tree end count same all =
+pub filled-written : (numbers rest behind left : List ℕ) (b bounds : Bounds) (n : ℕ) (ts us : List Contents) (t : Term)
+    → numbers ≡ form_of b.elements ∷ b.rank ∷ n ∷ rest → rest ≡ recorded_dims (dims_of_all ts) behind → behind ≡ recorded t left → left ≡ []
+    → n ≡ length ts → bounds ≡ b → us ≡ ts
+    → numbers ≡ form_of bounds.elements ∷ bounds.rank ∷ length (dims_of_all us) ∷ recorded_dims (dims_of_all us) (recorded t [])
+filled-written numbers rest behind left b bounds n ts us t here dims tree end count same all =
     rw (all, same, length-dims_of_all ts, ← count)
-    (here ∙ ap (λ l. 1 ∷ r ∷ n ∷ l) (dims ∙ ap (recorded_dims (dims_of_all ts)) (tree ∙ ap (recorded t) end)))
+    (here ∙ ap (λ l. form_of b.elements ∷ b.rank ∷ n ∷ l) (dims ∙ ap (recorded_dims (dims_of_all ts)) (tree ∙ ap (recorded t) end)))

@@ -18,7 +18,7 @@ pub record IsFilled (numbers : List ℕ) (arrays : List (List ℤ)) (filled : Fi
 -- the prepared expression over the arrays that are dealt to its inputs
 pub record IsOver (p : Prepared) (arrays : List (List ℤ)) (filled : Filled) : Type 0 where
   pub term : term_of filled.expr ≡ p.term
-  pub rank : filled.inputs.rank ≡ p.rank
+  pub bounds : filled.inputs.bounds ≡ p.bounds
   pub tensors : dealt p.dims arrays ≡ Ok filled.inputs.tensors
 
 -- of the record of a prepared expression it is that expression over the arrays, or the arrays are

@@ -3,22 +3,24 @@ use Rattle.std.specs.Prelude.{◌≡◌, ◌⊎◌, ◌<◌, ◌≤◌, ◌^◌,
 use Rattle.std.specs.Prelude.{◌∷◌, ◌++◌, length}
 use Rattle.std.specs.Prelude.{IsTrue, Result, Ok, Err, if◌then◌else◌}
 use Rattle.tensor_shape.specs.Index.{size_of}
-use Rattle.tensor_shape.specs.Legal.{are_legal}
+use Rattle.tensor_shape.specs.Legal.{are_legal, text_elements, most_elements}
+use Rattle.tensor_shape.specs.declared.bounds.Bounds.{Bounds}
 use Rattle.tensor_terms.specs.Contents.{Contents, Given}
 use Rattle.tensor_terms.specs.Term.{Term, has_inputs}
 use Rattle.prepared_expressions.specs.Recorded.{recorded, height_of, HasRanges}
 use Rattle.prepared_expressions.specs.declared.refusal.Refusal.{Refusal}
 use Rattle.prepared_expressions.specs.declared.refusal.Refusal.TheVariants.{OtherArrays}
 
--- a term, the dims of its inputs, and the highest rank of a result
+-- a term, the dims of its inputs, and how large results get
 pub record Prepared : Type 0 where
-  pub rank : ℕ
+  pub bounds : Bounds
   pub dims : List (List ℕ)
   pub term : Term
 
--- the number that says how what stands behind it is written
-abbrev pub form : ℕ
-form = 1
+-- the number that says how what stands behind it is written, where tensors have at most so many
+-- elements: as many as those of a text, or more
+abbrev pub form_of : ℕ → ℕ
+form_of elements = if elements == text_elements then 1 else 2
 
 -- dims, each with their rank before them
 abbrev pub recorded_dims : List (List ℕ) → List ℕ → List ℕ
@@ -27,21 +29,28 @@ recorded_dims (d ∷ ds) rest = length d ∷ d ++ recorded_dims ds rest
 
 -- the record: all its numbers
 abbrev pub record_of : Prepared → List ℕ
-record_of p = form ∷ p.rank ∷ length p.dims ∷ recorded_dims p.dims (recorded p.term [])
+record_of p =
+    form_of p.bounds.elements ∷ p.bounds.rank ∷ length p.dims
+    ∷ recorded_dims p.dims (recorded p.term [])
 
 -- the most nodes one below the other
 abbrev pub greatest_height : ℕ
 greatest_height = 127
 
-abbrev pub all_legal : ℕ → List (List ℕ) → Bool
-all_legal rank [] = true
-all_legal rank (d ∷ ds) = are_legal rank d && all_legal rank ds
+abbrev pub all_legal : Bounds → List (List ℕ) → Bool
+all_legal bounds [] = true
+all_legal bounds (d ∷ ds) = are_legal bounds d && all_legal bounds ds
+
+-- bounds that a record can say
+pub record IsRecordable (bounds : Bounds) : Type 0 where
+  pub rank : (bounds.rank ≡ 6) ⊎ (bounds.rank ≡ 8)
+  pub elements : (bounds.elements ≡ text_elements) ⊎ (bounds.elements ≡ most_elements)
 
 -- what may be prepared
 pub record IsPrepared (p : Prepared) : Type 0 where
-  pub rank : (p.rank ≡ 6) ⊎ (p.rank ≡ 8)
+  pub bounds : IsRecordable p.bounds
   pub few : length p.dims < 2 ^ 32
-  pub legal : IsTrue (all_legal p.rank p.dims)
+  pub legal : IsTrue (all_legal p.bounds p.dims)
   pub inputs : IsTrue (has_inputs p.term (length p.dims))
   pub ranges : HasRanges p.term
   pub height : height_of p.term ≤ greatest_height
@@ -57,7 +66,8 @@ values_of_all (t ∷ ts) = t.values ∷ values_of_all ts
 
 -- what is prepared of a term over inputs
 abbrev pub prepared : Given → Term → Prepared
-prepared inputs t = record { rank = inputs.rank; dims = dims_of_all inputs.tensors; term = t }
+prepared inputs t =
+    record { bounds = inputs.bounds; dims = dims_of_all inputs.tensors; term = t }
 
 -- one tensor more before those that were dealt
 abbrev pub before : Contents → Result (List Contents) Refusal → Result (List Contents) Refusal

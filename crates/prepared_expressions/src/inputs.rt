@@ -2,14 +2,13 @@
 
 ghost use Rattle.std.specs.Prelude.{◌≡◌, ◌⊎◌, ◌≤◌, Ok, Err, IfOk, MatchResult, length};
 ghost use Rattle.expr_reader.specs.Arrays.{arrays_under};
-ghost use Rattle.tensor_shape.specs.Legal.{highest_rank};
-ghost use Rattle.tensor_terms.specs.Contents.{HaveRank};
+ghost use Rattle.tensor_shape.specs.Legal.{IsPossible};
 ghost use Rattle.prepared_expressions.specs.private.Dealing.{all_from, one_from};
 
 use crate::refusal::Refusal;
 use expr_reader::Array;
 use std::alloc::Global;
-use tensor_shape::Dims;
+use tensor_shape::{Bounds, Dims};
 use tensor_terms::Tensor;
 
 /// Tensors, and the numbers behind those that say their dims.
@@ -29,21 +28,21 @@ pub(crate) struct DealtOne<'n, 'a> {
 /// The tensor of each array. Their dims stand first among the numbers.
 pub(crate) fn read_tensors<'n, 'a>(
     alloc: Global,
-    rank: usize,
+    bounds: Bounds,
     numbers: &'n [u64],
     arrays: &[Array<'a>],
 ) -> Result<Dealt<'n, 'a>, Refusal>
-    requires { rank ≤ highest_rank }
+    requires { IsPossible bounds }
     ensures tensors { MatchResult result
-        (λ d. all_from rank (arrays_under arrays.now) numbers.now
+        (λ d. all_from bounds (arrays_under arrays.now) numbers.now
         ≡ Ok (record { tensors = d.tensors.items; rest = d.rest.now }))
         (λ f. (f ≡ Refusal.NoMemory)
-        ⊎ (all_from rank (arrays_under arrays.now) numbers.now ≡ Err f)) }
+        ⊎ (all_from bounds (arrays_under arrays.now) numbers.now ≡ Err f)) }
 {
     let mut tensors = Vec::with_capacity(alloc, arrays.len())?;
     let mut rest = numbers;
     for array in arrays {
-        let one = read_tensor(rank, rest, array.values)?;
+        let one = read_tensor(bounds, rest, array.values)?;
         rest = one.rest;
         let Ok(()) = tensors.push(one.tensor) else {
             return Err(Refusal::NoMemory);
@@ -54,24 +53,24 @@ pub(crate) fn read_tensors<'n, 'a>(
 
 /// The tensor of these values. Its dims stand first among the numbers.
 fn read_tensor<'n, 'a>(
-    rank: usize,
+    bounds: Bounds,
     numbers: &'n [u64],
     values: &'a [i64],
 ) -> Result<DealtOne<'n, 'a>, Refusal>
-    requires { rank ≤ highest_rank }
+    requires { IsPossible bounds }
     ensures { MatchResult result
-        (λ one. one_from rank values.now numbers.now
+        (λ one. one_from bounds values.now numbers.now
         ≡ Ok (record { tensor = one.tensor; rest = one.rest.now }))
-        (λ f. one_from rank values.now numbers.now ≡ Err f) }
+        (λ f. one_from bounds values.now numbers.now ≡ Err f) }
 {
     let [count, behind @ ..] = numbers else {
         return Err(Refusal::NoRecord);
     };
-    if *count > behind.len() as u64 || *count > rank as u64 {
+    if *count > behind.len() as u64 {
         return Err(Refusal::NoRecord);
     }
     let (sizes, rest) = behind.split_at(*count as usize);
-    let Ok(dims) = Dims::new(sizes) else {
+    let Ok(dims) = Dims::within(bounds, sizes) else {
         return Err(Refusal::NoRecord);
     };
     if values.len() as u64 != dims.size() {

@@ -26,7 +26,7 @@ pub fn fill_from(
     ensures part { IfOk result (λ count. IsPart (term_of filled.now.expr)
         filled.now.inputs.tensors first out.old count out.new) }
     ensures refused { IfErr result (λ f. (f ≡ Refusal.NoMemory) ⊎ ((f ≡ Refusal.NoDims)
-        × IsErr (dims_of filled.now.inputs.rank (term_of filled.now.expr)
+        × IsErr (dims_of filled.now.inputs.bounds (term_of filled.now.expr)
         filled.now.inputs.tensors))) }
 {
     let Ok(_) = filled.expr.dims(&filled.inputs) else {

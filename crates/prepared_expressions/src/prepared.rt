@@ -3,12 +3,13 @@
 ghost use Rattle.std.specs.Prelude.{◌≡◌, ◌≢◌, ◌⊎◌, ◌<◌, ◌^◌, ◌++◌, ◌∷◌, ℕ, List, length};
 ghost use Rattle.std.specs.Prelude.{IsTrue, IfOk, OnOk, IfSome, IfNone};
 ghost use Rattle.expr_reader.specs.Arrays.{arrays_under};
+ghost use Rattle.tensor_shape.specs.Legal.{text_elements, most_elements, IsPossible};
 ghost use Rattle.tensor_terms.specs.Term.{has_inputs};
 ghost use Rattle.tensor_terms.specs.Tree.{term_of};
 ghost use Rattle.prepared_expressions.specs.Filled.{IsFilled, IsFilledOf};
 ghost use Rattle.prepared_expressions.specs.Prepared.{prepared, record_of, recorded_dims};
-ghost use Rattle.prepared_expressions.specs.Prepared.{dims_of_all, all_legal, form};
-ghost use Rattle.prepared_expressions.specs.Prepared.{Prepared, IsPrepared};
+ghost use Rattle.prepared_expressions.specs.Prepared.{dims_of_all, all_legal, form_of};
+ghost use Rattle.prepared_expressions.specs.Prepared.{Prepared, IsPrepared, IsRecordable};
 
 use crate::arguments::alone;
 use crate::inputs::read_tensors;
@@ -17,10 +18,15 @@ use crate::tree::read_tree;
 use crate::written::{write_list, write_tree};
 use expr_reader::Array;
 use std::alloc::Global;
+use tensor_shape::{Bounds, Dims, MAX_ELEMENTS, TEXT_ELEMENTS};
 use tensor_terms::{Expr, Inputs};
 
-/// The number that stands first in a record, and says how what stands behind it is written.
-const FORM: u64 = 1;
+/// The number that stands first in a record, and says how what stands behind it is written, where
+/// tensors have at most as many elements as those of a text.
+const TEXT_FORM: u64 = 1;
+
+/// The same where they have as many as they may.
+const WIDE_FORM: u64 = 2;
 
 /// The most nodes that stand one below the other.
 const MAX_HEIGHT: u32 = 127;
@@ -40,27 +46,29 @@ pub fn prepare(alloc: Global, inputs: &Inputs<'_>, expr: &Expr) -> Result<Vec<u6
     ensures prepared { IfOk result (λ numbers.
         IsPrepared (prepared inputs.now (term_of expr.now))) }
 {
-    let rank = inputs.rank_limit();
-    if rank != 6 && rank != 8 {
+    let bounds = inputs.bounds();
+    let Some(form) = form_of(bounds) else {
         return Err(Refusal::TooLarge);
-    }
-    let mut numbers = Vec::from_slice(alloc, &[FORM, u64::from(rank), u64::from(inputs.len())])?;
-    write_dims(&mut numbers, inputs, rank as usize)?;
+    };
+    let head = [form, bounds.rank as u64, u64::from(inputs.len())];
+    let mut numbers = Vec::from_slice(alloc, &head)?;
+    write_dims(&mut numbers, inputs, bounds)?;
     write_tree(alloc, &mut numbers, expr, MAX_HEIGHT)?;
     Ok(numbers)
 }
 
 /// Puts the dims of all inputs, each with their rank before them, behind what is there.
-fn write_dims(numbers: &mut Vec<u64>, inputs: &Inputs<'_>, rank: usize) -> Result<(), Refusal>
+fn write_dims(numbers: &mut Vec<u64>, inputs: &Inputs<'_>, bounds: Bounds) -> Result<(), Refusal>
+    requires { IsPossible bounds }
     ensures numbers { OnOk result ((rest : List ℕ) → numbers.new.items ++ rest
         ≡ numbers.old.items ++ recorded_dims (dims_of_all inputs.now.tensors) rest) }
-    ensures legal { OnOk result (IsTrue (all_legal rank (dims_of_all inputs.now.tensors))) }
+    ensures legal { OnOk result (IsTrue (all_legal bounds (dims_of_all inputs.now.tensors))) }
 {
     for number in 0..inputs.len() {
         let sizes = inputs.get(number).dims().as_slice();
-        if sizes.len() > rank {
+        let Ok(_) = Dims::within(bounds, sizes) else {
             return Err(Refusal::TooLarge);
-        }
+        };
         write_list(numbers, sizes)?;
     }
     Ok(())
@@ -82,37 +90,69 @@ pub fn read_over<'a>(
     if count != arrays.len() {
         return Err(Refusal::OtherArrays);
     }
-    let dealt = read_tensors(alloc, start.rank as usize, start.rest, arrays)?;
+    let dealt = read_tensors(alloc, start.bounds, start.rest, arrays)?;
     let read = read_tree(alloc, dealt.rest, start.count, MAX_HEIGHT)?;
     let expr = alone(read.expr, read.rest)?;
-    let inputs = Inputs::with_rank(dealt.tensors, start.rank);
+    let inputs = Inputs::with_bounds(dealt.tensors, start.bounds);
     Ok(Filled { inputs, expr })
 }
 
-/// What stands first in a record: the highest rank of a result, and the number of inputs.
+/// What stands first in a record: how large results get, and the number of inputs.
 #[derive(Clone, Copy)]
 struct Start<'n> {
-    rank: u32,
+    bounds: Bounds,
     count: u32,
     rest: &'n [u64],
 }
 
 /// What stands first in a record.
 fn read_start(numbers: &[u64]) -> Option<Start<'_>>
-    ensures found { IfSome result (λ s. numbers.now ≡ form ∷ s.rank ∷ s.count ∷ s.rest.now) }
-    ensures rank { IfSome result (λ s. (s.rank ≡ 6) ⊎ (s.rank ≡ 8)) }
+    ensures found { IfSome result (λ s.
+        numbers.now ≡ form_of s.bounds.elements ∷ s.bounds.rank ∷ s.count ∷ s.rest.now) }
+    ensures bounds { IfSome result (λ s. IsRecordable s.bounds) }
     ensures few { IfSome result (λ s. s.count < 2 ^ 32) }
     ensures none { IfNone result ((p : Prepared) → IsPrepared p → numbers.now ≢ record_of p) }
 {
     let [form, rank, count, rest @ ..] = numbers else {
         return None;
     };
-    if *form != FORM || (*rank != 6 && *rank != 8) || *count > u64::from(u32::MAX) {
+    let elements = elements_of(*form)?;
+    if (*rank != 6 && *rank != 8) || *count > u64::from(u32::MAX) {
         return None;
     }
+    let rank = *rank as usize;
     Some(Start {
-        rank: *rank as u32,
+        bounds: Bounds { rank, elements },
         count: *count as u32,
         rest,
     })
+}
+
+/// The form of a record with these bounds, which are those that a record can say.
+fn form_of(bounds: Bounds) -> Option<u64>
+    ensures form { IfSome result (λ form. form ≡ form_of bounds.elements) }
+    ensures bounds { IfSome result (λ form. IsRecordable bounds) }
+{
+    if bounds.rank != 6 && bounds.rank != 8 {
+        return None;
+    }
+    match bounds.elements {
+        TEXT_ELEMENTS => Some(TEXT_FORM),
+        MAX_ELEMENTS => Some(WIDE_FORM),
+        _ => None,
+    }
+}
+
+/// How many elements tensors have at most, by the form of a record.
+fn elements_of(form: u64) -> Option<u64>
+    ensures form { IfSome result (λ elements. form_of elements ≡ form) }
+    ensures elements { IfSome result (λ elements.
+        (elements ≡ text_elements) ⊎ (elements ≡ most_elements)) }
+    ensures none { IfNone result ((elements : ℕ) → form_of elements ≢ form) }
+{
+    match form {
+        TEXT_FORM => Some(TEXT_ELEMENTS),
+        WIDE_FORM => Some(MAX_ELEMENTS),
+        _ => None,
+    }
 }

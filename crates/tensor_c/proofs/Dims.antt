@@ -3,7 +3,7 @@ use Rattle.std.proofs.Common.{◌≡◌, ℕ, ℤ, List, [], length, Result, Ok,
 use Rattle.std.specs.Result.{result_unwrap_or}
 use Rattle.expr_reader.specs.Alike.{AskAlike}
 use Rattle.expr_reader.specs.Frame.{request_of_frame}
-use Rattle.expr_reader.specs.Legal.{highest_rank}
+use Rattle.expr_reader.specs.Legal.{widest}
 use Rattle.expr_reader.specs.Request.{Asked}
 use Rattle.expr_reader.specs.Result.{shape_of}
 use Rattle.expr_reader.specs.declared.fault.Fault.{Fault}
@@ -17,7 +17,7 @@ answer_dims-same header vs ws long = by_case (request_of_frame header vs) (reque
         → or_fault (λ t. t.dims) (or_fault asked_tensor a) ≡ or_fault (λ t. t.dims) (or_fault asked_tensor b)
     by_case (Ok a) (Ok b) alike =
         ap (λ t. Ok (shape_of t a.inputs)) alike.term
-        ∙ ap (λ dims. Ok (result_unwrap_or dims [])) (dims_of-same a.inputs b.inputs alike.inputs highest_rank b.term)
+        ∙ ap (λ dims. Ok (result_unwrap_or dims [])) (dims_of-same a.inputs b.inputs alike.inputs widest b.term)
     by_case (Ok a) (Err g) alike = absurd alike
     by_case (Err f) (Ok b) alike = absurd alike
     by_case (Err f) (Err g) alike = ap Err alike

@@ -10,6 +10,7 @@ use Rattle.std.specs.Prelude.{nat_lt, codes}
 use Rattle.std.specs.Option.{option_map_or}
 use Rattle.serde_json.specs.Data.{Data, Members, no_members, member}
 use Rattle.serde_json.specs.Find.{as_object}
+use Rattle.tensor_ops.specs.Bounds.{Bounds}
 use Rattle.expr_reader.specs.Alike.{AskAlike}
 use Rattle.expr_reader.specs.Arrays.{joined, with_all, array_tensor, array_tensors, bad_array, array_inputs, request_of_arrays}
 use Rattle.expr_reader.specs.Contents.{Contents}
@@ -17,7 +18,7 @@ use Rattle.expr_reader.specs.Fields.{Fields, fields_of, within}
 use Rattle.expr_reader.specs.Frame.{dims_alone, framed_tensor, framed_tensors, bad_framed, frame_inputs, request_of_frame}
 use Rattle.expr_reader.specs.Frame as frame
 use Rattle.expr_reader.specs.Index.{size_of}
-use Rattle.expr_reader.specs.Limits.{greatest_block, most_values}
+use Rattle.expr_reader.specs.Limits.{most_values}
 use Rattle.expr_reader.specs.Node.{Tree, tree_at}
 use Rattle.expr_reader.specs.Place.{Step, field, Located, here, at, below, unlocated}
 use Rattle.expr_reader.specs.Profile.{Profile}
@@ -35,27 +36,27 @@ use Rattle.prepared_expressions.specs.declared.refusal.Refusal.{Refusal}
 use Rattle.tensor_c.specs.Answer.{or_fault, asked_tensor, answer_of_arrays}
 use Rattle.tensor_c.specs.Plan.{prepared_of, tensor_over, answer_of_plan}
 
-module _ (rank : ℕ) where
+module _ (bounds : Bounds) where
   -- the dims that stand at a member
   abbrev sizes_at : Data → Option (List ℕ)
-  sizes_at d = option_and_then (dims_in rank) (dims_alone d)
+  sizes_at d = option_and_then (dims_in bounds) (dims_alone d)
 
   -- the first of the values, as many as the dims have places
   abbrev first_of : List ℕ → List ℤ → Contents
   first_of s vs = record { dims = s; values = take (size_of s) vs }
 
-  framed_tensor-sizes : (vs : List ℤ) (d : Data) → framed_tensor rank vs d ≡ option_and_then (frame.dealt vs) (sizes_at d)
+  framed_tensor-sizes : (vs : List ℤ) (d : Data) → framed_tensor bounds vs d ≡ option_and_then (frame.dealt vs) (sizes_at d)
   framed_tensor-sizes vs d = by_dims (dims_alone d)
     where
       by_dims : (dims : Option Data)
-          → option_and_then (λ e. option_and_then (frame.dealt vs) (dims_in rank e)) dims
-          ≡ option_and_then (frame.dealt vs) (option_and_then (dims_in rank) dims)
+          → option_and_then (λ e. option_and_then (frame.dealt vs) (dims_in bounds e)) dims
+          ≡ option_and_then (frame.dealt vs) (option_and_then (dims_in bounds) dims)
       by_dims None = refl
       by_dims (Some e) = refl
 
   -- values of which the first are just as many as there are places
   framed_tensor-first : (vs rest : List ℤ) (d : Data) (s : List ℕ) → sizes_at d ≡ Some s → length vs ≡ size_of s
-      → framed_tensor rank (vs ++ rest) d ≡ Some (record { dims = s; values = vs })
+      → framed_tensor bounds (vs ++ rest) d ≡ Some (record { dims = s; values = vs })
   framed_tensor-first vs rest d s stands fits =
       let enough : leb (size_of s) (length (vs ++ rest)) ≡ true =
       le-leb (size_of s) (length (vs ++ rest)) (omega (arith, fits, length-append vs rest)) in
@@ -63,7 +64,7 @@ module _ (rank : ℕ) where
       framed_tensor-sizes (vs ++ rest) d ∙ ap (option_and_then (frame.dealt (vs ++ rest))) stands ∙ rw (enough, first) refl
 
   array_tensor-fits : (vs : List ℤ) (d : Data) (s : List ℕ) → sizes_at d ≡ Some s → length vs ≡ size_of s
-      → array_tensor rank vs d ≡ Some (record { dims = s; values = vs })
+      → array_tensor bounds vs d ≡ Some (record { dims = s; values = vs })
   array_tensor-fits vs d s stands fits =
       let enough : leb (size_of s) (length vs) ≡ true = le-leb (size_of s) (length vs) (omega (arith, fits)) in
       let whole : take (size_of s) vs ≡ vs = take_all (size_of s) vs (omega (arith, fits)) in
@@ -71,7 +72,7 @@ module _ (rank : ℕ) where
       ∙ rw (enough, whole, eq-eqb (length vs) (length vs) refl) refl
 
   array_tensor-other : (vs : List ℤ) (d : Data) (s : List ℕ) → sizes_at d ≡ Some s → length vs ≢ size_of s
-      → array_tensor rank vs d ≡ None
+      → array_tensor bounds vs d ≡ None
   array_tensor-other vs d s stands other =
       ap (option_and_then (with_all vs)) (framed_tensor-sizes vs d ∙ ap (option_and_then (frame.dealt vs)) stands)
       ∙ by_enough (leb (size_of s) (length vs)) refl
@@ -89,13 +90,13 @@ module _ (rank : ℕ) where
 
   -- tensors that arrays are dealt to: they are those of the arrays, and of the frame of all joined
   pub record IsDealt (ms : Members) (values : List ℤ) (arrays : List (List ℤ)) (us : List Contents) : Type 0 where
-    pub apart : array_tensors rank arrays ms ≡ Some us
-    pub behind : framed_tensors rank (joined arrays) ms ≡ Some us
+    pub apart : array_tensors bounds arrays ms ≡ Some us
+    pub behind : framed_tensors bounds (joined arrays) ms ≡ Some us
     pub long : length (joined arrays) ≡ length values
 
   abbrev Fits : Members → List ℤ → List (List ℤ) → Result (List Contents) Refusal → Type 0
   Fits ms values arrays (Ok us) = IsDealt ms values arrays us
-  Fits ms values arrays (Err f) = array_tensors rank arrays ms ≡ None
+  Fits ms values arrays (Err f) = array_tensors bounds arrays ms ≡ None
 
   -- a member more, of which these are the dims, where there are values enough for it
   module _ (name : List ℕ) (d : Data) (ms : Members) (values : List ℤ) (s : List ℕ) (stands : sizes_at d ≡ Some s)
@@ -136,7 +137,7 @@ module _ (rank : ℕ) where
     dealt-member us behind [] = refl
     dealt-member us behind (vs ∷ more) = dealt-first vs more us (behind more)
 
-  dealt-members : (ms : Members) (values : List ℤ) (ts : List Contents) → framed_tensors rank values ms ≡ Some ts
+  dealt-members : (ms : Members) (values : List ℤ) (ts : List Contents) → framed_tensors bounds values ms ≡ Some ts
       → (arrays : List (List ℤ)) → Fits ms values arrays (dealt (dims_of_all ts) arrays)
   dealt-members no_members [] ts is arrays =
       let same : [] ≡ ts = cc in
@@ -150,17 +151,17 @@ module _ (rank : ℕ) where
       by_sizes (dealt-members ms) (sizes_at d) refl (ap (option_and_then next) (sym (framed_tensor-sizes values d)) ∙ is)
     where
       next : Contents → Option (List Contents)
-      next t = option_map (λ us. t ∷ us) (framed_tensors rank (drop (length t.values) values) ms)
+      next t = option_map (λ us. t ∷ us) (framed_tensors bounds (drop (length t.values) values) ms)
 
       Behind : Type 0
-      Behind = (vs : List ℤ) (us : List Contents) → framed_tensors rank vs ms ≡ Some us
+      Behind = (vs : List ℤ) (us : List Contents) → framed_tensors bounds vs ms ≡ Some us
           → (more : List (List ℤ)) → Fits ms vs more (dealt (dims_of_all us) more)
 
       Whole : Type 0
       Whole = Fits (member name d ms) values arrays (dealt (dims_of_all ts) arrays)
 
       by_rest : Behind → (s : List ℕ) → sizes_at d ≡ Some s → size_of s ≤ length values → (r : Option (List Contents))
-          → framed_tensors rank (drop (length (take (size_of s) values)) values) ms ≡ r
+          → framed_tensors bounds (drop (length (take (size_of s) values)) values) ms ≡ r
           → option_map (λ us. record { dims = s; values = take (size_of s) values } ∷ us) r ≡ Some ts → Whole
       by_rest behind s stands enough None there is = absurd (cc)
       by_rest behind s stands enough (Some us) there is =
@@ -174,7 +175,7 @@ module _ (rank : ℕ) where
       by_enough behind s stands false tells is = absurd (cc)
       by_enough behind s stands true tells is =
           by_rest behind s stands (leb-true (size_of s) (length values) tells)
-          (framed_tensors rank (drop (length (take (size_of s) values)) values) ms) refl is
+          (framed_tensors bounds (drop (length (take (size_of s) values)) values) ms) refl is
 
       by_sizes : Behind → (s : Option (List ℕ)) → sizes_at d ≡ s
           → option_and_then next (option_and_then (frame.dealt values) s) ≡ Some ts → Whole
@@ -190,12 +191,12 @@ tree_asked-inputs f p workers block named a is = by_tree (below (field (codes "e
       workers = workers;
       block = block;
       inputs = named.tensors;
-      rank = p.rank;
+      bounds = p.bounds;
       term = tree.term;
     }))) ≡ Ok a → a.inputs ≡ named.tensors
     by_tree (Err found) is = absurd (cc)
     by_tree (Ok tree) is =
-        let made : Asked = record { workers = workers; block = block; inputs = named.tensors; rank = p.rank; term = tree.term } in
+        let made : Asked = record { workers = workers; block = block; inputs = named.tensors; bounds = p.bounds; term = tree.term } in
         let same : made ≡ a = cc in
         ap (λ b. b.inputs) (sym same)
 
@@ -231,18 +232,18 @@ module _ (values : List ℤ) (arrays : List (List ℤ)) where
         → over names place (Some us) ≡ Ok b → b.inputs ≡ us
     over-inputs names place us b is = tree_asked-inputs f p workers block (record { names = names; tensors = us }) b is
 
-    Follows-members : (ms : Members) (k l m : List Step) (ts : Option (List Contents)) → framed_tensors p.rank values ms ≡ ts
-        → Follows (over (names_in ms) k ts) (over (names_in ms) l (array_tensors p.rank arrays ms))
-        (over (names_in ms) m (framed_tensors p.rank (joined arrays) ms))
+    Follows-members : (ms : Members) (k l m : List Step) (ts : Option (List Contents)) → framed_tensors p.bounds values ms ≡ ts
+        → Follows (over (names_in ms) k ts) (over (names_in ms) l (array_tensors p.bounds arrays ms))
+        (over (names_in ms) m (framed_tensors p.bounds (joined arrays) ms))
     Follows-members ms k l m None there = λ a is. absurd (cc)
     Follows-members ms k l m (Some ts) there = λ a is.
-        subst (λ us. FollowsBy (dealt (dims_of_all us) arrays) (over (names_in ms) l (array_tensors p.rank arrays ms))
-        (over (names_in ms) m (framed_tensors p.rank (joined arrays) ms)))
+        subst (λ us. FollowsBy (dealt (dims_of_all us) arrays) (over (names_in ms) l (array_tensors p.bounds arrays ms))
+        (over (names_in ms) m (framed_tensors p.bounds (joined arrays) ms)))
         (sym (over-inputs (names_in ms) k ts a is))
-        (by_dealt (dealt (dims_of_all ts) arrays) (dealt-members p.rank ms values ts there arrays))
+        (by_dealt (dealt (dims_of_all ts) arrays) (dealt-members p.bounds ms values ts there arrays))
       where
-        by_dealt : (r : Result (List Contents) Refusal) → Fits p.rank ms values arrays r
-            → FollowsBy r (over (names_in ms) l (array_tensors p.rank arrays ms)) (over (names_in ms) m (framed_tensors p.rank (joined arrays) ms))
+        by_dealt : (r : Result (List Contents) Refusal) → Fits p.bounds ms values arrays r
+            → FollowsBy r (over (names_in ms) l (array_tensors p.bounds arrays ms)) (over (names_in ms) m (framed_tensors p.bounds (joined arrays) ms))
         by_dealt (Err e) none = ap (over (names_in ms) l) none
         by_dealt (Ok us) fits =
             record {
@@ -255,9 +256,9 @@ module _ (values : List ℤ) (arrays : List (List ℤ)) where
         (unlocated (inputs_asked (array_inputs arrays) f p workers block))
         (unlocated (inputs_asked (frame_inputs (joined arrays)) f p workers block))
     Follows-inputs =
-        by_object (as_object f.inputs) (option_map_or (bad_framed p.rank values) (as_object f.inputs) [])
-        (option_map_or (bad_array p.rank arrays) (as_object f.inputs) [])
-        (option_map_or (bad_framed p.rank (joined arrays)) (as_object f.inputs) [])
+        by_object (as_object f.inputs) (option_map_or (bad_framed p.bounds values) (as_object f.inputs) [])
+        (option_map_or (bad_array p.bounds arrays) (as_object f.inputs) [])
+        (option_map_or (bad_framed p.bounds (joined arrays)) (as_object f.inputs) [])
       where
         read : (Members → Option (List Contents)) → List Step → Option Members → Result Asked Fault
         read tensors place ms =
@@ -267,10 +268,10 @@ module _ (values : List ℤ) (arrays : List (List ℤ)) where
             (tree_asked f p workers block))
 
         by_object : (ms : Option Members) (k l m : List Step)
-            → Follows (read (framed_tensors p.rank values) k ms) (read (array_tensors p.rank arrays) l ms)
-            (read (framed_tensors p.rank (joined arrays)) m ms)
+            → Follows (read (framed_tensors p.bounds values) k ms) (read (array_tensors p.bounds arrays) l ms)
+            (read (framed_tensors p.bounds (joined arrays)) m ms)
         by_object None k l m = λ a is. absurd (cc)
-        by_object (Some ms) k l m = Follows-members ms k l m (framed_tensors p.rank values ms) refl
+        by_object (Some ms) k l m = Follows-members ms k l m (framed_tensors p.bounds values ms) refl
 
   Follows-fields : (f : Fields) → Follows (unlocated (fields_asked (frame_inputs values) f)) (unlocated (fields_asked (array_inputs arrays) f))
       (unlocated (fields_asked (frame_inputs (joined arrays)) f))
@@ -279,7 +280,7 @@ module _ (values : List ℤ) (arrays : List (List ℤ)) where
       (workers_asked (frame_inputs values) f) (workers_asked (array_inputs arrays) f) (workers_asked (frame_inputs (joined arrays)) f)
       (λ p. Follows-and_then (ok_or (within 1 p.workers f.workers) (at (field (codes "workers")) BadWorkers))
       (block_asked (frame_inputs values) f p) (block_asked (array_inputs arrays) f p) (block_asked (frame_inputs (joined arrays)) f p)
-      (λ workers. Follows-and_then (ok_or (within 1 greatest_block f.block) (at (field (codes "block")) BadBlock))
+      (λ workers. Follows-and_then (ok_or (within 1 p.block f.block) (at (field (codes "block")) BadBlock))
       (inputs_asked (frame_inputs values) f p workers) (inputs_asked (array_inputs arrays) f p workers)
       (inputs_asked (frame_inputs (joined arrays)) f p workers)
       (λ block. Follows-inputs f p workers block)))

@@ -18,7 +18,7 @@ use Rattle.tensor_c.specs.Part.{CalledForPart}
 
 -- what is prepared of what a header asks for
 abbrev pub prepared_of : Asked → Prepared
-prepared_of a = record { rank = a.rank; dims = dims_of_all a.inputs; term = a.term }
+prepared_of a = record { bounds = a.bounds; dims = dims_of_all a.inputs; term = a.term }
 
 -- what a header asks for over so many values, each of which is zero
 abbrev pub asked_over : List ℕ → ℕ → Result Asked Fault
@@ -50,7 +50,7 @@ IsPlanCall answer plan call =
 pub record IsPlan (p : Prepared) : Type 0 where
   pub prepared : IsPrepared p
   pub has_dims : (arrays : List (List ℤ)) (tensors : List Contents)
-      → dealt p.dims arrays ≡ Ok tensors → IsOk (dims_of p.rank p.term tensors)
+      → dealt p.dims arrays ≡ Ok tensors → IsOk (dims_of p.bounds p.term tensors)
 
 -- what it answers over arrays: its tensor, or the fault of arrays that don't fit
 abbrev pub tensor_over : Term → Result (List Contents) Refusal → Result Contents Fault

@@ -52,7 +52,7 @@ pub(crate) fn put_part_of(alloc: Global, request: Request<'_>, first: u64, out: 
 /// Writes the same of an expression over its inputs.
 pub(crate) fn put_filled(alloc: Global, filled: &Filled<'_>, first: u64, out: &mut [i64]) -> i64
     requires { IsTrue (has_inputs (term_of filled.now.expr) (length filled.now.inputs.tensors)) }
-    ensures call { IsOk (dims_of filled.now.inputs.rank (term_of filled.now.expr)
+    ensures call { IsOk (dims_of filled.now.inputs.bounds (term_of filled.now.expr)
         filled.now.inputs.tensors)
         → IsPartCall (Ok (tensor_of (term_of filled.now.expr) filled.now.inputs.tensors)) first
         out.old (record { result = result; out = out.new }) }

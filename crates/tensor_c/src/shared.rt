@@ -4,7 +4,7 @@ ghost use Rattle.std.specs.Prelude.{◌≡◌, ◌<◌, ◌≤◌, ◌+◌, ◌*
 ghost use Rattle.std.specs.Prelude.{IfOk, MatchResult};
 ghost use Rattle.expr_reader.specs.Arrays.{arrays_under, joined};
 ghost use Rattle.expr_reader.specs.Index.{size_of};
-ghost use Rattle.expr_reader.specs.Legal.{highest_rank, most_elements};
+ghost use Rattle.expr_reader.specs.Legal.{widest, most_elements};
 ghost use Rattle.expr_reader.specs.Result.{dims_of};
 ghost use Rattle.expr_reader.specs.Term.{has_inputs, nodes_of};
 ghost use Rattle.expr_reader.specs.Tree.{term_of, unary_at, binary_at, movement_at};
@@ -17,7 +17,7 @@ ghost use Rattle.tensor_c.specs.Shared.{combined_size, whole_size, operand_size,
 use crate::faults::result_of;
 use expr_reader::{Array, Fault, Request, read_arrays};
 use std::alloc::Global;
-use tensor_ops::{Binary, Dims, Expr, ExprFault, Inputs, MAX_RANK, Movement, Node, Unary};
+use tensor_ops::{Binary, Dims, Expr, ExprFault, Inputs, Movement, Node, Unary, WIDEST};
 
 /// The dims of an expression, and how many values are worked out below its last operation.
 #[derive(Drop)]
@@ -44,8 +44,8 @@ fn shared_of(request: &Request<'_>) -> u64
     ensures value { result ≡ shared request.now.inputs.tensors (term_of request.now.expr) }
     ensures small { result < 2 ^ 63 }
 {
-    // Says that the limit is a rank that dims can have.
-    let _limit = request.inputs.rank_limit();
+    // Says that dims can go as far as the inputs' bounds.
+    let _limit = request.inputs.bounds();
     let Ok(found) = counted(&request.inputs, &request.expr) else {
         unreachable!();
     };
@@ -58,8 +58,8 @@ fn counted(inputs: &Inputs, expr: &Expr) -> Result<Found, ExprFault>
     requires inputs { IsTrue (has_inputs (term_of expr.now) (length inputs.now.tensors)) }
     requires few { nodes_of (term_of expr.now) < 2 ^ 32 }
     ensures dims { MatchResult result
-        (λ r. dims_of highest_rank (term_of expr.now) inputs.now.tensors ≡ Ok r.dims)
-        (λ fault. dims_of highest_rank (term_of expr.now) inputs.now.tensors ≡ Err fault) }
+        (λ r. dims_of widest (term_of expr.now) inputs.now.tensors ≡ Ok r.dims)
+        (λ fault. dims_of widest (term_of expr.now) inputs.now.tensors ≡ Err fault) }
     ensures shared { IfOk result (λ r.
         r.shared ≡ shared inputs.now.tensors (term_of expr.now)) }
     ensures small { IfOk result (λ r.
@@ -73,7 +73,7 @@ fn counted(inputs: &Inputs, expr: &Expr) -> Result<Found, ExprFault>
         Node::Unary(operation, a) => {
             let first = counted(inputs, a)?;
             let shared = first.shared + operand_size(operation, a, &first.dims);
-            let dims = expr.dims_over(MAX_RANK, inputs, &[first.dims])?;
+            let dims = expr.dims_over(WIDEST, inputs, &[first.dims])?;
             Ok(Found { dims, shared })
         }
         Node::Binary(operation, a, b) => {
@@ -82,7 +82,7 @@ fn counted(inputs: &Inputs, expr: &Expr) -> Result<Found, ExprFault>
             let own = either_size(operation, a, &first.dims)
                 + either_size(operation, b, &second.dims);
             let shared = first.shared + second.shared + own;
-            let dims = expr.dims_over(MAX_RANK, inputs, &[first.dims, second.dims])?;
+            let dims = expr.dims_over(WIDEST, inputs, &[first.dims, second.dims])?;
             Ok(Found { dims, shared })
         }
         Node::Ternary(_, a, b, c) => {
@@ -93,7 +93,7 @@ fn counted(inputs: &Inputs, expr: &Expr) -> Result<Found, ExprFault>
                 + combined_size(b, &second.dims)
                 + combined_size(c, &third.dims);
             let shared = first.shared + second.shared + third.shared + own;
-            let dims = expr.dims_over(MAX_RANK, inputs, &[first.dims, second.dims, third.dims])?;
+            let dims = expr.dims_over(WIDEST, inputs, &[first.dims, second.dims, third.dims])?;
             Ok(Found { dims, shared })
         }
     }

@@ -3,7 +3,7 @@ use Rattle.std.proofs.Common.{◌≡◌, ℕ, ◌+◌, List, [], ◌∷◌, ◌+
 use Rattle.std.proofs.Common.{Bool, true, false, ◌||◌, Result, Ok, Err, IfOk, ap, sym, subst}
 use Rattle.std.proofs.Common.{◌∙◌, arith}
 use Rattle.std.proofs.lemmas.List.{length-append, length-map, map-append, append-nil, append_assoc}
-use Rattle.tensor_ops.specs.Legal.{highest_rank}
+use Rattle.tensor_ops.specs.Legal.{widest}
 use Rattle.tensor_ops.specs.Contents.{Contents}
 use Rattle.tensor_ops.specs.Result.{dims_of}
 use Rattle.tensor_ops.specs.Shaped.{Shaped}
@@ -23,7 +23,7 @@ IfOk-then (Err e) P Q follows p = p
 module _ (inputs : List Contents) where
   -- the dims of nodes
   abbrev pub dims_of_all : List Term → List Shaped
-  dims_of_all ts = map (λ t. dims_of highest_rank t inputs) ts
+  dims_of_all ts = map (λ t. dims_of widest t inputs) ts
 
   -- steps that have grown by terms, of nodes
   pub record HaveGrown (old new : List Step) (us ts : List Term) : Type 0 where
@@ -49,7 +49,7 @@ module _ (inputs : List Contents) where
     terms = second.terms ∙ ap (λ l. l ++ vs) first.terms ∙ append_assoc (terms_in old) us vs;
     nodes = second.nodes ∙ ap (λ l. l ++ dims_of_all ss) first.nodes
         ∙ append_assoc (dims_in old) (dims_of_all ts) (dims_of_all ss)
-        ∙ ap (λ l. dims_in old ++ l) (sym (map-append (λ t. dims_of highest_rank t inputs) ts ss));
+        ∙ ap (λ l. dims_in old ++ l) (sym (map-append (λ t. dims_of widest t inputs) ts ss));
   }
 
   -- what is left of a node, behind its steps
@@ -57,12 +57,12 @@ module _ (inputs : List Contents) where
       Type 0 where
     pub grown : HaveGrown old new c.steps ts
     pub term : term_of_step rest ≡ c.left
-    pub dims : dims_of highest_rank t inputs ≡ Ok (dims_of_step rest)
+    pub dims : dims_of widest t inputs ≡ Ok (dims_of_step rest)
 
   node-settled : (is_step : Bool) (old mid new : List Step) (us ts : List Term) (u t : Term)
       (node rest : Step)
       → HaveGrown old mid us ts → term_of_step node ≡ u
-      → dims_of highest_rank t inputs ≡ Ok (dims_of_step node) → IsSettled inputs is_step node mid new rest
+      → dims_of widest t inputs ≡ Ok (dims_of_step node) → IsSettled inputs is_step node mid new rest
       → IsNode old new (settled (length inputs + length old) is_step us u) (ts ++ own is_step t) t
       rest
   node-settled true old mid new us ts u t node rest grown term dims done =
@@ -98,7 +98,7 @@ module _ (inputs : List Contents) where
 
   node-unary : (whole : Bool) (o : Unary) (a : Term) (old mid new : List Step) (x node rest : Step)
       → IsCut inputs (combines o) a old mid x → term_of_step node ≡ unary o (term_of_step x)
-      → dims_of highest_rank (unary o a) inputs ≡ Ok (dims_of_step node)
+      → dims_of widest (unary o a) inputs ≡ Ok (dims_of_step node)
       → IsSettled inputs (whole || combines o) node mid new rest
       → IsCut inputs whole (unary o a) old new rest
   node-unary whole o a old mid new x node rest first term dims done =
@@ -126,7 +126,7 @@ module _ (inputs : List Contents) where
       (x y node rest : Step)
       → IsCut inputs (combines_two o) a old mid x → IsCut inputs (combines_two o) b mid late y
       → term_of_step node ≡ binary o (term_of_step x) (term_of_step y)
-      → dims_of highest_rank (binary o a b) inputs ≡ Ok (dims_of_step node)
+      → dims_of widest (binary o a b) inputs ≡ Ok (dims_of_step node)
       → IsSettled inputs (whole || combines_two o) node late new rest
       → IsCut inputs whole (binary o a b) old new rest
   node-binary whole o a b old mid late new x y node rest first second term dims done =
@@ -152,7 +152,7 @@ module _ (inputs : List Contents) where
       → IsCut inputs false a old mid x → IsCut inputs false b mid late y
       → IsCut inputs false c late last z
       → term_of_step node ≡ ternary o (term_of_step x) (term_of_step y) (term_of_step z)
-      → dims_of highest_rank (ternary o a b c) inputs ≡ Ok (dims_of_step node)
+      → dims_of widest (ternary o a b c) inputs ≡ Ok (dims_of_step node)
       → IsSettled inputs whole node last new rest
       → IsCut inputs whole (ternary o a b c) old new rest
   node-ternary whole o a b c old mid late last new x y z node rest first second third term dims
@@ -188,20 +188,20 @@ module _ (inputs : List Contents) where
   pub cut-unary : (whole w : Bool) (o : Unary) (a t u : Term) (old mid new : List Step)
       (x node rest : Step) → unary o a ≡ t → w ≡ combines o
       → IsCut inputs w a old mid x → term_of_step node ≡ unary o u → u ≡ term_of_step x
-      → dims_of highest_rank t inputs ≡ Ok (dims_of_step node)
+      → dims_of widest t inputs ≡ Ok (dims_of_step node)
       → IsSettled inputs (whole || w) node mid new rest → IsCut inputs whole t old new rest
   cut-unary whole w o a t u old mid new x node rest is_t is_w first term is_u dims done =
       subst (λ r. IsCut inputs whole r old new rest) is_t
       (node-unary whole o a old mid new x node rest
       (subst (λ b. IsCut inputs b a old mid x) is_w first)
-      (term ∙ ap (unary o) is_u) (ap (λ r. dims_of highest_rank r inputs) is_t ∙ dims)
+      (term ∙ ap (unary o) is_u) (ap (λ r. dims_of widest r inputs) is_t ∙ dims)
       (subst (λ b. IsSettled inputs (whole || b) node mid new rest) is_w done))
 
   pub cut-binary : (whole w : Bool) (o : Binary) (a b t u v : Term) (old mid late new : List Step)
       (x y node rest : Step) → binary o a b ≡ t
       → w ≡ combines_two o → IsCut inputs w a old mid x → IsCut inputs w b mid late y
       → term_of_step node ≡ binary o u v → u ≡ term_of_step x → v ≡ term_of_step y
-      → dims_of highest_rank t inputs ≡ Ok (dims_of_step node)
+      → dims_of widest t inputs ≡ Ok (dims_of_step node)
       → IsSettled inputs (whole || w) node late new rest → IsCut inputs whole t old new rest
   cut-binary whole w o a b t u v old mid late new x y node rest is_t is_w first second term is_u
       is_v dims done =
@@ -210,7 +210,7 @@ module _ (inputs : List Contents) where
       (subst (λ c. IsCut inputs c a old mid x) is_w first)
       (subst (λ c. IsCut inputs c b mid late y) is_w second)
       (term ∙ ap (λ r. binary o r v) is_u ∙ ap (binary o (term_of_step x)) is_v)
-      (ap (λ r. dims_of highest_rank r inputs) is_t ∙ dims)
+      (ap (λ r. dims_of widest r inputs) is_t ∙ dims)
       (subst (λ c. IsSettled inputs (whole || c) node late new rest) is_w done))
 
   pub cut-ternary : (whole : Bool) (o : Ternary) (a b c t u v w : Term)
@@ -219,7 +219,7 @@ module _ (inputs : List Contents) where
       → IsCut inputs false c late last z
       → term_of_step node ≡ ternary o u v w → u ≡ term_of_step x → v ≡ term_of_step y
       → w ≡ term_of_step z
-      → dims_of highest_rank t inputs ≡ Ok (dims_of_step node) → IsSettled inputs whole node last new rest
+      → dims_of widest t inputs ≡ Ok (dims_of_step node) → IsSettled inputs whole node last new rest
       → IsCut inputs whole t old new rest
   cut-ternary whole o a b c t u v w old mid late last new x y z node rest is_t first second third
       term is_u is_v is_w dims done =
@@ -228,4 +228,4 @@ module _ (inputs : List Contents) where
       subst (λ r. IsCut inputs whole r old new rest) is_t
       (node-ternary whole o a b c old mid late last new x y z node rest first second third
       (term ∙ same)
-      (ap (λ r. dims_of highest_rank r inputs) is_t ∙ dims) done)
+      (ap (λ r. dims_of widest r inputs) is_t ∙ dims) done)

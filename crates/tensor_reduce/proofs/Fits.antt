@@ -5,7 +5,7 @@ use Rattle.std.proofs.Common.{arith}
 use Rattle.std.proofs.lemmas.Bool.{and_parts}
 use Rattle.std.proofs.lemmas.List.{length-append, length-map, append-nil, append_assoc}
 use Rattle.std.proofs.lemmas.List.{get_or_append_left}
-use Rattle.tensor_ops.specs.Legal.{highest_rank}
+use Rattle.tensor_ops.specs.Legal.{widest}
 use Rattle.tensor_ops.specs.Contents.{Contents, nothing}
 use Rattle.tensor_ops.specs.Result.{dims_of, unary_dims, binary_dims, ternary_dims}
 use Rattle.tensor_ops.specs.Term.{Term, input, unary, binary, ternary, has_inputs}
@@ -93,7 +93,7 @@ module _ (inputs : List Contents) where
 
   fit-cut : (t : Term) (tensors : List Contents) (whole : Bool) (before : ℕ)
       → before ≡ length tensors → AreOver inputs tensors
-      → has_inputs t (length inputs) ≡ true → IsOk (dims_of highest_rank t inputs)
+      → has_inputs t (length inputs) ≡ true → IsOk (dims_of widest t inputs)
       → length tensors + length (operand_nodes whole t) ≤ 2 ^ 32
       → AreFit tensors (cut before whole t).steps (operand_nodes whole t)
   fit-cut (input n) tensors whole before here over names has few = tt
@@ -101,7 +101,7 @@ module _ (inputs : List Contents) where
       let c : Bool = combines o in
       let ts : List Term = operand_nodes c a in
       let x : Cut = cut before c a in
-      let known = with_one-known (unary_dims highest_rank o) (dims_of highest_rank a inputs) has in
+      let known = with_one-known (unary_dims widest o) (dims_of widest a inputs) has in
       let room : length tensors + length ts ≤ 2 ^ 32 =
       omega (arith, length-append ts (own (whole || c) (unary o a))) in
       let first = fit-cut a tensors c before here over names known.0 room in
@@ -121,7 +121,7 @@ module _ (inputs : List Contents) where
       let x : Cut = cut before c a in
       let next : ℕ = before + length x.steps in
       let y : Cut = cut next c b in
-      let known = with_two-known (binary_dims highest_rank o) (dims_of highest_rank a inputs) (dims_of highest_rank b inputs) has in
+      let known = with_two-known (binary_dims widest o) (dims_of widest a inputs) (dims_of widest b inputs) has in
       let each = and_parts (has_inputs a (length inputs)) (has_inputs b (length inputs)) names in
       let long : length (xs ++ ys ++ last) ≡ length xs + length ys + length last =
       omega (arith, length-append (xs ++ ys) last, length-append xs ys) in
@@ -164,8 +164,8 @@ module _ (inputs : List Contents) where
       let y : Cut = cut next false b in
       let after : ℕ = next + length y.steps in
       let z : Cut = cut after false c in
-      let known = with_three-known (ternary_dims o) (dims_of highest_rank a inputs) (dims_of highest_rank b inputs)
-      (dims_of highest_rank c inputs) has in
+      let known = with_three-known (ternary_dims o) (dims_of widest a inputs) (dims_of widest b inputs)
+      (dims_of widest c inputs) has in
       let n : ℕ = length inputs in
       let each = and_parts (has_inputs a n) (has_inputs b n && has_inputs c n) names in
       let others = and_parts (has_inputs b n) (has_inputs c n) each.1 in
@@ -218,7 +218,7 @@ module _ (inputs : List Contents) where
   itself few = record { first = λ n below. refl; more = omega arith; few = few }
 
   -- the steps of an expression fit, where there are numbers for them
-  pub fit-steps_of : (t : Term) → has_inputs t (length inputs) ≡ true → IsOk (dims_of highest_rank t inputs)
+  pub fit-steps_of : (t : Term) → has_inputs t (length inputs) ≡ true → IsOk (dims_of widest t inputs)
       → length inputs + length (step_nodes t) < 2 ^ 32
       → AreFit inputs (steps_of (length inputs) t) (step_nodes t)
   fit-steps_of (input n) names has few =
@@ -247,21 +247,21 @@ module _ (inputs : List Contents) where
   -- steps of these terms, with the dims of their nodes, are ready
   pub AreReady-fit : (tensors : List Contents) (steps : List Step) (us ts : List Term)
       → AreFit tensors us ts → terms_in steps ≡ us
-      → dims_in steps ≡ map (λ t. dims_of highest_rank t inputs) ts → AreReady steps tensors
+      → dims_in steps ≡ map (λ t. dims_of widest t inputs) ts → AreReady steps tensors
   AreReady-fit tensors [] us ts fit terms dims = tt
   AreReady-fit tensors (s ∷ steps) [] ts fit terms dims = (cc)
   AreReady-fit tensors (s ∷ steps) (u ∷ us) [] fit terms dims = (cc)
   AreReady-fit tensors (s ∷ steps) (u ∷ us) (t ∷ ts) fit terms dims =
       let term : term_of_step s ≡ u = (cc) in
-      let shape : Ok (dims_of_step s) ≡ dims_of highest_rank t inputs = (cc) in
+      let shape : Ok (dims_of_step s) ≡ dims_of widest t inputs = (cc) in
       let rest : terms_in steps ≡ us = (cc) in
-      let shapes : dims_in steps ≡ map (λ x. dims_of highest_rank x inputs) ts = (cc) in
+      let shapes : dims_in steps ≡ map (λ x. dims_of widest x inputs) ts = (cc) in
       let same : tensor_of (term_of_step s) tensors ≡ tensor_of t inputs =
       ap (λ v. tensor_of v tensors) term ∙ tensor_of-same u t tensors inputs fit.0.same in (
         record {
           single = ap is_single term ∙ fit.0.single;
           inputs = ap (λ v. has_inputs v (length tensors)) term ∙ fit.0.names;
-          dims = ap (λ v. dims_of highest_rank v tensors) term ∙ fit.0.same.dims ∙ sym shape;
+          dims = ap (λ v. dims_of widest v tensors) term ∙ fit.0.same.dims ∙ sym shape;
         },
         subst (λ x. AreReady steps (tensors ++ x ∷ [])) (sym same)
             (AreReady-fit (tensors ++ tensor_of t inputs ∷ []) steps us ts fit.1 rest shapes),

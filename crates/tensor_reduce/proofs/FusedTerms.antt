@@ -6,7 +6,7 @@ use Rattle.std.proofs.lemmas.Bool.{cases_Bool, cases_lt, and_parts, and_from, eq
 use Rattle.std.proofs.lemmas.Bool.{eqb-false, lt-ltb, ltb-true, or_left, or_right, or_parts, or_cases}
 use Rattle.std.specs.Prelude.{nat_eq}
 use Rattle.tensor_ops.specs.Contents.{Contents, input_of}
-use Rattle.tensor_ops.specs.Legal.{highest_rank}
+use Rattle.tensor_ops.specs.Legal.{widest}
 use Rattle.tensor_ops.specs.Parts.{has_parts}
 use Rattle.tensor_ops.specs.Result.{dims_of, unary_dims, binary_dims, ternary_dims}
 use Rattle.tensor_ops.specs.Term.{Term, input, unary, binary, ternary, has_inputs, Unary, Binary}
@@ -62,22 +62,22 @@ ReadDirectly n (ternary o a b c) = Unit {0}
 
 module _ (held all : List Contents) where
   -- a term that reads what is there is the tensor that it is over all
-  pub same-read : (t : Term) → IsOk (dims_of highest_rank t all)
+  pub same-read : (t : Term) → IsOk (dims_of widest t all)
       → ((n : ℕ) → reads n t ≡ true → input_of held n ≡ input_of all n)
       → IsSameTensor t held t all
   same-read (input n) has there = same-input held all n (there n (nat_eq-itself n))
   same-read (unary o a) has there =
-      let known = with_one-known (unary_dims highest_rank o) (dims_of highest_rank a all) has in
+      let known = with_one-known (unary_dims widest o) (dims_of widest a all) has in
       same-unary held all o a a has (same-read a known.0 there)
   same-read (binary o a b) has there =
-      let known = with_two-known (binary_dims highest_rank o) (dims_of highest_rank a all)
-      (dims_of highest_rank b all) has in
+      let known = with_two-known (binary_dims widest o) (dims_of widest a all)
+      (dims_of widest b all) has in
       same-binary held all o a a b b has
       (same-read a known.0 (λ n r. there n (or_left (reads n a) (reads n b) r)))
       (same-read b known.1 (λ n r. there n (or_right (reads n a) (reads n b) r)))
   same-read (ternary o a b c) has there =
-      let known = with_three-known (ternary_dims o) (dims_of highest_rank a all)
-      (dims_of highest_rank b all) (dims_of highest_rank c all) has in
+      let known = with_three-known (ternary_dims o) (dims_of widest a all)
+      (dims_of widest b all) (dims_of widest c all) has in
       same-ternary held all o a a b b c c has
       (same-read a known.0 (λ n r. there n (or_left (reads n a) (reads n b || reads n c) r)))
       (same-read b known.1 (λ n r. there n (or_right (reads n a) (reads n b || reads n c)
@@ -86,14 +86,14 @@ module _ (held all : List Contents) where
       (or_right (reads n b) (reads n c) r))))
 
   -- so is one that doesn't read the only tensor that isn't there
-  same-unread : (n : ℕ) (t : Term) → reads n t ≡ false → IsOk (dims_of highest_rank t all)
+  same-unread : (n : ℕ) (t : Term) → reads n t ≡ false → IsOk (dims_of widest t all)
       → ((m : ℕ) → reads m t ≡ true → nat_eq m n ≡ false → input_of held m ≡ input_of all m)
       → IsSameTensor t held t all
   same-unread n t unread has there = same-read t has (λ m r. there m r (other-read n m t r unread))
 
   -- an operand, or what stands in its place
   same-instead : (n : ℕ) (u a : Term) → ReadsDirectly n a → IsSameTensor u held (input n) all
-      → IsOk (dims_of highest_rank a all)
+      → IsOk (dims_of widest a all)
       → ((m : ℕ) → reads m a ≡ true → nat_eq m n ≡ false → input_of held m ≡ input_of all m)
       → IsSameTensor (instead n u a) held a all
   same-instead n u (input m) direct same has there =
@@ -221,18 +221,18 @@ reads-fused_with m n u (ternary o a b c) reading =
 module _ (held all : List Contents) (n : ℕ) (u : Term) where
   -- what combines, over a term in the place of a tensor
   pub same-fused_with : (t : Term) → is_combining t ≡ true → ReadDirectly n t
-      → IsOk (dims_of highest_rank t all)
+      → IsOk (dims_of widest t all)
       → IsSameTensor u held (input n) all
       → ((m : ℕ) → reads m t ≡ true → nat_eq m n ≡ false → input_of held m ≡ input_of all m)
       → IsSameTensor (fused_with n u t) held t all
   same-fused_with (input m) combining direct has same there = (cc)
   same-fused_with (unary o a) combining direct has same there =
-      let known = with_one-known (unary_dims highest_rank o) (dims_of highest_rank a all) has in
+      let known = with_one-known (unary_dims widest o) (dims_of widest a all) has in
       same-unary held all o (instead n u a) a has
       (same-instead held all n u a direct same known.0 there)
   same-fused_with (binary o a b) combining direct has same there =
-      let known = with_two-known (binary_dims highest_rank o) (dims_of highest_rank a all)
-      (dims_of highest_rank b all) has in
+      let known = with_two-known (binary_dims widest o) (dims_of widest a all)
+      (dims_of widest b all) has in
       same-binary held all o (instead n u a) a (instead n u b) b has
       (same-instead held all n u a direct.0 same known.0
       (λ m r. there m (or_left (reads m a) (reads m b) r)))

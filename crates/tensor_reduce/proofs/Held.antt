@@ -9,7 +9,7 @@ use Rattle.std.specs.Prelude.{nat_eq}
 use Rattle.std.specs.Result.{result_unwrap_or}
 use Rattle.tensor_ops.specs.Index.{IsIndexOf}
 use Rattle.tensor_ops.specs.Contents.{Contents, input_of, nothing, value_at}
-use Rattle.tensor_ops.specs.Legal.{highest_rank}
+use Rattle.tensor_ops.specs.Legal.{widest}
 use Rattle.tensor_ops.specs.Result.{dims_of, shape_of}
 use Rattle.tensor_ops.specs.Term.{Term, input, has_inputs}
 use Rattle.tensor_ops.specs.Value.{tensor_of}
@@ -59,7 +59,7 @@ IsFusedTensor-term (suc n) (s ∷ left) held all t is = (
 -- and it has the dims of that step
 pub IsFusedTerm-dims : (n : ℕ) (left later : List Step) (held all : List Contents) (t : Term)
     (s : Step) → AreReady left all → IsFusedTerm n left held all t → drop n left ≡ s ∷ later
-    → dims_of highest_rank t held ≡ Ok (dims_of_step s)
+    → dims_of widest t held ≡ Ok (dims_of_step s)
 IsFusedTerm-dims n [] later held all t s ready is here = absurd is
 IsFusedTerm-dims zero (x ∷ left) later held all t s ready is here =
     let same : x ≡ s = (cc here) in is.dims ∙ ready.0.dims ∙ ap (λ y. Ok (dims_of_step y)) same
@@ -179,7 +179,7 @@ AreHeld-fused left whole held more t are is =
     (λ n r. for.read n (reading-later (suc (length more)) left n r)) (is are.0 for))
 
 -- a term that gives a tensor is read as that is, by the number of the tensor
-pub same-as-read : (u t : Term) (held all : List Contents) (n : ℕ) → IsOk (dims_of highest_rank t all)
+pub same-as-read : (u t : Term) (held all : List Contents) (n : ℕ) → IsOk (dims_of widest t all)
     → n ≡ length all → IsSameTensor u held t all
     → IsSameTensor u held (input n) (all ++ tensor_of t all ∷ [])
 same-as-read u t held all n has place same =
@@ -188,7 +188,7 @@ same-as-read u t held all n has place same =
     let shape : (input_of (all ++ tensor_of t all ∷ []) n).dims ≡ shape_of t all =
     ap (λ x. x.dims) here in
     record {
-      dims = same.dims ∙ Ok-unwrap (dims_of highest_rank t all) has ∙ ap Ok (sym shape);
+      dims = same.dims ∙ Ok-unwrap (dims_of widest t all) has ∙ ap Ok (sym shape);
       values = λ index inside.
           let at : IsIndexOf (shape_of t all) index =
           subst (λ d. IsIndexOf d index) shape inside in
@@ -274,7 +274,7 @@ module _ (s r : Step) (later : List Step) (held all : List Contents)
       (omega (arith, place, are.as_many)) combining
       (ReadDirectly-single n (term_of_step r) combining are.ready.1.0.single)
 
-  pub dims-two : dims_of highest_rank joined-two held ≡ Ok (dims_of_step r)
+  pub dims-two : dims_of widest joined-two held ≡ Ok (dims_of_step r)
   dims-two = same-two.dims ∙ are.ready.1.0.dims
 
   -- and gives its tensor
@@ -310,7 +310,7 @@ module _ (s r c : Step) (later : List Step) (held all : List Contents)
       ReadDirectly-fused_with n (n + 1) (term_of_step r) (term_of_step c) combining
       are.ready.1.1.0.single apart
 
-  dims-inner : dims_of highest_rank inner one ≡ Ok (dims_of_step c)
+  dims-inner : dims_of widest inner one ≡ Ok (dims_of_step c)
   dims-inner = dims-two r c later one one all-one combining (n + 1) place-one
 
   read-inner : (m : ℕ) → reads m inner ≡ true → nat_eq m n ≡ false
@@ -341,7 +341,7 @@ module _ (s r c : Step) (later : List Step) (held all : List Contents)
       ∙ names-two r c later one one all-one combining (n + 1) place-one)
       (omega (arith, place, are.as_many)) combining-inner direct-inner
 
-  pub dims-three : dims_of highest_rank joined-three held ≡ Ok (dims_of_step c)
+  pub dims-three : dims_of widest joined-three held ≡ Ok (dims_of_step c)
   dims-three = same-three.dims ∙ dims-inner
 
   pub IsFusedTerm-three : are_reading n later ≡ false → are_reading (n + 1) later ≡ false

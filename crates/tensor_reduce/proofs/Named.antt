@@ -6,7 +6,7 @@ use Rattle.std.proofs.lemmas.Bool.{cases_Bool, and_parts, and_from, or_parts}
 use Rattle.std.proofs.lemmas.Bool.{lt-ltb, ltb-true}
 use Rattle.std.proofs.lemmas.List.{length-append, append-nil, append_assoc}
 use Rattle.std.proofs.Math.Seq.{get_or-append_seam}
-use Rattle.tensor_ops.specs.Legal.{highest_rank}
+use Rattle.tensor_ops.specs.Legal.{widest}
 use Rattle.tensor_ops.specs.Contents.{Contents, input_of, nothing}
 use Rattle.tensor_ops.specs.Result.{dims_of, unary_dims, binary_dims, ternary_dims}
 use Rattle.tensor_ops.specs.Term.{Term, input, unary, binary, ternary, Unary, Binary, Ternary}
@@ -147,7 +147,7 @@ module _ (inputs : List Contents) where
         }
 
     -- the tensor of a step
-    left-step : (place : ℕ) (t : Term) → place < length tensors → IsOk (dims_of highest_rank t inputs)
+    left-step : (place : ℕ) (t : Term) → place < length tensors → IsOk (dims_of widest t inputs)
         → input_of tensors place ≡ tensor_of t inputs
         → IsLeft tensors (input (number_of place)) t
     left-step place t below has here =
@@ -164,7 +164,7 @@ module _ (inputs : List Contents) where
     left-settled : (before : ℕ) (is_step : Bool) (us ts : List Term) (u t : Term)
         → length us ≡ length ts
         → before + length (ts ++ own is_step t) ≤ length tensors
-        → AreAt tensors before (ts ++ own is_step t) → IsOk (dims_of highest_rank t inputs)
+        → AreAt tensors before (ts ++ own is_step t) → IsOk (dims_of widest t inputs)
         → (is_step ≡ false → IsLeft tensors u t)
         → IsLeft tensors (settled before is_step us u).left t
     left-settled before true us ts u t same within at has alone =
@@ -173,7 +173,7 @@ module _ (inputs : List Contents) where
         (ap (λ n. input_of tensors (before + n)) same ∙ last.0)
     left-settled before false us ts u t same within at has alone = alone refl
 
-    pub body-unary : (o : Unary) (u a : Term) → IsOk (dims_of highest_rank (unary o a) inputs)
+    pub body-unary : (o : Unary) (u a : Term) → IsOk (dims_of widest (unary o a) inputs)
         → IsLeft tensors u a
         → (combines o ≡ true → is_input u ≡ true)
         → IsBody tensors (combines o) (unary o u) (unary o a)
@@ -188,7 +188,7 @@ module _ (inputs : List Contents) where
       plain = λ plain. rw plain left.plain;
     }
 
-    pub body-binary : (o : Binary) (u v a b : Term) → IsOk (dims_of highest_rank (binary o a b) inputs)
+    pub body-binary : (o : Binary) (u v a b : Term) → IsOk (dims_of widest (binary o a b) inputs)
         → IsLeft tensors u a → IsLeft tensors v b
         → (combines_two o ≡ true → (is_input u ≡ true) × (is_input v ≡ true))
         → IsBody tensors (combines_two o) (binary o u v) (binary o a b)
@@ -210,7 +210,7 @@ module _ (inputs : List Contents) where
         }
 
     pub body-ternary : (o : Ternary) (u v w a b c : Term)
-        → IsOk (dims_of highest_rank (ternary o a b c) inputs) → IsLeft tensors u a → IsLeft tensors v b
+        → IsOk (dims_of widest (ternary o a b c) inputs) → IsLeft tensors u a → IsLeft tensors v b
         → IsLeft tensors w c → IsBody tensors false (ternary o u v w) (ternary o a b c)
     body-ternary o u v w a b c has first second third =
         let plain = and_from (combines_nothing u) (combines_nothing v && combines_nothing w)
@@ -240,7 +240,7 @@ module _ (inputs : List Contents) where
   -- what is left of an operand, over tensors among which are those of its steps
   pub left-cut : (t : Term) (tensors : List Contents) (over : AreOver tensors) (before : ℕ)
       (whole : Bool)
-      → has_inputs t (length inputs) ≡ true → IsOk (dims_of highest_rank t inputs)
+      → has_inputs t (length inputs) ≡ true → IsOk (dims_of widest t inputs)
       → AreAt tensors before (operand_nodes whole t)
       → before + length (operand_nodes whole t) ≤ length tensors
       → IsLeft tensors (cut before whole t).left t
@@ -250,7 +250,7 @@ module _ (inputs : List Contents) where
       let ts : List Term = operand_nodes c a in
       let last : List Term = own (whole || c) (unary o a) in
       let x : Cut = cut before c a in
-      let known = with_one-known (unary_dims highest_rank o) (dims_of highest_rank a inputs) has in
+      let known = with_one-known (unary_dims widest o) (dims_of widest a inputs) has in
       let left = left-cut a tensors over before c names known.0
       (AreAt-left tensors before ts last at) (omega (arith, length-append ts last)) in
       let body = body-unary tensors over o x.left a has left
@@ -266,7 +266,7 @@ module _ (inputs : List Contents) where
       let x : Cut = cut before c a in
       let next : ℕ = before + length x.steps in
       let y : Cut = cut next c b in
-      let known = with_two-known (binary_dims highest_rank o) (dims_of highest_rank a inputs) (dims_of highest_rank b inputs) has in
+      let known = with_two-known (binary_dims widest o) (dims_of widest a inputs) (dims_of widest b inputs) has in
       let each = and_parts (has_inputs a (length inputs)) (has_inputs b (length inputs)) names in
       let front = AreAt-left tensors before (xs ++ ys) last at in
       let there : before + length xs ≡ next = omega (arith, length-cut a before c) in
@@ -304,8 +304,8 @@ module _ (inputs : List Contents) where
       let y : Cut = cut next false b in
       let after : ℕ = next + length y.steps in
       let z : Cut = cut after false c in
-      let known = with_three-known (ternary_dims o) (dims_of highest_rank a inputs) (dims_of highest_rank b inputs)
-      (dims_of highest_rank c inputs) has in
+      let known = with_three-known (ternary_dims o) (dims_of widest a inputs) (dims_of widest b inputs)
+      (dims_of widest c inputs) has in
       let n : ℕ = length inputs in
       let each = and_parts (has_inputs a n) (has_inputs b n && has_inputs c n) names in
       let others = and_parts (has_inputs b n) (has_inputs c n) each.1 in

@@ -4,7 +4,7 @@ use Rattle.std.proofs.Common.{true, Ok, length, get_or, take, drop}
 use Rattle.std.proofs.Common.{refl, ap, sym, subst, ◌∙◌, arith}
 use Rattle.std.proofs.lemmas.List.{length-append, length-drop, take_all, append_assoc, append-nil}
 use Rattle.tensor_ops.specs.Contents.{Contents}
-use Rattle.tensor_ops.specs.Legal.{highest_rank}
+use Rattle.tensor_ops.specs.Legal.{widest}
 use Rattle.tensor_ops.specs.Result.{dims_of}
 use Rattle.tensor_ops.specs.Term.{has_inputs}
 use Rattle.tensor_reduce.specs.private.Held.{AreHeldFor, HasMore}
@@ -86,7 +86,7 @@ module _ (left : List Step) (held all : List Contents) (are : AreHeldFor left he
       is.1.apart
 
   pub dims-next : (next : Next) → IsNextOf left (length held) next
-      → dims_of highest_rank (next_term next) held ≡ Ok (next_dims next)
+      → dims_of widest (next_term next) held ≡ Ok (next_dims next)
   dims-next (Alone s schedule) is =
       (IsReady-held s.now (drop 1 left) held all (there _ is.steps)).dims
   dims-next (Fused n s r schedule) is =

@@ -2,7 +2,7 @@
 use Rattle.std.proofs.Common.{◌≡◌, ℕ, ◌<◌, List, [], ◌∷◌, length, ◌&&◌, true, Ok, IsOk}
 use Rattle.std.proofs.Common.{ap, subst, sym, ◌∙◌, arith}
 use Rattle.std.proofs.lemmas.Bool.{and_parts}
-use Rattle.tensor_ops.specs.Legal.{highest_rank}
+use Rattle.tensor_ops.specs.Legal.{widest}
 use Rattle.tensor_ops.specs.Contents.{Contents}
 use Rattle.tensor_ops.specs.Result.{dims_of, operand_dims, unary_dims, binary_dims, ternary_dims}
 use Rattle.tensor_ops.specs.Term.{Term, unary, binary, ternary, Unary, Binary, Ternary}
@@ -13,7 +13,7 @@ module _ (inputs : List Contents) where
   -- a term with its inputs and with dims
   pub record HasDims (t : Term) : Type 0 where
     pub names : has_inputs t (length inputs) ≡ true
-    pub dims : IsOk (dims_of highest_rank t inputs)
+    pub dims : IsOk (dims_of widest t inputs)
 
   -- an operand of such a term, with fewer nodes
   pub record IsOperand (t a : Term) : Type 0 where
@@ -27,7 +27,7 @@ module _ (inputs : List Contents) where
         fewer = omega arith;
         has = record {
           names = all.names;
-          dims = (with_one-known (unary_dims highest_rank o) (dims_of highest_rank a inputs)
+          dims = (with_one-known (unary_dims widest o) (dims_of widest a inputs)
               all.dims).0;
         };
       }) whole
@@ -39,8 +39,8 @@ module _ (inputs : List Contents) where
       (λ all.
       let n = length inputs in
       let names = and_parts (has_inputs a n) (has_inputs b n) all.names in
-      let dims = with_two-known (binary_dims highest_rank o) (dims_of highest_rank a inputs)
-      (dims_of highest_rank b inputs) all.dims in (
+      let dims = with_two-known (binary_dims widest o) (dims_of widest a inputs)
+      (dims_of widest b inputs) all.dims in (
         record { fewer = omega arith; has = record { names = names.0; dims = dims.0 } },
         record { fewer = omega arith; has = record { names = names.1; dims = dims.1 } },
       )) whole
@@ -53,8 +53,8 @@ module _ (inputs : List Contents) where
       let n = length inputs in
       let names = and_parts (has_inputs a n) (has_inputs b n && has_inputs c n) all.names in
       let others = and_parts (has_inputs b n) (has_inputs c n) names.1 in
-      let dims = with_three-known (ternary_dims o) (dims_of highest_rank a inputs)
-      (dims_of highest_rank b inputs) (dims_of highest_rank c inputs) all.dims in (
+      let dims = with_three-known (ternary_dims o) (dims_of widest a inputs)
+      (dims_of widest b inputs) (dims_of widest c inputs) all.dims in (
         record { fewer = omega arith; has = record { names = names.0; dims = dims.0 } },
         record { fewer = omega arith; has = record { names = others.0; dims = dims.1 } },
         record { fewer = omega arith; has = record { names = others.1; dims = dims.2 } },
@@ -62,23 +62,23 @@ module _ (inputs : List Contents) where
 
   -- the dims of the operands are those that were found of each
   pub dims-unary : (o : Unary) (a t : Term) (d : List ℕ) → unary o a ≡ t
-      → dims_of highest_rank a inputs ≡ Ok d → operand_dims highest_rank t inputs ≡ Ok d ∷ []
+      → dims_of widest a inputs ≡ Ok d → operand_dims widest t inputs ≡ Ok d ∷ []
   dims-unary o a t d is first =
-      sym (ap (λ r. operand_dims highest_rank r inputs) is) ∙ ap (λ x. x ∷ []) first
+      sym (ap (λ r. operand_dims widest r inputs) is) ∙ ap (λ x. x ∷ []) first
 
   pub dims-binary : (o : Binary) (a b t : Term) (d e : List ℕ) → binary o a b ≡ t
-      → dims_of highest_rank a inputs ≡ Ok d → dims_of highest_rank b inputs ≡ Ok e
-      → operand_dims highest_rank t inputs ≡ Ok d ∷ Ok e ∷ []
+      → dims_of widest a inputs ≡ Ok d → dims_of widest b inputs ≡ Ok e
+      → operand_dims widest t inputs ≡ Ok d ∷ Ok e ∷ []
   dims-binary o a b t d e is first second =
-      sym (ap (λ r. operand_dims highest_rank r inputs) is)
-      ∙ ap (λ x. x ∷ dims_of highest_rank b inputs ∷ []) first ∙ ap (λ x. Ok d ∷ x ∷ []) second
+      sym (ap (λ r. operand_dims widest r inputs) is)
+      ∙ ap (λ x. x ∷ dims_of widest b inputs ∷ []) first ∙ ap (λ x. Ok d ∷ x ∷ []) second
 
   pub dims-ternary : (o : Ternary) (a b c t : Term) (d e f : List ℕ) → ternary o a b c ≡ t
-      → dims_of highest_rank a inputs ≡ Ok d → dims_of highest_rank b inputs ≡ Ok e
-      → dims_of highest_rank c inputs ≡ Ok f
-      → operand_dims highest_rank t inputs ≡ Ok d ∷ Ok e ∷ Ok f ∷ []
+      → dims_of widest a inputs ≡ Ok d → dims_of widest b inputs ≡ Ok e
+      → dims_of widest c inputs ≡ Ok f
+      → operand_dims widest t inputs ≡ Ok d ∷ Ok e ∷ Ok f ∷ []
   dims-ternary o a b c t d e f is first second third =
-      sym (ap (λ r. operand_dims highest_rank r inputs) is)
-      ∙ ap (λ x. x ∷ dims_of highest_rank b inputs ∷ dims_of highest_rank c inputs ∷ []) first
-      ∙ ap (λ x. Ok d ∷ x ∷ dims_of highest_rank c inputs ∷ []) second
+      sym (ap (λ r. operand_dims widest r inputs) is)
+      ∙ ap (λ x. x ∷ dims_of widest b inputs ∷ dims_of widest c inputs ∷ []) first
+      ∙ ap (λ x. Ok d ∷ x ∷ dims_of widest c inputs ∷ []) second
       ∙ ap (λ x. Ok d ∷ Ok e ∷ x ∷ []) third

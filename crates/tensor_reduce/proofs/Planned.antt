@@ -3,7 +3,7 @@ use Rattle.std.proofs.Common.{◌≡◌, ◌+◌, ◌-◌, ◌^◌, ◌<◌, ◌
 use Rattle.std.proofs.Common.{Bool, true, false, ◌||◌, Ok, IsOk, refl, ap, sym, ◌∙◌, arith}
 use Rattle.std.proofs.lemmas.List.{length-append, length-map, map-append, append_assoc}
 use Rattle.std.proofs.Math.Seq.{get_or-append_seam}
-use Rattle.tensor_ops.specs.Legal.{highest_rank}
+use Rattle.tensor_ops.specs.Legal.{widest}
 use Rattle.tensor_ops.specs.Contents.{Contents, nothing, input_of}
 use Rattle.tensor_ops.specs.Result.{dims_of}
 use Rattle.tensor_ops.specs.Shaped.{Shaped}
@@ -102,7 +102,7 @@ module _ (inputs : List Contents) (t : Term) (steps : List Step) where
         arith,
         ap length are.nodes,
         length-map {B = Shaped} steps (λ s. Ok (dims_of_step s)),
-        length-map (step_nodes t) (λ a. dims_of highest_rank a inputs),
+        length-map (step_nodes t) (λ a. dims_of widest a inputs),
       )
 
   pub some-steps_of : AreStepsOf inputs t steps → 0 < length steps
@@ -118,7 +118,7 @@ module _ (inputs : List Contents) (t : Term) (steps : List Step) where
   pub length-steps_of : AreStepsOf inputs t steps → length steps ≤ nodes_of t
   length-steps_of are = omega (arith, length-steps are, length-step_nodes t)
 
-  module _ (names : has_inputs t (length inputs) ≡ true) (has : IsOk (dims_of highest_rank t inputs))
+  module _ (names : has_inputs t (length inputs) ≡ true) (has : IsOk (dims_of widest t inputs))
       (are : AreStepsOf inputs t steps)
       (few : length inputs + length steps < 2 ^ 32) where
     fit : AreFit inputs inputs (steps_of (length inputs) t) (step_nodes t)

@@ -11,7 +11,7 @@ use Rattle.std.specs.List.{range_with_len}
 use Rattle.std.specs.Result.{result_unwrap_or}
 use Rattle.tensor_ops.specs.Contents.{Contents}
 use Rattle.tensor_ops.specs.Index.{size_of, index_of}
-use Rattle.tensor_ops.specs.Legal.{highest_rank}
+use Rattle.tensor_ops.specs.Legal.{widest}
 use Rattle.tensor_ops.specs.Parts.{has_parts, inner_size, part_value, whole_value}
 use Rattle.tensor_ops.specs.Combining.{combination}
 use Rattle.tensor_ops.specs.Result.{dims_of, shape_of}
@@ -116,7 +116,7 @@ tensor_of-shards t inputs w shards found made parts wide are is dims values =
 
 -- the same of a term and tensors that are known by others
 module _ (t s : Term) (inputs others : List Contents) (term : s ≡ t) (tensors : others ≡ inputs)
-    (ds : List ℕ) (has : dims_of highest_rank t inputs ≡ Ok ds) where
+    (ds : List ℕ) (has : dims_of widest t inputs ≡ Ok ds) where
   same-inner : inner_size s others ≡ inner_size t inputs
   same-inner = ap (λ x. inner_size x others) term ∙ ap (inner_size t) tensors
 

@@ -6,7 +6,7 @@ use Rattle.std.proofs.lemmas.Bool.{eq-eqb, eqb-true, or_parts}
 use Rattle.std.proofs.lemmas.List.{append_assoc, drop-drop, length-append}
 use Rattle.std.specs.Prelude.{nat_eq}
 use Rattle.tensor_ops.specs.Contents.{Contents, input_of}
-use Rattle.tensor_ops.specs.Legal.{highest_rank}
+use Rattle.tensor_ops.specs.Legal.{widest}
 use Rattle.tensor_ops.specs.Result.{dims_of}
 use Rattle.tensor_ops.specs.Term.{Term, input, unary, binary, ternary, has_inputs}
 use Rattle.tensor_ops.specs.Value.{tensor_of}
@@ -116,7 +116,7 @@ module _ (left : List Step) (held all : List Contents) (are : AreHeldFor left he
       (is.1.0 ∙ ap (λ k. k + f) are.as_many) is.1.1)
 
   pub dims-stage : (stage : Stage) → IsStageOf left (length held) stage
-      → dims_of highest_rank (stage_term stage) held ≡ Ok (stage_dims stage)
+      → dims_of widest (stage_term stage) held ≡ Ok (stage_dims stage)
   dims-stage (Plain next) is = dims-next left held all are next is
   dims-stage (Reduced next n r schedule) is =
       IsFusedTerm-dims (fused_in next + 1) left (drop 1 (drop (fused_in next + 1) left)) held all

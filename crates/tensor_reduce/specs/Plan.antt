@@ -1,6 +1,6 @@
 -- Plans: steps with their dims, and what they give one after the other.
 use Rattle.std.specs.Prelude.{◌≡◌, ◌-◌, ℕ, List, [], ◌∷◌, ◌++◌, length, map, Ok, IsTrue}
-use Rattle.tensor_ops.specs.Legal.{highest_rank}
+use Rattle.tensor_ops.specs.Legal.{widest}
 use Rattle.tensor_ops.specs.Contents.{Contents, input_of}
 use Rattle.tensor_ops.specs.Result.{dims_of}
 use Rattle.tensor_ops.specs.Shaped.{Shaped}
@@ -42,7 +42,7 @@ last_tensor tensors = input_of tensors (length tensors - 1)
 pub record IsReady (s : Step) (tensors : List Contents) : Type 0 where
   pub single : IsTrue (is_single (term_of_step s))
   pub inputs : IsTrue (has_inputs (term_of_step s) (length tensors))
-  pub dims : dims_of highest_rank (term_of_step s) tensors ≡ Ok (dims_of_step s)
+  pub dims : dims_of widest (term_of_step s) tensors ≡ Ok (dims_of_step s)
 
 -- so can each of these, one after the other, over tensors and those of the steps before it
 abbrev pub AreReady : List Step → List Contents → Type 0

@@ -1,7 +1,7 @@
 //! Cutting an expression into steps, in one walk.
 
 ghost use Rattle.std.specs.Prelude.{◌≡◌, ◌+◌, length, map, Ok, IsTrue, IsOk, IfOk, vec_len};
-ghost use Rattle.tensor_ops.specs.Legal.{highest_rank};
+ghost use Rattle.tensor_ops.specs.Legal.{widest};
 ghost use Rattle.tensor_ops.specs.Result.{dims_of, operand_dims};
 ghost use Rattle.tensor_ops.specs.Term.{has_inputs};
 ghost use Rattle.tensor_ops.specs.Tree.{term_of, unary_at, binary_at};
@@ -10,7 +10,7 @@ ghost use Rattle.tensor_reduce.specs.Steps.{combines, combines_two, is_input, nu
 
 use crate::step::Step;
 use std::alloc::{AllocError, Global};
-use tensor_ops::{Binary, Dims, Expr, Inputs, MAX_RANK, Node, Unary};
+use tensor_ops::{Binary, Dims, Expr, Inputs, Node, Unary, WIDEST};
 
 /// How many numbers a tensor among the inputs of an expression may have.
 pub(crate) const NUMBERS: u64 = 1 << 32;
@@ -18,7 +18,7 @@ pub(crate) const NUMBERS: u64 = 1 << 32;
 /// The steps of an expression, of which the root is the last.
 pub(crate) fn steps_of(alloc: Global, inputs: &Inputs, expr: &Expr) -> Result<Vec<Step>, AllocError>
     requires inputs { IsTrue (has_inputs (term_of expr.now) (length inputs.now.tensors)) }
-    requires dims { IsOk (dims_of highest_rank (term_of expr.now) inputs.now.tensors) }
+    requires dims { IsOk (dims_of widest (term_of expr.now) inputs.now.tensors) }
     ensures { IfOk result (λ steps. AreStepsOf inputs.now.tensors (term_of expr.now) steps.items) }
 {
     let mut steps = Vec::new(alloc);
@@ -40,7 +40,7 @@ fn cut(
     steps: &mut Vec<Step>,
 ) -> Result<Step, AllocError>
     requires inputs { IsTrue (has_inputs (term_of expr.now) (length inputs.now.tensors)) }
-    requires dims { IsOk (dims_of highest_rank (term_of expr.now) inputs.now.tensors) }
+    requires dims { IsOk (dims_of widest (term_of expr.now) inputs.now.tensors) }
     ensures { IfOk result (λ left.
         IsCut inputs.now.tensors whole (term_of expr.now) steps.old.items steps.new.items left) }
 {
@@ -105,12 +105,12 @@ fn next_number(inputs: &Inputs, steps: &[Step]) -> u32
 /// The dims of an expression that has dims, from those of its operands.
 fn dims_over(inputs: &Inputs, expr: &Expr, operands: &[Dims]) -> Dims
     requires inputs { IsTrue (has_inputs (term_of expr.now) (length inputs.now.tensors)) }
-    requires operands { operand_dims highest_rank (term_of expr.now) inputs.now.tensors
+    requires operands { operand_dims widest (term_of expr.now) inputs.now.tensors
         ≡ map Ok operands.now }
-    requires dims { IsOk (dims_of highest_rank (term_of expr.now) inputs.now.tensors) }
-    ensures { dims_of highest_rank (term_of expr.now) inputs.now.tensors ≡ Ok result }
+    requires dims { IsOk (dims_of widest (term_of expr.now) inputs.now.tensors) }
+    ensures { dims_of widest (term_of expr.now) inputs.now.tensors ≡ Ok result }
 {
-    let Ok(dims) = expr.dims_over(MAX_RANK, inputs, operands) else {
+    let Ok(dims) = expr.dims_over(WIDEST, inputs, operands) else {
         unreachable!()
     };
     dims

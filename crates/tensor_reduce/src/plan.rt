@@ -1,7 +1,7 @@
 //! A plan: the steps of an expression, in the order in which they are worked out.
 
 ghost use Rattle.std.specs.Prelude.{◌≡◌, ◌+◌, ◌<◌, ◌≤◌, ◌^◌, ◌++◌, length, map, IsTrue, IsOk, IfOk};
-ghost use Rattle.tensor_ops.specs.Legal.{highest_rank};
+ghost use Rattle.tensor_ops.specs.Legal.{widest};
 ghost use Rattle.tensor_ops.specs.Result.{dims_of};
 ghost use Rattle.tensor_ops.specs.Term.{has_inputs, nodes_of};
 ghost use Rattle.tensor_ops.specs.Tree.{term_of};
@@ -30,13 +30,13 @@ impl Plan {
     /// 4,294,967,295 inputs and steps together.
     pub fn of(alloc: Global, expr: &Expr, inputs: &Inputs) -> Result<Plan, AllocError>
         requires inputs { IsTrue (has_inputs (term_of expr.now) (length inputs.now.tensors)) }
-        requires dims { IsOk (dims_of inputs.now.rank (term_of expr.now) inputs.now.tensors) }
+        requires dims { IsOk (dims_of inputs.now.bounds (term_of expr.now) inputs.now.tensors) }
 
         // The steps are those of the definition, each with the dims of its node.
         ensures terms { IfOk result (λ plan.
             terms_in (steps_in plan) ≡ steps_of (length inputs.now.tensors) (term_of expr.now)) }
         ensures dims { IfOk result (λ plan. dims_in (steps_in plan)
-            ≡ map (λ t. dims_of highest_rank t inputs.now.tensors)
+            ≡ map (λ t. dims_of widest t inputs.now.tensors)
             (step_nodes (term_of expr.now))) }
         ensures few { IfOk result (λ plan. length (steps_in plan) ≤ nodes_of (term_of expr.now)) }
 
@@ -55,8 +55,8 @@ impl Plan {
             → last_tensor (worked_out (terms_in (steps_in plan)) inputs.now.tensors)
             ≡ tensor_of (term_of expr.now) inputs.now.tensors) }
     {
-        // Called for its clause `limit`: no inputs allow a rank past the highest one.
-        let _limit = inputs.rank_limit();
+        // Called for its clause `limit`: no inputs allow larger dims than there may be.
+        let _limit = inputs.bounds();
         let steps = steps_of(alloc, inputs, expr)?;
         Ok(Plan { steps })
     }

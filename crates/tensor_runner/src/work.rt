@@ -4,7 +4,7 @@ ghost use Rattle.std.specs.Prelude.{◌≡◌, ◌+◌, ◌*◌, ◌^◌, ◌<�
 ghost use Rattle.std.specs.Prelude.{MatchResult};
 ghost use Rattle.expr_reader.specs.Asked.{asked_under};
 ghost use Rattle.expr_reader.specs.Index.{size_of};
-ghost use Rattle.expr_reader.specs.Legal.{highest_rank};
+ghost use Rattle.expr_reader.specs.Legal.{widest};
 ghost use Rattle.expr_reader.specs.Result.{dims_of, binary_dims};
 ghost use Rattle.expr_reader.specs.Term.{has_inputs, nodes_of};
 ghost use Rattle.expr_reader.specs.Tree.{term_of, unary_at, binary_at};
@@ -18,7 +18,7 @@ ghost use Rattle.tensor_runner.specs.Work.{combined, steps_of};
 
 use crate::limits::{LimitFault, Limits};
 use expr_reader::{Dims, Expr, Inputs, Request};
-use tensor_ops::{Binary, ExprFault, MAX_RANK, Node, Unary};
+use tensor_ops::{Binary, ExprFault, Node, Unary, WIDEST};
 use tensor_terms::{dims_at, paired_axes};
 
 /// What is counted of an expression: how many operations each of its places takes, and the steps of
@@ -58,8 +58,8 @@ fn is_over(most: Option<u64>, number: u128) -> bool
 pub fn steps_of(request: &Request<'_>) -> u128
     ensures { result ≡ steps_of (asked_under request.now) }
 {
-    // Says that the limit is a rank that dims can have.
-    let _limit = request.inputs.rank_limit();
+    // Says that dims can go as far as the inputs' bounds.
+    let _limit = request.inputs.bounds();
     let Ok(found) = counted(&request.inputs, &request.expr) else {
         unreachable!();
     };
@@ -72,13 +72,13 @@ fn counted(inputs: &Inputs, expr: &Expr) -> Result<Count, ExprFault>
     requires inputs { IsTrue (has_inputs (term_of expr.now) (length inputs.now.tensors)) }
     requires few { nodes_of (term_of expr.now) < 2 ^ 32 }
     ensures dims { MatchResult result
-        (λ r. dims_of highest_rank (term_of expr.now) inputs.now.tensors ≡ Ok r.dims)
-        (λ fault. dims_of highest_rank (term_of expr.now) inputs.now.tensors ≡ Err fault) }
+        (λ r. dims_of widest (term_of expr.now) inputs.now.tensors ≡ Ok r.dims)
+        (λ fault. dims_of widest (term_of expr.now) inputs.now.tensors ≡ Err fault) }
     ensures operations { IfOk result (λ r. r.operations ≡ operations (term_of expr.now)) }
     ensures combined { IfOk result (λ r.
         r.combined ≡ combined inputs.now.tensors (term_of expr.now)) }
     ensures few { IfOk result (λ r. r.operations ≤ nodes_of (term_of expr.now)) }
-    ensures small { IfOk result (λ r. r.combined ≤ 2 ^ 54 * nodes_of (term_of expr.now)) }
+    ensures small { IfOk result (λ r. r.combined ≤ 2 ^ 62 * nodes_of (term_of expr.now)) }
 {
     match expr.node() {
         Node::Input(number) => Ok(Count {
@@ -88,14 +88,14 @@ fn counted(inputs: &Inputs, expr: &Expr) -> Result<Count, ExprFault>
         }),
         Node::Unary(operation, a) => {
             let first = counted(inputs, a)?;
-            let dims = expr.dims_over(MAX_RANK, inputs, &[first.dims.copied()])?;
+            let dims = expr.dims_over(WIDEST, inputs, &[first.dims.copied()])?;
             Ok(over_one(operation, dims, &first))
         }
         Node::Binary(operation, a, b) => {
             let first = counted(inputs, a)?;
             let second = counted(inputs, b)?;
             let known = [first.dims.copied(), second.dims.copied()];
-            let dims = expr.dims_over(MAX_RANK, inputs, &known)?;
+            let dims = expr.dims_over(WIDEST, inputs, &known)?;
             Ok(over_two(operation, dims, &first, &second))
         }
         Node::Ternary(_, a, b, c) => {
@@ -104,7 +104,7 @@ fn counted(inputs: &Inputs, expr: &Expr) -> Result<Count, ExprFault>
             let third = counted(inputs, c)?;
             let operations = 1 + (first.operations + second.operations + third.operations);
             let combined = first.combined + second.combined + third.combined;
-            let dims = expr.dims_over(MAX_RANK, inputs, &[first.dims, second.dims, third.dims])?;
+            let dims = expr.dims_over(WIDEST, inputs, &[first.dims, second.dims, third.dims])?;
             Ok(Count {
                 dims,
                 operations,
@@ -125,7 +125,7 @@ fn over_one(operation: Unary<'_>, dims: Dims, first: &Count) -> Count
         + unary_steps (unary_at operation.entry) (size_of dims) first.now.dims
         first.now.operations }
     ensures few { result.operations ≤ 1 + first.now.operations }
-    ensures small { result.combined ≤ first.now.combined + 2 ^ 54 }
+    ensures small { result.combined ≤ first.now.combined + 2 ^ 62 }
 {
     let operations = operations_over(combines(operation), first.operations);
     let own = unary_steps(operation, &dims, first);
@@ -140,7 +140,7 @@ fn over_one(operation: Unary<'_>, dims: Dims, first: &Count) -> Count
 fn over_two(operation: Binary<'_>, dims: Dims, first: &Count, second: &Count) -> Count
     requires few { first.now.operations + second.now.operations < 2 ^ 32 }
     requires small { first.now.combined + second.now.combined < 2 ^ 100 }
-    requires dims { binary_dims highest_rank (binary_at operation) first.now.dims
+    requires dims { binary_dims widest (binary_at operation) first.now.dims
         second.now.dims ≡ Ok dims }
     ensures dims { result.dims ≡ dims }
     ensures operations { result.operations
@@ -150,7 +150,7 @@ fn over_two(operation: Binary<'_>, dims: Dims, first: &Count, second: &Count) ->
         + binary_steps (binary_at operation.entry) (size_of dims) first.now.dims
         first.now.operations second.now.dims second.now.operations }
     ensures few { result.operations ≤ 1 + (first.now.operations + second.now.operations) }
-    ensures small { result.combined ≤ first.now.combined + second.now.combined + 2 ^ 54 }
+    ensures small { result.combined ≤ first.now.combined + second.now.combined + 2 ^ 62 }
 {
     let below = first.operations + second.operations;
     let operations = operations_over(combines_two(operation), below);
@@ -176,7 +176,7 @@ fn unary_steps(operation: Unary<'_>, dims: &Dims, first: &Count) -> u128
     requires { first.now.operations < 2 ^ 32 }
     ensures value { result ≡ unary_steps (unary_at operation.entry) (size_of dims.now)
         first.now.dims first.now.operations }
-    ensures small { result ≤ 2 ^ 53 }
+    ensures small { result ≤ 2 ^ 61 }
 {
     match operation {
         Unary::Each(_) | Unary::Constant(_) | Unary::Move(_) | Unary::Pad(_) => 0,
@@ -187,11 +187,11 @@ fn unary_steps(operation: Unary<'_>, dims: &Dims, first: &Count) -> u128
 /// What an operation on two operands takes that combines products of them.
 fn binary_steps(operation: Binary<'_>, dims: &Dims, first: &Count, second: &Count) -> u128
     requires few { first.now.operations + second.now.operations < 2 ^ 32 }
-    requires dims { binary_dims highest_rank (binary_at operation) first.now.dims
+    requires dims { binary_dims widest (binary_at operation) first.now.dims
         second.now.dims ≡ Ok dims.now }
     ensures value { result ≡ binary_steps (binary_at operation.entry) (size_of dims.now)
         first.now.dims first.now.operations second.now.dims second.now.operations }
-    ensures small { result ≤ 2 ^ 54 }
+    ensures small { result ≤ 2 ^ 62 }
 {
     match operation {
         Binary::Pairwise(_) | Binary::Concat(_) => 0,
@@ -209,7 +209,7 @@ fn binary_steps(operation: Binary<'_>, dims: &Dims, first: &Count, second: &Coun
 fn worked_out(operand: &Count) -> u128
     requires { operand.now.operations < 2 ^ 32 }
     ensures value { result ≡ size_of operand.now.dims * operand.now.operations }
-    ensures small { result ≤ 2 ^ 52 }
+    ensures small { result ≤ 2 ^ 60 }
 {
     u128::from(operand.dims.size() * operand.operations)
 }
@@ -218,7 +218,7 @@ fn worked_out(operand: &Count) -> u128
 /// index lists of the second dims.
 fn products(dims: &Dims, summed: &Dims) -> u128
     ensures value { result ≡ size_of dims.now + size_of dims.now * size_of summed.now }
-    ensures small { result ≤ 2 ^ 41 }
+    ensures small { result ≤ 2 ^ 57 }
 {
     u128::from(dims.size() + dims.size() * summed.size())
 }

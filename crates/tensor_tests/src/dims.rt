@@ -2,7 +2,7 @@
 
 use crate::told::expect;
 use std::test::Fail;
-use tensor_shape::{Dims, ShapeFault};
+use tensor_shape::{Bounds, Dims, ShapeFault, WIDEST};
 
 #[test]
 fn sizes_and_places(rt: HostRuntime) -> Result<(), Fail> {
@@ -52,6 +52,29 @@ const LIMITS: [(&[u64], Option<ShapeFault>); 9] = [
         Some(ShapeFault::RankTooHigh),
     ),
 ];
+
+/// As far as a rank of 6 goes in a text.
+const SIX: Bounds = Bounds {
+    rank: 6,
+    elements: 1048576,
+};
+
+/// Bounds, sizes, and why there are no such dims within them.
+const WITHIN: [(Bounds, &[u64], Option<ShapeFault>); 6] = [
+    (SIX, &[1024, 1024, 1, 1, 1, 1], None),
+    (SIX, &[1, 1, 1, 1, 1, 1, 1], Some(ShapeFault::RankTooHigh)),
+    (SIX, &[1024, 1025], Some(ShapeFault::TooManyElements)),
+    (WIDEST, &[16384, 16384, 1, 1, 1, 1, 1, 1], None),
+    (WIDEST, &[16384, 16385], Some(ShapeFault::TooManyElements)),
+    (WIDEST, &[0, 268435457], Some(ShapeFault::TooManyElements)),
+];
+
+#[test]
+fn limits_that_are_given(rt: HostRuntime) {
+    for (bounds, sizes, fault) in WITHIN {
+        expect(&rt, sizes, &Dims::within(bounds, sizes).err(), &fault);
+    }
+}
 
 #[test]
 fn limits_of_rank_and_elements(rt: HostRuntime) {

@@ -2,6 +2,7 @@
 
 ghost use Rattle.std.specs.Prelude.{◌≡◌, IsTrue, length};
 ghost use Rattle.tensor_ops.specs.Index.{size_of};
+ghost use Rattle.tensor_ops.specs.Legal.{widest};
 ghost use Rattle.tensor_ops.specs.PartEvaluator.{term_in_parts, inputs_in_parts};
 ghost use Rattle.tensor_ops.specs.Parts.{has_parts};
 ghost use Rattle.tensor_ops.specs.Result.{shape_of};
@@ -86,7 +87,7 @@ fn gives_over(
     parts: &[Part],
     wholes: &[i64],
 ) -> Result<(), Fail>
-    requires four { (length operand.now.inputs.tensors ≡ 4) × (operand.now.inputs.rank ≡ 8) }
+    requires four { (length operand.now.inputs.tensors ≡ 4) × (operand.now.inputs.bounds ≡ widest) }
     requires inputs { IsTrue (has_inputs (term_of operand.now.expr) 4) }
     requires parts { IsTrue (has_parts (term_of operand.now.expr)) }
 {

@@ -1,6 +1,7 @@
 //! Plans: how many steps expressions have, and what these give one after the other.
 
 ghost use Rattle.std.specs.Prelude.{◌≡◌, ◌+◌, ◌<◌, ◌^◌, length, IfOk, OnOk, IsTrue};
+ghost use Rattle.tensor_ops.specs.Legal.{widest};
 ghost use Rattle.tensor_reduce.specs.Plan.{terms_in, worked_out, AreReady};
 ghost use Rattle.tensor_reduce.specs.Term.{has_inputs};
 ghost use Rattle.tensor_reduce.specs.Tree.{term_of};
@@ -10,7 +11,8 @@ use std::alloc::{AllocError, Global};
 use std::process::Abort;
 use std::test::Fail;
 use tensor_ops::{
-    Binary, BinaryScalar, Dims, Expr, Inputs, Reducer, Tensor, Unary, UnaryScalar, eval_plain,
+    Binary, BinaryScalar, Dims, Expr, Inputs, Reducer, Tensor, Unary, UnaryScalar, WIDEST,
+    eval_plain,
 };
 use tensor_reduce::{Plan, Step};
 
@@ -27,13 +29,13 @@ fn tensor(alloc: Global, sizes: &[u64], values: &[i64]) -> Result<Tensor<'static
 
 /// Four inputs: of 2 by 3, of 3 by 2, of 2, and a scalar.
 pub(crate) fn four_inputs(alloc: Global) -> Result<Inputs<'static>, Fail>
-    ensures { IfOk result (λ inputs. (length inputs.tensors ≡ 4) × (inputs.rank ≡ 8)) }
+    ensures { IfOk result (λ inputs. (length inputs.tensors ≡ 4) × (inputs.bounds ≡ widest)) }
 {
     let first = tensor(alloc, &[2, 3], &[1, 4, 2, 5, 3, 6])?;
     let second = tensor(alloc, &[3, 2], &[1, 3, 5, 2, 4, 6])?;
     let third = tensor(alloc, &[2], &[10, -1])?;
     let fourth = tensor(alloc, &[], &[5])?;
-    let mut inputs = Inputs::with_rank(Vec::new(alloc), 8);
+    let mut inputs = Inputs::with_bounds(Vec::new(alloc), WIDEST);
     inputs.push(first)?;
     inputs.push(second)?;
     inputs.push(third)?;
@@ -45,7 +47,7 @@ pub(crate) fn four_inputs(alloc: Global) -> Result<Inputs<'static>, Fail>
 fn work_out(alloc: Global, steps: &[Step], tensors: &mut Inputs) -> Result<(), AllocError>
     requires ready { AreReady steps.now tensors.old.tensors }
     requires few { length tensors.old.tensors + length steps.now < 2 ^ 32 }
-    requires rank { tensors.old.rank ≡ 8 }
+    requires bounds { tensors.old.bounds ≡ widest }
     ensures { OnOk result
         (tensors.new.tensors ≡ worked_out (terms_in steps.now) tensors.old.tensors) }
 {
@@ -53,8 +55,8 @@ fn work_out(alloc: Global, steps: &[Step], tensors: &mut Inputs) -> Result<(), A
         [] => Ok(()),
         [step, rest @ ..] => {
             let tensor = eval_plain(alloc, step.expr(), tensors)?;
-            // Says that its rank is one that dims can have.
-            let _rank = tensor.dims().rank();
+            // Says that its dims are legal.
+            let _sizes = tensor.dims().as_slice();
             tensors.push(tensor)?;
             work_out(alloc, rest, tensors)
         }

@@ -29,7 +29,7 @@ pub fn row_distances(
         IfOk answer (λ tensor. tensor ≡ tensor_of squared_distances inputs.now.tensors)) }
     ensures fault { IfOk result (λ answer.
         IfErr answer (λ fault.
-        dims_of inputs.now.rank squared_distances inputs.now.tensors ≡ Err fault)) }
+        dims_of inputs.now.bounds squared_distances inputs.now.tensors ≡ Err fault)) }
 {
     let program = program(alloc)?;
     if let Err(fault) = program.dims(inputs) {

@@ -24,11 +24,11 @@ source_of (Behind values) = behind values.now
 source_of (Apart arrays) = apart (arrays_under arrays.now)
 
 -- a tensor, with the first of the values, or with those in the text
-abbrev pub tensor_by : Source → ℕ → Data → Option Contents
-tensor_by in_text rank d = tensor_in rank d
-tensor_by (behind values) rank d = framed_tensor rank values d
-tensor_by (apart []) rank d = None
-tensor_by (apart (array ∷ arrays)) rank d = array_tensor rank array d
+abbrev pub tensor_by : Source → Bounds → Data → Option Contents
+tensor_by in_text bounds d = tensor_in bounds d
+tensor_by (behind values) bounds d = framed_tensor bounds values d
+tensor_by (apart []) bounds d = None
+tensor_by (apart (array ∷ arrays)) bounds d = array_tensor bounds array d
 
 -- whether a tensor's values are there to be taken off
 abbrev pub HasFirst : Source → Contents → Type 0
@@ -43,21 +43,21 @@ left_by (behind values) t = behind (drop (length t.values) values)
 left_by (apart []) t = apart []
 left_by (apart (array ∷ arrays)) t = apart arrays
 
-abbrev pub tensors_by : Source → ℕ → Members → Option (List Contents)
-tensors_by in_text rank ms = tensors_in rank ms
-tensors_by (behind values) rank ms = framed_tensors rank values ms
-tensors_by (apart arrays) rank ms = array_tensors rank arrays ms
+abbrev pub tensors_by : Source → Bounds → Members → Option (List Contents)
+tensors_by in_text bounds ms = tensors_in bounds ms
+tensors_by (behind values) bounds ms = framed_tensors bounds values ms
+tensors_by (apart arrays) bounds ms = array_tensors bounds arrays ms
 
 -- the place of the first member that is no tensor
-abbrev pub place_by : Source → ℕ → Members → List Step
-place_by in_text rank ms = bad_member rank ms
-place_by (behind values) rank ms = bad_framed rank values ms
-place_by (apart arrays) rank ms = bad_array rank arrays ms
+abbrev pub place_by : Source → Bounds → Members → List Step
+place_by in_text bounds ms = bad_member bounds ms
+place_by (behind values) bounds ms = bad_framed bounds values ms
+place_by (apart arrays) bounds ms = bad_array bounds arrays ms
 
 -- what inputs are read as
 abbrev pub naming_by : Source → Naming
-naming_by source rank d =
-    or_place (place_by source rank) d (named_by (tensors_by source rank) d)
+naming_by source bounds d =
+    or_place (place_by source bounds) d (named_by (tensors_by source bounds) d)
 
 -- whether no values are left
 abbrev pub is_end : Source → Bool

@@ -17,7 +17,7 @@ tree_under tree = record { term = term_of tree.expr; end = tree.end }
 -- its inputs are among these, and over them it has its dims
 pub record IsShaped (inputs : Given) (tree : Subtree) : Type 0 where
   pub inputs_known : IsTrue (has_inputs (term_of tree.expr) (length inputs.tensors))
-  pub dims_known : dims_of inputs.rank (term_of tree.expr) inputs.tensors ≡ Ok tree.dims
+  pub dims_known : dims_of inputs.bounds (term_of tree.expr) inputs.tensors ≡ Ok tree.dims
 
 -- the tree that the walk says, or its fault and the way to it, or want of memory
 abbrev pub IsFound : Given → Result Tree Located → List ℕ → Result Subtree Fault → Type 0

@@ -14,10 +14,6 @@ use Rattle.tensor_ops.specs.Reducer.TheVariants.{Sum}
 use Rattle.tensor_reduce.specs.Shards.{Shard, shards_in}
 use Rattle.tensor_reduce.specs.declared.running.shard_kernel.ShardKernel.{ShardKernel}
 
--- how many shards a step has at most: 1,024 of each of the most values
-abbrev pub most_items : ℕ
-most_items = 1073741824
-
 -- what combines the parts of an operation's values: a reduction's reducer, and else sums
 abbrev pub reducer_in : Unary → Reducer
 reducer_in (each o) = Sum

@@ -1,7 +1,7 @@
 -- What the walk over an expression keeps.
 use Rattle.std.specs.Prelude.{◌≡◌, ◌+◌, List, [], ◌∷◌, ◌++◌, length, map, Ok, Bool}
 use Rattle.std.specs.Prelude.{if◌then◌else◌}
-use Rattle.tensor_ops.specs.Legal.{highest_rank}
+use Rattle.tensor_ops.specs.Legal.{widest}
 use Rattle.tensor_ops.specs.Contents.{Contents}
 use Rattle.tensor_ops.specs.Result.{dims_of}
 use Rattle.tensor_ops.specs.Term.{Term, input}
@@ -13,9 +13,9 @@ use Rattle.tensor_reduce.specs.declared.step.Step.{Step}
 pub record IsCut (inputs : List Contents) (whole : Bool) (t : Term) (old new : List Step)
     (left : Step) : Type 0 where
   pub terms : terms_in new ≡ terms_in old ++ (cut (length inputs + length old) whole t).steps
-  pub nodes : dims_in new ≡ dims_in old ++ map (λ a. dims_of highest_rank a inputs) (operand_nodes whole t)
+  pub nodes : dims_in new ≡ dims_in old ++ map (λ a. dims_of widest a inputs) (operand_nodes whole t)
   pub term : term_of_step left ≡ (cut (length inputs + length old) whole t).left
-  pub dims : dims_of highest_rank t inputs ≡ Ok (dims_of_step left)
+  pub dims : dims_of widest t inputs ≡ Ok (dims_of_step left)
 
 -- steps to which a node was added where it is one, and what is left of it
 pub record IsSettled (inputs : List Contents) (is_step : Bool) (node : Step)
@@ -28,4 +28,4 @@ pub record IsSettled (inputs : List Contents) (is_step : Bool) (node : Step)
 -- the steps of an expression, each with the dims of its node
 pub record AreStepsOf (inputs : List Contents) (t : Term) (steps : List Step) : Type 0 where
   pub terms : terms_in steps ≡ steps_of (length inputs) t
-  pub nodes : dims_in steps ≡ map (λ a. dims_of highest_rank a inputs) (step_nodes t)
+  pub nodes : dims_in steps ≡ map (λ a. dims_of widest a inputs) (step_nodes t)

@@ -1,7 +1,7 @@
 //! Steps whose values are worked out by ranges of their places.
 
 ghost use Rattle.std.specs.Prelude.{◌≡◌, ◌<◌, ◌++◌, length, IfOk, IfErr, IsTrue, Ok};
-ghost use Rattle.tensor_ops.specs.Legal.{highest_rank};
+ghost use Rattle.tensor_ops.specs.Legal.{widest};
 ghost use Rattle.tensor_ops.specs.Result.{dims_of};
 ghost use Rattle.tensor_ops.specs.Term.{has_inputs};
 ghost use Rattle.tensor_ops.specs.Tree.{term_of};
@@ -25,7 +25,7 @@ pub(crate) fn of_ranges<RT: Threads + Wait + Sync>(
 ) -> Result<Tensor<'static>, ForFault>
     requires inputs { IsTrue (has_inputs (term_of expr.now)
         (length (inputs.now.tensors ++ earlier.now))) }
-    requires dims { dims_of highest_rank (term_of expr.now) (inputs.now.tensors ++ earlier.now)
+    requires dims { dims_of widest (term_of expr.now) (inputs.now.tensors ++ earlier.now)
         ≡ Ok dims.now }
     requires some { 0 < leaf }
     ensures tensor { IfOk result (λ t.

@@ -1,7 +1,7 @@
 //! Tensors of steps by their schedules, with what is fused into them.
 
 ghost use Rattle.std.specs.Prelude.{◌≡◌, ◌<◌, ◌^◌, ◌++◌, length, IfOk, IfErr, IsTrue, Ok};
-ghost use Rattle.tensor_ops.specs.Legal.{highest_rank};
+ghost use Rattle.tensor_ops.specs.Legal.{widest};
 ghost use Rattle.tensor_ops.specs.Result.{dims_of};
 ghost use Rattle.tensor_ops.specs.Term.{has_inputs};
 ghost use Rattle.tensor_ops.specs.Tree.{term_of};
@@ -32,7 +32,7 @@ pub(crate) fn of_stage<RT: Threads + Wait + Sync>(
 ) -> Result<Tensor<'static>, ForFault>
     requires inputs { IsTrue (has_inputs (stage_term stage)
         (length (inputs.now.tensors ++ earlier.now))) }
-    requires dims { dims_of highest_rank (stage_term stage) (inputs.now.tensors ++ earlier.now)
+    requires dims { dims_of widest (stage_term stage) (inputs.now.tensors ++ earlier.now)
         ≡ Ok (stage_dims stage) }
     requires schedule { IsScheduleFor (stage_schedule stage) (stage_term stage) }
     requires numbers { HasNumbers stage }
@@ -84,7 +84,7 @@ fn of_schedule<RT: Threads + Wait + Sync>(
 ) -> Result<Tensor<'static>, ForFault>
     requires inputs { IsTrue (has_inputs (term_of expr.now)
         (length (inputs.now.tensors ++ earlier.now))) }
-    requires dims { dims_of highest_rank (term_of expr.now) (inputs.now.tensors ++ earlier.now)
+    requires dims { dims_of widest (term_of expr.now) (inputs.now.tensors ++ earlier.now)
         ≡ Ok dims.now }
     requires schedule { IsScheduleFor schedule (term_of expr.now) }
     ensures tensor { IfOk result (λ t.

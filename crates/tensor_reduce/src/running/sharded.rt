@@ -2,13 +2,13 @@
 
 ghost use Rattle.std.specs.Prelude.{◌≡◌, ◌<◌, ◌≤◌, ◌++◌, length, map, IfOk, IfErr, IsTrue, Ok};
 ghost use Rattle.std.specs.List.{range_with_len};
-ghost use Rattle.tensor_ops.specs.Legal.{highest_rank};
+ghost use Rattle.tensor_ops.specs.Legal.{widest};
 ghost use Rattle.tensor_ops.specs.Parts.{has_parts};
 ghost use Rattle.tensor_ops.specs.Result.{dims_of};
 ghost use Rattle.tensor_ops.specs.Term.{has_inputs};
 ghost use Rattle.tensor_ops.specs.Tree.{term_of};
 ghost use Rattle.tensor_ops.specs.Value.{tensor_of};
-ghost use Rattle.tensor_reduce.specs.private.Combined.{most_items, shard_places, shard_at_place};
+ghost use Rattle.tensor_reduce.specs.private.Combined.{shard_places, shard_at_place};
 
 use crate::running::combined::{combined_values, reducer_of};
 use crate::running::shard_kernel::ShardKernel;
@@ -32,7 +32,7 @@ pub(crate) fn of_shards<RT: Threads + Wait + Sync>(
 ) -> Result<Tensor<'static>, ForFault>
     requires inputs { IsTrue (has_inputs (term_of expr.now)
         (length (inputs.now.tensors ++ earlier.now))) }
-    requires dims { dims_of highest_rank (term_of expr.now) (inputs.now.tensors ++ earlier.now)
+    requires dims { dims_of widest (term_of expr.now) (inputs.now.tensors ++ earlier.now)
         ≡ Ok dims.now }
     requires parts { IsTrue (has_parts (term_of expr.now)) }
     ensures tensor { IfOk result (λ t.
@@ -68,7 +68,6 @@ fn found_of<RT: Threads + Wait + Sync>(
     leaf: u64,
 ) -> Result<Vec<i64>, ForFault>
     requires inside { places ≤ shard_places kernel }
-    requires few { places ≤ most_items }
     requires some { 0 < leaf }
     ensures items { IfOk result (λ found.
         found.items ≡ map (shard_at_place kernel.entry) (range_with_len 0 places)) }

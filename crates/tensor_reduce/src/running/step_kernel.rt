@@ -1,7 +1,7 @@
 //! The kernel of a step.
 
 ghost use Rattle.std.specs.Prelude.{◌≡◌, ◌++◌, length, IfOk, IsOk, IsTrue};
-ghost use Rattle.tensor_ops.specs.Legal.{highest_rank};
+ghost use Rattle.tensor_ops.specs.Legal.{widest};
 ghost use Rattle.tensor_ops.specs.Result.{dims_of};
 ghost use Rattle.tensor_ops.specs.Term.{has_inputs};
 ghost use Rattle.tensor_ops.specs.Tree.{term_of};
@@ -46,7 +46,7 @@ impl<'a> StepKernel<'a> {
     ) -> Result<StepKernel<'a>, AllocError>
         requires inputs { IsTrue (has_inputs (term_of expr.now)
             (length (inputs.now.tensors ++ earlier.now))) }
-        requires dims { IsOk (dims_of highest_rank (term_of expr.now)
+        requires dims { IsOk (dims_of widest (term_of expr.now)
             (inputs.now.tensors ++ earlier.now)) }
         ensures term { IfOk result (λ kernel. kernel_term kernel ≡ term_of expr.now) }
         ensures tensors { IfOk result (λ kernel.

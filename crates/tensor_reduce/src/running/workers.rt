@@ -1,15 +1,18 @@
 //! The workers that the items of a step are worked out by.
 
 ghost use Rattle.std.specs.Prelude.{◌≡◌, ◌<◌, ◌≤◌, IfOk, IfErr};
+ghost use Rattle.parallel_for.specs.Faults.{IsBlockLength};
 ghost use Rattle.parallel_for.specs.Items.{AreItems};
 ghost use Rattle.parallel_for.specs.Setup.{IsPoolSize, AreNoPartitions};
-ghost use Rattle.tensor_reduce.specs.private.Combined.{most_items};
 
 use crate::schedule::grain::Grain;
 use parallel_for::{ForFault, Kernel, Setup, parallel_for};
 use std::alloc::Global;
 use std::sync::Wait;
 use std::thread::Threads;
+
+/// How many leaves a step has at most: 1,024 for each of 1,048,576 values.
+const MOST_LEAVES: u64 = 1_073_741_824;
 
 /// What a plan is worked out by: the workers of a pool that the setup describes, opened for each
 /// step, and how many places they take at a time.
@@ -51,20 +54,28 @@ impl<'a, RT> Workers<'a, RT> {
 
 impl<RT: Threads + Wait + Sync> Workers<'_, RT> {
     /// The items of a kernel at the places below `n`, so many at a time on the workers that take
-    /// part. Where that is one, it is the calling thread, which works all of them out in one go.
+    /// part, or more where there would be too many leaves. Where one takes part, it is the calling
+    /// thread, which works all of them out in one go.
     pub(crate) fn items<K>(&self, kernel: &K, n: u64, leaf: u64) -> Result<Vec<K::Item>, ForFault>
     where
         K: Kernel + Sync,
         K::Item: Send,
         requires inside { n ≤ K.size kernel.now }
-        requires few { n ≤ most_items }
         requires some { 0 < leaf }
         ensures items { IfOk result (λ items. AreItems (K.item_at kernel.now) 0 n items.items) }
         ensures faults { IfErr result (λ fault. fault ≡ ForFault.NoMemory) }
     {
         if self.count <= 1 {
-            return parallel_for(self.rt, self.alloc, self.setup, kernel, n, n.max(1));
+            return parallel_for(
+                self.rt,
+                self.alloc,
+                self.setup,
+                kernel,
+                n,
+                long_leaf(n, n.max(1)),
+            );
         }
+        let leaf = long_leaf(n, leaf);
         if self.count >= self.setup.workers {
             return parallel_for(self.rt, self.alloc, self.setup, kernel, n, leaf);
         }
@@ -74,4 +85,12 @@ impl<RT: Threads + Wait + Sync> Workers<'_, RT> {
         };
         parallel_for(self.rt, self.alloc, &fewer, kernel, n, leaf)
     }
+}
+
+/// So many places a leaf, or more where there would be too many leaves.
+fn long_leaf(n: u64, leaf: u64) -> u64
+    requires { 0 < leaf }
+    ensures { IsBlockLength n result }
+{
+    leaf.max(n.div_ceil(MOST_LEAVES))
 }

@@ -8,7 +8,7 @@ use Rattle.serde_json.specs.View.{members_view}
 use Rattle.expr_reader.specs.private.Behind.{source_of}
 use Rattle.expr_reader.specs.private.Numbers.{number_in}
 use Rattle.expr_reader.specs.Tensors.{names_in}
-use Rattle.expr_reader.proofs.Members.{length-turn, after-turn, place-turn, number-turn, length-names_in, HaveRank-append, tensors_by-end}
+use Rattle.expr_reader.proofs.Members.{length-turn, after-turn, place-turn, number-turn, length-names_in, AreWithin-append, tensors_by-end}
 use Rattle.expr_reader.proofs.Numbers.{option_or-None}
 use Rattle.expr_reader.proofs.named.read_members.Goals as goal
 
@@ -26,14 +26,14 @@ loop-name-preserved c =
     rw (← c.as_str-in-loop-name.ensures.value, ← count) (c.in_ok-put_first.ensures.ok q) in at in (
       tt,
       tt,
-      rw (items, length-turn c.args.rank _ _ _ _ first done c.in-Ok.tensor) c.loop-name.invariant.2,
-      rw items (HaveRank-append c.args.rank done c.in-Ok.tensor c.loop-name.invariant.3 c.in-Ok.ensures.rank),
-      rw (items, c.without-left.ensures, after-turn c.args.rank _ _ _ _ first (source_of c.loop-name.left) done c.in-Ok.tensor c.in-Ok.ensures.tensor)
+      rw (items, length-turn c.args.bounds _ _ _ _ first done c.in-Ok.tensor) c.loop-name.invariant.2,
+      rw items (AreWithin-append c.args.bounds done c.in-Ok.tensor c.loop-name.invariant.3 c.in-Ok.ensures.bounds),
+      rw (items, c.without-left.ensures, after-turn c.args.bounds _ _ _ _ first (source_of c.loop-name.left) done c.in-Ok.tensor c.in-Ok.ensures.tensor)
           c.loop-name.invariant.4,
-      rw (c.without-left.ensures, place-turn c.args.rank _ _ _ _ first (source_of c.loop-name.left) c.in-Ok.tensor c.in-Ok.ensures.tensor)
+      rw (c.without-left.ensures, place-turn c.args.bounds _ _ _ _ first (source_of c.loop-name.left) c.in-Ok.tensor c.in-Ok.ensures.tensor)
           c.loop-name.invariant.5,
       λ q. rw long
-          (number-turn c.args.rank _ _ _ _ first (number_in c.loop-name.numbers q) (number_in c.put_first.new.numbers q) (length done) q (put q)
+          (number-turn c.args.bounds _ _ _ _ first (number_in c.loop-name.numbers q) (number_in c.put_first.new.numbers q) (length done) q (put q)
           ∙ c.loop-name.invariant.6 q),
     )
 
@@ -41,7 +41,7 @@ pub returns : goal.returns
 returns c =
     let end = c.in-None.ensures.steps.0 in
     let last : c.is_end.result ≡ true = grind (arith, common_steps) in
-    let tensors = rw (end, tensors_by-end (source_of c.loop-name.left) c.args.rank c.is_end.result c.is_end.ensures, last, append-nil)
+    let tensors = rw (end, tensors_by-end (source_of c.loop-name.left) c.args.bounds c.is_end.result c.is_end.ensures, last, append-nil)
     at c.loop-name.invariant.4 in
     let count = rw end at c.loop-name.invariant.2 in (
       record {
@@ -51,8 +51,8 @@ returns c =
       sym tensors,
       (λ i. names_in (members_view c.args.members.now.entries)),
       record {
-        inputs = ap (λ ts. record { tensors = ts; rank = c.with_rank-inputs.result.rank }) c.with_rank-inputs.ensures.tensors
-            ∙ ap (λ r. record { tensors = c.loop-name.tensors.items; rank = r }) c.with_rank-inputs.ensures.limit;
+        inputs = ap (λ ts. record { tensors = ts; bounds = c.with_bounds-inputs.result.bounds }) c.with_bounds-inputs.ensures.tensors
+            ∙ ap (λ r. record { tensors = c.loop-name.tensors.items; bounds = r }) c.with_bounds-inputs.ensures.limit;
         aligned = length-names_in c.args.members.now.entries ∙ omega (arith, count);
         numbers = λ q. sym (option_or-None (number_in c.loop-name.numbers q)) ∙ rw end at (c.loop-name.invariant.6 q);
       },

@@ -24,7 +24,7 @@ pub returns-in_err-first-in-Array-clause-tree : goal.returns-in_err-first-in-Arr
 returns-in_err-first-in-Array-clause-tree t c = λ n named.
     let head : Some c.in-Some.head.now ≡ slice_get c.in-Array.list.items 0 = rw c.deref.ensures.value at c.in-Some.ensures.value in
     let p = err_from_is_err_and c.from_residual-in_err-first-in-Array.result c.from_residual-in_err-first-in-Array.ensures.1 in
-    let first = c.in_err-first-in-Array.ensures.found (given (profile_under c.args.version).rank n)
+    let first = c.in_err-first-in-Array.ensures.found (given (profile_under c.args.version).bounds n)
     (tree_at (profile_under c.args.version) n (c.args.before + 1) (view c.index.result.now)) (c.read_node-first.ensures.tree n named) in
     rw (p.1, p.2)
     (elim first [
@@ -40,7 +40,7 @@ returns-in-One-clause-tree t c = λ n named.
     let names = rw c.in-One.is at c.in_ok-operation-in-Array.ensures.operation in
     let arity = rw c.in-One.is at c.arity.ensures in
     let long : length c.in-Array.list.items ≡ 2 + length (forms_of c.in-One.unary) = omega (arith, c.in-Array.list.ok.0, arity, c.if-len-arity.false) in
-    let first = c.in_ok-first-in-Array.ensures.found (given (profile_under c.args.version).rank n)
+    let first = c.in_ok-first-in-Array.ensures.found (given (profile_under c.args.version).bounds n)
     (tree_at (profile_under c.args.version) n (c.args.before + 1) (view c.index.result.now)) (c.read_node-first.ensures.tree n named) in
     rw (
       tree_at-one (profile_under c.args.version) n c.args.before c.if-before-ge-MAX_NODES.false c.in-Some.head.now c.args.value.now c.in-Array.list c.in-Array.is head
@@ -59,9 +59,9 @@ returns-in_err-second-in-Two-clause-tree t c = λ n named.
     let names = rw c.in-Two.is at c.in_ok-operation-in-Array.ensures.operation in
     let arity = rw c.in-Two.is at c.arity.ensures in
     let long : length c.in-Array.list.items ≡ 3 + length (forms_of_two c.in-Two.binary) = omega (arith, c.in-Array.list.ok.0, arity, c.if-len-arity.false) in
-    let first = c.in_ok-first-in-Array.ensures.found (given (profile_under c.args.version).rank n)
+    let first = c.in_ok-first-in-Array.ensures.found (given (profile_under c.args.version).bounds n)
     (tree_at (profile_under c.args.version) n (c.args.before + 1) (view c.index.result.now)) (c.read_node-first.ensures.tree n named) in
-    let second = c.in_err-second-in-Two.ensures.found (given (profile_under c.args.version).rank n)
+    let second = c.in_err-second-in-Two.ensures.found (given (profile_under c.args.version).bounds n)
     (tree_at (profile_under c.args.version) n c.in_ok-first-in-Array.first.end (view c.index-in-Two.result.now)) (c.read_node-second.ensures.tree n named) in
     rw (p.1, p.2)
     (elim second [
@@ -80,9 +80,9 @@ returns-in_ok-second-in-Two-clause-tree t c = λ n named.
     let names = rw c.in-Two.is at c.in_ok-operation-in-Array.ensures.operation in
     let arity = rw c.in-Two.is at c.arity.ensures in
     let long : length c.in-Array.list.items ≡ 3 + length (forms_of_two c.in-Two.binary) = omega (arith, c.in-Array.list.ok.0, arity, c.if-len-arity.false) in
-    let first = c.in_ok-first-in-Array.ensures.found (given (profile_under c.args.version).rank n)
+    let first = c.in_ok-first-in-Array.ensures.found (given (profile_under c.args.version).bounds n)
     (tree_at (profile_under c.args.version) n (c.args.before + 1) (view c.index.result.now)) (c.read_node-first.ensures.tree n named) in
-    let second = c.in_ok-second-in-Two.ensures.found (given (profile_under c.args.version).rank n)
+    let second = c.in_ok-second-in-Two.ensures.found (given (profile_under c.args.version).bounds n)
     (tree_at (profile_under c.args.version) n c.in_ok-first-in-Array.first.end (view c.index-in-Two.result.now)) (c.read_node-second.ensures.tree n named) in
     rw (
       tree_at-two (profile_under c.args.version) n c.args.before c.if-before-ge-MAX_NODES.false c.in-Some.head.now c.args.value.now c.in-Array.list c.in-Array.is head
@@ -102,9 +102,9 @@ returns-in_err-second-in-Select-clause-tree t c = λ n named.
     let names = rw c.in-Select.is at c.in_ok-operation-in-Array.ensures.operation in
     let arity = rw c.in-Select.is at c.arity.ensures in
     let long : length c.in-Array.list.items ≡ 4 = omega (arith, c.in-Array.list.ok.0, arity, c.if-len-arity.false) in
-    let first = c.in_ok-first-in-Array.ensures.found (given (profile_under c.args.version).rank n)
+    let first = c.in_ok-first-in-Array.ensures.found (given (profile_under c.args.version).bounds n)
     (tree_at (profile_under c.args.version) n (c.args.before + 1) (view c.index.result.now)) (c.read_node-first.ensures.tree n named) in
-    let second = c.in_err-second-in-Select.ensures.found (given (profile_under c.args.version).rank n)
+    let second = c.in_err-second-in-Select.ensures.found (given (profile_under c.args.version).bounds n)
     (tree_at (profile_under c.args.version) n c.in_ok-first-in-Array.first.end (view c.index-in-Select.result.now)) (c.read_node-second-in-Select.ensures.tree n named) in
     rw (p.1, p.2)
     (elim second [
@@ -124,11 +124,11 @@ returns-in_err-third-in-Select-clause-tree t c = λ n named.
     let names = rw c.in-Select.is at c.in_ok-operation-in-Array.ensures.operation in
     let arity = rw c.in-Select.is at c.arity.ensures in
     let long : length c.in-Array.list.items ≡ 4 = omega (arith, c.in-Array.list.ok.0, arity, c.if-len-arity.false) in
-    let first = c.in_ok-first-in-Array.ensures.found (given (profile_under c.args.version).rank n)
+    let first = c.in_ok-first-in-Array.ensures.found (given (profile_under c.args.version).bounds n)
     (tree_at (profile_under c.args.version) n (c.args.before + 1) (view c.index.result.now)) (c.read_node-first.ensures.tree n named) in
-    let second = c.in_ok-second-in-Select.ensures.found (given (profile_under c.args.version).rank n)
+    let second = c.in_ok-second-in-Select.ensures.found (given (profile_under c.args.version).bounds n)
     (tree_at (profile_under c.args.version) n c.in_ok-first-in-Array.first.end (view c.index-in-Select.result.now)) (c.read_node-second-in-Select.ensures.tree n named) in
-    let third = c.in_err-third-in-Select.ensures.found (given (profile_under c.args.version).rank n)
+    let third = c.in_err-third-in-Select.ensures.found (given (profile_under c.args.version).bounds n)
     (tree_at (profile_under c.args.version) n c.in_ok-second-in-Select.second.end (view c.index-in-Select-2.result.now)) (c.read_node-third.ensures.tree n named) in
     rw (p.1, p.2)
     (elim third [
@@ -148,11 +148,11 @@ returns-in_ok-third-in-Select-clause-tree t c = λ n named.
     let names = rw c.in-Select.is at c.in_ok-operation-in-Array.ensures.operation in
     let arity = rw c.in-Select.is at c.arity.ensures in
     let long : length c.in-Array.list.items ≡ 4 = omega (arith, c.in-Array.list.ok.0, arity, c.if-len-arity.false) in
-    let first = c.in_ok-first-in-Array.ensures.found (given (profile_under c.args.version).rank n)
+    let first = c.in_ok-first-in-Array.ensures.found (given (profile_under c.args.version).bounds n)
     (tree_at (profile_under c.args.version) n (c.args.before + 1) (view c.index.result.now)) (c.read_node-first.ensures.tree n named) in
-    let second = c.in_ok-second-in-Select.ensures.found (given (profile_under c.args.version).rank n)
+    let second = c.in_ok-second-in-Select.ensures.found (given (profile_under c.args.version).bounds n)
     (tree_at (profile_under c.args.version) n c.in_ok-first-in-Array.first.end (view c.index-in-Select.result.now)) (c.read_node-second-in-Select.ensures.tree n named) in
-    let third = c.in_ok-third-in-Select.ensures.found (given (profile_under c.args.version).rank n)
+    let third = c.in_ok-third-in-Select.ensures.found (given (profile_under c.args.version).bounds n)
     (tree_at (profile_under c.args.version) n c.in_ok-second-in-Select.second.end (view c.index-in-Select-2.result.now)) (c.read_node-third.ensures.tree n named) in
     let read = rw (← c.in_ok-third-in-Select.ensures.same) at c.read_node-third.ensures.kept in
     let empty : c.behind-in-Select-2.new.way.items ≡ [] = c.in_ok-third-in-Select.ensures.kept ∙ read in

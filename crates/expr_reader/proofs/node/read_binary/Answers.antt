@@ -19,7 +19,7 @@ checked-requires-clause-operands c =
     let read = rw (c.in_ok-first.ensures, c.in_ok-second.ensures) at c.in_ok-expr.ensures.expr in
     let both = made-binary (binary_of c.args.operation) (term_of c.args.left.expr) (term_of c.args.right.expr) (term_of c.in_ok-expr.expr)
     (arguments_at 3 (forms_of_two c.args.operation) (items_view c.args.arguments.now)) read in
-    rw (both.0 c.args.inputs.now.rank c.args.inputs.now.tensors, c.requires.left.dims_known, c.requires.right.dims_known) refl
+    rw (both.0 c.args.inputs.now.bounds c.args.inputs.now.tensors, c.requires.left.dims_known, c.requires.right.dims_known) refl
 
 pub returns-clause-tree : goal.returns-clause-tree
 returns-clause-tree c =

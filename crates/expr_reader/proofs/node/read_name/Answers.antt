@@ -5,18 +5,18 @@ use Rattle.expr_reader.proofs.node.read_name.Goals as goal
 
 pub get-requires : goal.get-requires
 get-requires c =
-    let rank = c.requires.0 in
+    let bounds = c.requires.0 in
     let n = c.requires.1 in
     let named = c.requires.2 in
     let below : c.in-Some.number < length n.names =
-    number_of-below n.names c.args.name.now c.in-Some.number (sym (c.in-Some.ensures rank n named)) in
+    number_of-below n.names c.args.name.now c.in-Some.number (sym (c.in-Some.ensures bounds n named)) in
     rw named.inputs (omega (arith, below, named.aligned))
 
 pub returns-clause-tree : goal.returns-clause-tree
-returns-clause-tree c = λ rank n named.
+returns-clause-tree c = λ bounds n named.
     let below : c.in-Some.number < length n.names =
-    number_of-below n.names c.args.name.now c.in-Some.number (sym (c.in-Some.ensures rank n named)) in (
-      rw (← c.in-Some.ensures rank n named) refl,
+    number_of-below n.names c.args.name.now c.in-Some.number (sym (c.in-Some.ensures bounds n named)) in (
+      rw (← c.in-Some.ensures bounds n named) refl,
       record {
         inputs_known = lt-ltb c.in-Some.number (length n.tensors) (omega (arith, below, named.aligned));
         dims_known = rw (c.copied.ensures, c.dims.ensures, c.get.ensures, named.inputs) refl;
@@ -24,4 +24,4 @@ returns-clause-tree c = λ rank n named.
     )
 
 pub returns-in_default-clause-tree : goal.returns-in_default-clause-tree
-returns-in_default-clause-tree c = λ rank n named. inr (rw (← c.number.ensures rank n named, c.in_default.is) refl)
+returns-in_default-clause-tree c = λ bounds n named. inr (rw (← c.number.ensures bounds n named, c.in_default.is) refl)

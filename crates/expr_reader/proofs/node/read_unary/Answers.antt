@@ -12,7 +12,7 @@ checked-requires-clause-operands c =
     let read = rw c.in_ok-first.ensures at c.in_ok-expr.ensures.expr in
     rw (
       made-unary (unary_of c.args.operation) (term_of c.args.operand.expr) (term_of c.in_ok-expr.expr)
-          (arguments_at 2 (forms_of c.args.operation) (items_view c.args.arguments.now)) read c.args.inputs.now.rank c.args.inputs.now.tensors,
+          (arguments_at 2 (forms_of c.args.operation) (items_view c.args.arguments.now)) read c.args.inputs.now.bounds c.args.inputs.now.tensors,
       c.requires.operand.dims_known,
     ) refl
 

@@ -27,13 +27,13 @@ invariant_of-result-clause-few_workers c =
 pub invariant_of-result-clause-few : goal.invariant_of-result-clause-few
 invariant_of-result-clause-few c =
     let n = c.in_ok-named.ensures.0 in
-    let named = rw c.rank.ensures.value at c.in_ok-named.ensures.2 in
+    let named = rw c.bounds.ensures.value at c.in_ok-named.ensures.2 in
     let tree = c.in_ok-tree.ensures n named in
     omega (
       arith,
       c.requires,
       ap (λ g. length g.tensors) named.inputs,
-      length-naming_by (source_of c.args.values) c.rank.result (view c.args.fields.now.inputs.now) n c.in_ok-named.ensures.1,
+      length-naming_by (source_of c.args.values) c.bounds.result (view c.args.fields.now.inputs.now) n c.in_ok-named.ensures.1,
       nodes_of-tree_at (profile_under c.in-Some.version) n 0 (view c.args.fields.now.expr.now)
           (tree_under c.in_ok-tree.tree) tree.0,
     )

@@ -6,5 +6,5 @@ use Rattle.prepared_expressions.proofs.inputs.read_tensors.Given as goal
 
 abbrev pub invariant-loop-array : goal.invariant-loop-array
 invariant-loop-array l =
-    after l.tensors.items (all_from l.rank (arrays_under (drop l.array-index l.arrays)) l.rest)
-    ≡ all_from l.rank (arrays_under l.arrays) l.numbers
+    after l.tensors.items (all_from l.bounds (arrays_under (drop l.array-index l.arrays)) l.rest)
+    ≡ all_from l.bounds (arrays_under l.arrays) l.numbers

@@ -6,7 +6,7 @@ use Rattle.prepared_expressions.specs.private.Made.{of_none}
 use Rattle.prepared_expressions.specs.Prepared.{values_of_all, dealt}
 use Rattle.expr_reader.specs.Arrays.{arrays_under}
 use Rattle.prepared_expressions.specs.Recorded.{recorded}
-use Rattle.prepared_expressions.proofs.Dealing.{begun, told-ok, told-err, dealt-other, all_from-back, all_legal-rank, filled-written}
+use Rattle.prepared_expressions.proofs.Dealing.{begun, told-ok, told-err, dealt-other, all_from-back, all_legal-within, filled-written}
 use Rattle.prepared_expressions.proofs.Dealing.{length-values_of_all, length-arrays_under}
 use Rattle.prepared_expressions.proofs.Made.{of_none-back}
 use Rattle.prepared_expressions.proofs.Trees.{only-memory}
@@ -16,7 +16,7 @@ pub returns-then-count-arrays-clause-whole : goal.returns-then-count-arrays-clau
 returns-then-count-arrays-clause-whole c = λ q ok is.
     let arrays = arrays_under c.args.arrays.now in
     let s = c.in-Some.start in
-    let b = begun q ok arrays c.args.numbers.now s.rest.now s.rank s.count c.in-Some.ensures.found is in
+    let b = begun q ok arrays c.args.numbers.now s.rest.now s.bounds s.count c.in-Some.ensures.bounds c.in-Some.ensures.found is in
     inr (dealt-other q.dims arrays (λ same. c.if-count-arrays.true (omega (arith, b.count, same, length-arrays_under c.args.arrays.now))))
 
 pub returns-in_err-dealt-clause-whole : goal.returns-in_err-dealt-clause-whole
@@ -26,7 +26,7 @@ returns-in_err-dealt-clause-whole c =
     let s = c.in-Some.start in
     let count : s.count ≡ length arrays = omega (arith, c.if-count-arrays.false, length-arrays_under c.args.arrays.now) in
     rw (p.1, p.2) (λ q ok is.
-    let b = begun q ok arrays c.args.numbers.now s.rest.now s.rank s.count c.in-Some.ensures.found is in
+    let b = begun q ok arrays c.args.numbers.now s.rest.now s.bounds s.count c.in-Some.ensures.bounds c.in-Some.ensures.found is in
     elim c.in_err-dealt.ensures.tensors [
       | inl memory ↦ inl memory
       | inr told ↦ inr (told-err (recorded q.term []) (dealt q.dims arrays) c.in_err-dealt.field-0.0 (sym (b.dealing count) ∙ told))
@@ -39,7 +39,7 @@ returns-in_err-read-clause-whole c =
     let s = c.in-Some.start in
     let count : s.count ≡ length arrays = omega (arith, c.if-count-arrays.false, length-arrays_under c.args.arrays.now) in
     rw (p.1, p.2) (λ q ok is.
-    let b = begun q ok arrays c.args.numbers.now s.rest.now s.rank s.count c.in-Some.ensures.found is in
+    let b = begun q ok arrays c.args.numbers.now s.rest.now s.bounds s.count c.in-Some.ensures.bounds c.in-Some.ensures.found is in
     let d = told-ok (recorded q.term []) (dealt q.dims arrays) (record { tensors = c.in_ok-dealt.dealt.tensors.items; rest = c.in_ok-dealt.dealt.rest.now })
     (sym (b.dealing count) ∙ c.in_ok-dealt.ensures.tensors) in
     let has : IsTrue (has_inputs q.term s.count) = rw b.count ok.inputs in
@@ -53,48 +53,48 @@ returns-in_err-expr-clause-whole c =
     let read = c.in_ok-read.read in
     let count : s.count ≡ length arrays = omega (arith, c.if-count-arrays.false, length-arrays_under c.args.arrays.now) in
     rw (p.1, p.2) (λ q ok is.
-    let b = begun q ok arrays c.args.numbers.now s.rest.now s.rank s.count c.in-Some.ensures.found is in
+    let b = begun q ok arrays c.args.numbers.now s.rest.now s.bounds s.count c.in-Some.ensures.bounds c.in-Some.ensures.found is in
     let d = told-ok (recorded q.term []) (dealt q.dims arrays) (record { tensors = c.in_ok-dealt.dealt.tensors.items; rest = c.in_ok-dealt.dealt.rest.now })
     (sym (b.dealing count) ∙ c.in_ok-dealt.ensures.tensors) in
     let has : IsTrue (has_inputs q.term s.count) = rw b.count ok.inputs in
     let told = c.in_ok-read.ensures.whole q.term [] d.1 has ok.ranges ok.height in
     inl (only-memory c.in_err-expr.field-0.0 (of_none read.expr read.rest.now) read.expr (ap (of_none read.expr) told.1) c.in_err-expr.ensures))
 
-pub with_rank-inputs-requires-clause-few : goal.with_rank-inputs-requires-clause-few
-with_rank-inputs-requires-clause-few c =
+pub with_bounds-inputs-requires-clause-few : goal.with_bounds-inputs-requires-clause-few
+with_bounds-inputs-requires-clause-few c =
     let arrays = arrays_under c.args.arrays.now in
     let s = c.in-Some.start in
     let ts = c.in_ok-dealt.dealt.tensors.items in
-    let all = all_from-back s.rank arrays s.rest.now (record { tensors = ts; rest = c.in_ok-dealt.dealt.rest.now }) c.in_ok-dealt.ensures.tensors in
+    let all = all_from-back s.bounds arrays s.rest.now (record { tensors = ts; rest = c.in_ok-dealt.dealt.rest.now }) c.in_ok-dealt.ensures.tensors in
     let long : length ts ≡ length arrays = sym (length-values_of_all ts) ∙ ap length all.values in
     omega (arith, c.in_ok-dealt.dealt.tensors.ok.0, long, length-arrays_under c.args.arrays.now, c.if-count-arrays.false, c.in-Some.ensures.few)
 
-pub with_rank-inputs-requires-clause-rank : goal.with_rank-inputs-requires-clause-rank
-with_rank-inputs-requires-clause-rank c =
+pub with_bounds-inputs-requires-clause-bounds : goal.with_bounds-inputs-requires-clause-bounds
+with_bounds-inputs-requires-clause-bounds c =
     let arrays = arrays_under c.args.arrays.now in
     let s = c.in-Some.start in
     let ts = c.in_ok-dealt.dealt.tensors.items in
-    let all = all_from-back s.rank arrays s.rest.now (record { tensors = ts; rest = c.in_ok-dealt.dealt.rest.now }) c.in_ok-dealt.ensures.tensors in
-    all_legal-rank s.rank ts all.legal
+    let all = all_from-back s.bounds arrays s.rest.now (record { tensors = ts; rest = c.in_ok-dealt.dealt.rest.now }) c.in_ok-dealt.ensures.tensors in
+    all_legal-within s.bounds ts all.legal
 
 pub returns-clause-found : goal.returns-clause-found
 returns-clause-found c =
     let arrays = arrays_under c.args.arrays.now in
     let s = c.in-Some.start in
     let ts = c.in_ok-dealt.dealt.tensors.items in
-    let us = c.with_rank-inputs.result.tensors in
+    let us = c.with_bounds-inputs.result.tensors in
     let read = c.in_ok-read.read in
     let t = term_of c.in_ok-expr.expr in
-    let all = all_from-back s.rank arrays s.rest.now (record { tensors = ts; rest = c.in_ok-dealt.dealt.rest.now }) c.in_ok-dealt.ensures.tensors in
+    let all = all_from-back s.bounds arrays s.rest.now (record { tensors = ts; rest = c.in_ok-dealt.dealt.rest.now }) c.in_ok-dealt.ensures.tensors in
     let e = of_none-back read.expr c.in_ok-expr.expr read.rest.now c.in_ok-expr.ensures in
     let long : length ts ≡ length arrays = sym (length-values_of_all ts) ∙ ap length all.values in
     let count : s.count ≡ length ts = omega (arith, c.if-count-arrays.false, length-arrays_under c.args.arrays.now, long) in
-    let same : us ≡ ts = c.with_rank-inputs.ensures.tensors in
+    let same : us ≡ ts = c.with_bounds-inputs.ensures.tensors in
     let tree : c.in_ok-dealt.dealt.rest.now ≡ recorded t read.rest.now = c.in_ok-read.ensures.found ∙ ap (λ x. recorded (term_of x) read.rest.now) e.0 in
     let has : IsTrue (has_inputs (term_of read.expr) s.count) = c.in_ok-read.ensures.inputs in
     record {
-      written = filled-written c.args.numbers.now s.rest.now c.in_ok-dealt.dealt.rest.now read.rest.now s.rank s.count c.with_rank-inputs.result.rank ts us t
-          c.in-Some.ensures.found all.numbers tree e.1 count c.with_rank-inputs.ensures.limit same;
+      written = filled-written c.args.numbers.now s.rest.now c.in_ok-dealt.dealt.rest.now read.rest.now s.bounds c.with_bounds-inputs.result.bounds s.count ts us t
+          c.in-Some.ensures.found all.numbers tree e.1 count c.with_bounds-inputs.ensures.limit same;
       values = ap values_of_all same ∙ all.values;
       inputs = rw (same, ← count, ← e.0) has;
     }
@@ -105,7 +105,7 @@ returns-clause-whole c = λ q ok is.
     let s = c.in-Some.start in
     let read = c.in_ok-read.read in
     let count : s.count ≡ length arrays = omega (arith, c.if-count-arrays.false, length-arrays_under c.args.arrays.now) in
-    let b = begun q ok arrays c.args.numbers.now s.rest.now s.rank s.count c.in-Some.ensures.found is in
+    let b = begun q ok arrays c.args.numbers.now s.rest.now s.bounds s.count c.in-Some.ensures.bounds c.in-Some.ensures.found is in
     let d = told-ok (recorded q.term []) (dealt q.dims arrays) (record { tensors = c.in_ok-dealt.dealt.tensors.items; rest = c.in_ok-dealt.dealt.rest.now })
     (sym (b.dealing count) ∙ c.in_ok-dealt.ensures.tensors) in
     let has : IsTrue (has_inputs q.term s.count) = rw b.count ok.inputs in
@@ -113,6 +113,6 @@ returns-clause-whole c = λ q ok is.
     let e = of_none-back read.expr c.in_ok-expr.expr read.rest.now c.in_ok-expr.ensures in
     record {
       term = ap term_of (sym e.0) ∙ told.0;
-      rank = c.with_rank-inputs.ensures.limit ∙ b.rank;
-      tensors = d.0 ∙ ap Ok (sym c.with_rank-inputs.ensures.tensors);
+      bounds = c.with_bounds-inputs.ensures.limit ∙ b.bounds;
+      tensors = d.0 ∙ ap Ok (sym c.with_bounds-inputs.ensures.tensors);
     }

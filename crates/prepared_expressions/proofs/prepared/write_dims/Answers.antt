@@ -1,4 +1,4 @@
-use Rattle.std.proofs.Common.{◌≡◌, ◌++◌, ◌∷◌, ◌<◌, ◌≤◌, length, take, ap, ◌∙◌, true, arith, add-one}
+use Rattle.std.proofs.Common.{◌≡◌, ◌++◌, ◌∷◌, ◌<◌, length, take, ap, ◌∙◌, true, arith, add-one}
 use Rattle.tensor_shape.specs.Legal.{are_legal}
 use Rattle.tensor_terms.specs.Contents.{input_of}
 use Rattle.prepared_expressions.specs.Prepared.{recorded_dims, dims_of_all}
@@ -12,14 +12,13 @@ loop-number-preserved c =
     let sizes = c.as_slice-sizes.result.now in
     let at : sizes ≡ (input_of ts i).dims = c.as_slice-sizes.ensures.value ∙ c.dims.ensures ∙ ap (λ t. t.dims) c.get.ensures in
     let within : i < length ts = omega (arith, c.len-number-end.ensures, c.loop-number-test.true) in
-    let low : length sizes ≤ c.args.rank = omega (arith, c.if-sizes-rank.false) in
-    let here : are_legal c.args.rank c.dims.result.now ≡ true =
-    are_legal-from c.args.rank c.dims.result.now (rw c.as_slice-sizes.ensures.value at low) c.as_slice-sizes.ensures.legal.elements in
+    let here : are_legal c.args.bounds c.dims.result.now ≡ true =
+    are_legal-from c.args.bounds c.dims.result.now (rw c.as_slice-sizes.ensures.value at c.in-Ok.ensures.ok.1) in
     rw add-one
     (record {
       numbers = λ rest. written-list c.write_list.new.numbers.items c.loop-number.numbers.items (length sizes ∷ sizes) rest (c.in_ok-write_list.ensures rest)
           ∙ c.loop-number.invariant.numbers ((length sizes ∷ sizes) ++ rest)
           ∙ ap (λ l. c.args.numbers.now.items ++ l)
           (ap (λ s. recorded_dims (dims_of_all (take i ts)) ((length s ∷ s) ++ rest)) at ∙ recorded_dims-take ts i rest within);
-      legal = all_legal-take c.args.rank ts i within c.loop-number.invariant.legal (rw (c.dims.ensures, c.get.ensures) at here);
+      legal = all_legal-take c.args.bounds ts i within c.loop-number.invariant.legal (rw (c.dims.ensures, c.get.ensures) at here);
     })

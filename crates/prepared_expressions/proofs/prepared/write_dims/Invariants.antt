@@ -7,5 +7,5 @@ abbrev pub invariant-loop-number : goal.invariant-loop-number
 invariant-loop-number l = record {
   numbers : (rest : List ℕ) → l.numbers.items ++ rest
       ≡ l.fn.numbers.items ++ recorded_dims (dims_of_all (take l.number l.inputs.tensors)) rest;
-  legal : IsTrue (all_legal l.rank (dims_of_all (take l.number l.inputs.tensors)));
+  legal : IsTrue (all_legal l.bounds (dims_of_all (take l.number l.inputs.tensors)));
 }

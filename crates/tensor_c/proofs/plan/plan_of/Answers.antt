@@ -24,6 +24,6 @@ returns-in-Ok-clause-ready c = λ a is.
       prepared = c.in-Ok.ensures.prepared;
       has_dims = λ arrays us dealt.
           subst (λ d. IsOk d)
-          (sym (dims_of-same us ts (HaveSameDims-all us ts (dims_of_all-dealt (dims_of_all ts) arrays us dealt)) r.inputs.rank (term_of r.expr)))
+          (sym (dims_of-same us ts (HaveSameDims-all us ts (dims_of_all-dealt (dims_of_all ts) arrays us dealt)) r.inputs.bounds (term_of r.expr)))
           r.has_dims;
     })
