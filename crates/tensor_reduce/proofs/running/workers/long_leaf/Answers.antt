@@ -1,0 +1,28 @@
+use Rattle.std.proofs.Common.{◌≡◌, ℕ, ◌+◌, ◌*◌, ◌/◌, ◌%◌, ◌<◌, ◌≤◌, min, nat_lt, inl, inr, arith}
+use Rattle.std.proofs.lemmas.Bool.{cases_Bool, ltb-true, ltb-false}
+use Rattle.std.proofs.lemmas.Grind.{div_ceil_times}
+use Rattle.std.proofs.Math.Nat.{mul-le-mul_left, mul-le-mul_right, mod-add-div}
+use Rattle.parallel_for.specs.Leaves.{blocks_of}
+use Rattle.tensor_reduce.proofs.running.workers.long_leaf.Goals as goal
+
+-- so many places of so many leaves are in no more of them
+blocks_of-le : (n block most : ℕ) → n ≤ block * most → 0 < block → blocks_of n block ≤ most
+blocks_of-le n block most within some =
+    let whole : n % block + block * (n / block) ≡ n = mod-add-div n block in
+    elim (cases_Bool (nat_lt (n / block) most)) [
+      | inl less ↦ omega (arith, ltb-true (n / block) most less)
+      | inr enough ↦
+          let all : block * most ≤ block * (n / block) =
+          mul-le-mul_left block (ltb-false (n / block) most enough) in
+          elim (cases_Bool (nat_lt most (n / block))) [
+            | inl more ↦
+                let past : block * (most + 1) ≤ block * (n / block) =
+                mul-le-mul_left block (omega (arith, ltb-true most (n / block) more)) in
+                let next : block * (most + 1) ≡ block * most + block = grind arith in
+                absurd (omega (arith, whole, past, next))
+            | inr no_more ↦ omega (arith, whole, all, ltb-false most (n / block) no_more)
+          ]
+    ]
+
+pub returns : goal.returns
+returns c = ?
