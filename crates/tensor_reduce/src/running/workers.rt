@@ -16,9 +16,6 @@ use tensor_ops::TEXT_ELEMENTS;
 /// its values: as many as a text's tensor has values.
 const MOST_LEAVES: u64 = TEXT_ELEMENTS;
 
-/// How many leaves a step has at most: 1,024 for each of 1,048,576 values.
-const MOST_LEAVES: u64 = 1_073_741_824;
-
 /// What a plan is worked out by: the workers of a pool that the setup describes, opened for each
 /// step, and how many places they take at a time.
 #[derive(Drop)]
