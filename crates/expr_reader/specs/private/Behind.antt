@@ -5,6 +5,7 @@ use Rattle.serde_json.specs.Data.{Data, Members}
 use Rattle.tensor_ops.specs.Contents.{Contents}
 use Rattle.expr_reader.specs.Arrays.{arrays_under, array_tensor, array_tensors, bad_array}
 use Rattle.expr_reader.specs.Frame.{framed_tensor, framed_tensors, bad_framed}
+use Rattle.tensor_ops.specs.Bounds.{Bounds}
 use Rattle.expr_reader.specs.Place.{Step, Located}
 use Rattle.expr_reader.specs.Tensors.{tensor_in, tensors_in, bad_member, named_by, or_place}
 use Rattle.expr_reader.specs.Profile.{Versions, profile_of, frame_profile_of}
