@@ -13,13 +13,9 @@ most_values = 16777216
 abbrev pub most_workers : ℕ
 most_workers = 256
 
--- the greatest block of a text
+-- the greatest block
 abbrev pub greatest_block : ℕ
 greatest_block = 1048576
-
--- the greatest block of any version
-abbrev pub widest_block : ℕ
-widest_block = 268435456
 
 -- the most nodes of an expression
 abbrev pub most_nodes : ℕ

@@ -2,8 +2,8 @@
 use Rattle.std.specs.Prelude.{ℕ, List, [], ◌∷◌, Option, Some, None, ◌==◌, if◌then◌else◌}
 use Rattle.std.specs.Str.{bytes_eq}
 use Rattle.tensor_ops.specs.Bounds.{Bounds}
-use Rattle.tensor_ops.specs.Legal.{text_bounds, widest}
-use Rattle.expr_reader.specs.Limits.{greatest_block, widest_block}
+use Rattle.tensor_ops.specs.Legal.{text_bounds}
+use Rattle.expr_reader.specs.Limits.{greatest_block}
 use Rattle.expr_reader.specs.Table.{Operation, operations_1, operations_2, operations_3}
 
 -- the greatest number of workers and of places of a block, how large tensors get, and the
@@ -33,8 +33,8 @@ version_2 = record {
 abbrev pub version_3 : Profile
 version_3 = record {
   workers = 256;
-  block = widest_block;
-  bounds = widest;
+  block = greatest_block;
+  bounds = text_bounds 8;
   operations = operations_3;
 }
 

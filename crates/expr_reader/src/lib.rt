@@ -36,11 +36,8 @@ pub const MAX_TEXT: usize = 16_777_216;
 /// The most values behind a header.
 pub const MAX_VALUES: usize = 16_777_216;
 
-/// The greatest block of a text.
+/// The greatest block.
 pub const MAX_BLOCK: u64 = 1_048_576;
-
-/// The greatest block of any version.
-pub const WIDEST_BLOCK: u64 = 268_435_456;
 
 /// The most nodes of an expression.
 pub const MAX_NODES: u64 = 1_000;

@@ -8,9 +8,9 @@ ghost use Rattle.expr_reader.specs.Table.{operations_1, operations_2, operations
 ghost use Rattle.expr_reader.specs.Table.{operations_on_integers};
 ghost use Rattle.expr_reader.specs.private.Version.{operation_under};
 
-use crate::{MAX_BLOCK, WIDEST_BLOCK};
+use crate::MAX_BLOCK;
 use crate::operation::{Binary, Operation, Unary};
-use tensor_ops::{BinaryScalar, Bounds, Reducer, UnaryScalar, WIDEST};
+use tensor_ops::{BinaryScalar, Bounds, Reducer, UnaryScalar};
 
 /// A version of a text or a frame.
 #[derive(Clone, Copy, Debug, Eq, PartialEq)]
@@ -58,8 +58,7 @@ impl Version {
         ensures { result ≡ (profile_under self).block }
     {
         match self {
-            Version::One | Version::Two => MAX_BLOCK,
-            Version::Three => WIDEST_BLOCK,
+            Version::One | Version::Two | Version::Three => MAX_BLOCK,
         }
     }
 
@@ -70,8 +69,7 @@ impl Version {
     {
         match self {
             Version::One => Bounds::of_text(6),
-            Version::Two => Bounds::of_text(8),
-            Version::Three => WIDEST,
+            Version::Two | Version::Three => Bounds::of_text(8),
         }
     }
 
