@@ -25,4 +25,12 @@ blocks_of-le n block most within some =
     ]
 
 pub returns : goal.returns
-returns c = ?
+returns c =
+    let times : c.args.n ≤ c.div_ceil.result * 1048576 =
+    rw c.div_ceil.ensures (div_ceil_times c.args.n 1048576 (omega arith)).0 in
+    let long : c.div_ceil.result ≤ c.max.result = omega (arith, c.max.ensures) in
+    let more : c.div_ceil.result * 1048576 ≤ c.max.result * 1048576 = omega (arith, long) in
+    let some : 0 < c.max.result = omega (arith, c.requires, c.max.ensures) in
+    let few : blocks_of c.args.n c.max.result ≤ 1048576 =
+    blocks_of-le c.args.n c.max.result 1048576 (omega (arith, times, more)) some in
+    (some, omega (arith, few))
