@@ -1,6 +1,6 @@
 -- Arrays dealt to inputs, one after another.
 use Rattle.std.proofs.Common.{◌≡◌, ◌<◌, ◌≤◌, ◌≢◌, ◌&&◌, ◌==◌, ℕ, zero, suc, ℤ, Bool, true, false, List, [], ◌∷◌, ◌++◌, length, take, drop, nat_le}
-use Rattle.std.proofs.Common.{Result, Ok, Err, if◌then◌else◌, refl, ap, sym, ◌∙◌, subst, inl, inr, ⊥, arith, append_assoc}
+use Rattle.std.proofs.Common.{Result, Ok, Err, if◌then◌else◌, refl, ap, sym, ◌∙◌, subst, inl, inr, arith, append_assoc}
 use Rattle.std.proofs.lemmas.Bool.{and_parts, and_from, le-leb, leb-true}
 use Rattle.std.proofs.lemmas.List.{take-append-drop, length-append, length-take}
 use Rattle.std.proofs.Math.Seq.{take-append_seam, drop-append_seam}
@@ -211,7 +211,7 @@ same_elements b c first second same =
       ]
     ]
   where
-    one-two : 1 ≡ 2 → ⊥
+    one-two : ◌≡◌ {A = ℕ} 1 2 → ⊥
     one-two h = omega arith
 
 same_bounds : (b c : Bounds) → b.rank ≡ c.rank → b.elements ≡ c.elements → b ≡ c

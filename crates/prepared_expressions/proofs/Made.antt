@@ -1,6 +1,7 @@
 -- What a kind and numbers make has these numbers, and the other way round.
 use Rattle.std.proofs.Common.{◌≡◌, ℕ, zero, suc, ◌^◌, ◌<◌, ◌≤◌, List, [], ◌∷◌, ◌++◌, length, map, take, drop, Bool, true, false, nat_le}
-use Rattle.std.proofs.Common.{Option, Some, None, option_map, if◌then◌else◌, get_or, refl, ap, sym, subst, arith}
+use Rattle.std.proofs.Common.{Option, Some, None, option_map, Result, Ok, Err, if◌then◌else◌, get_or, refl, ap, sym, ◌∙◌, subst, inl, inr, arith}
+use Rattle.prepared_expressions.specs.declared.refusal.Refusal.{Refusal}
 use Rattle.std.specs.Int.{w64, cast_signed, cast_unsigned}
 use Rattle.tensor_terms.specs.Term.{Unary, each, constant, movement, pad, reduce}
 use Rattle.tensor_terms.specs.Term.{broadcast, slice, shuffle, reshape, chip, reverse, stride}
@@ -10,7 +11,7 @@ use Rattle.prepared_expressions.specs.declared.kind.UnaryKind.TheVariants.{Each,
 use Rattle.prepared_expressions.specs.declared.kind.UnaryKind.TheVariants.{Reshape, Chip, Reverse, Stride, Pad, Reduce}
 use Rattle.prepared_expressions.specs.declared.kind.BinaryKind.{BinaryKind}
 use Rattle.prepared_expressions.specs.declared.kind.BinaryKind.TheVariants.{Pairwise, Concat, Contract, Convolve}
-use Rattle.prepared_expressions.specs.private.Made.{of_none, one_in, two_in, lists_in, cons_of, flag_in, flags_in, pairs_in, unary_from, binary_from}
+use Rattle.prepared_expressions.specs.private.Made.{IsMadeOr, of_none, one_in, two_in, lists_in, cons_of, flag_in, flags_in, pairs_in, unary_from, binary_from}
 use Rattle.prepared_expressions.specs.Recorded.{flag_number, pair_numbers, unary_kind, unary_numbers, binary_kind, binary_numbers, HasRange}
 use Rattle.std.proofs.lemmas.Int.{to_z-of_z}
 use Rattle.std.proofs.Math.Seq.{take-append_seam, drop-append_seam}
@@ -161,6 +162,22 @@ binary_from-back Contract ns o is =
 binary_from-back Convolve ns o is = some (HasTwo Convolve ns) (convolve ns) o is (refl, refl)
 
 -- no numbers stand beside what needs none
+-- what was made of no numbers shows what stands for it
+pub made-none : {A B : Type 0} (shows : A → B) (x : A) (y : B) (ns : List ℕ) (r : Result A Refusal) → y ≡ shows x
+    → IsMadeOr (λ x. x) (of_none x ns) r → IsMadeOr shows (of_none y ns) r
+made-none shows x y [] (Ok z) same made = let e : x ≡ z = cc in ap Some (same ∙ ap shows e)
+made-none shows x y (n ∷ ns) (Ok z) same made = absurd (cc)
+made-none shows x y [] (Err f) same made =
+    elim made [
+      | inl memory ↦ inl memory
+      | inr none ↦ absurd (let e : Some x ≡ None = none.1 in cc)
+    ]
+made-none shows x y (n ∷ ns) (Err f) same made =
+    elim made [
+      | inl memory ↦ inl memory
+      | inr none ↦ inr (none.0, refl)
+    ]
+
 pub of_none-back : {A : Type 0} (x y : A) (ns : List ℕ) → of_none x ns ≡ Some y → (x ≡ y) × (ns ≡ [])
 of_none-back x y [] is = (cc, refl)
 of_none-back x y (n ∷ ns) is = absurd (cc)
