@@ -8,7 +8,7 @@ use Rattle.std.proofs.lemmas.List.FromFn.{map-range_with_len_more}
 use Rattle.std.proofs.lemmas.List.Sums.{fold_push}
 use Rattle.std.proofs.lemmas.Simd.{map-map}
 use Rattle.std.proofs.lemmas.Nat.{div_below}
-use Rattle.tensor_shape.specs.Legal.{highest_rank}
+use Rattle.tensor_shape.specs.Legal.{widest}
 use Rattle.tensor_shape.specs.Index.{size_of, place, index_of}
 use Rattle.tensor_shape.specs.Wrap.{wrap}
 use Rattle.tensor_terms.specs.Contraction.{firsts, seconds, outer_dims, contracted, contracted_dims}
@@ -62,7 +62,7 @@ pub record IsContraction (pairs : List (ℕ × ℕ)) (ds es : List ℕ) (a b : �
 -- two operands as rows, so many of so many values
 module _ (pairs : List (ℕ × ℕ)) (ds es : List ℕ) (a b : ℕ → ℤ) (m n w n' : ℕ)
     (first second : ℕ → ℕ → ℤ) (axes others : List ℕ)
-    (legal : IsOk (contracted_dims highest_rank pairs ds es))
+    (legal : IsOk (contracted_dims widest pairs ds es))
     (is_first_at : IsOperand m n first a ds axes) (are_firsts : axes ≡ firsts pairs)
     (is_second_at : IsOperand w n' second b es others) (are_seconds : others ≡ seconds pairs) where
   is_first : IsOperand m n first a ds (firsts pairs)
@@ -137,7 +137,7 @@ module _ (pairs : List (ℕ × ℕ)) (ds es : List ℕ) (a b : ℕ → ℤ) (m n
 -- so do rows that hold other values, which are those of both operands at all places
 pub same-contraction : (pairs : List (ℕ × ℕ)) (ds es : List ℕ) (a b of on : ℕ → ℤ) (m n w n' : ℕ)
     (first second : ℕ → ℕ → ℤ) (axes others : List ℕ)
-    → IsOk (contracted_dims highest_rank pairs ds es)
+    → IsOk (contracted_dims widest pairs ds es)
     → ((p : ℕ) → p < size_of ds → of p ≡ a p) → ((p : ℕ) → p < size_of es → on p ≡ b p)
     → IsOperand m n first of ds axes → axes ≡ firsts pairs
     → IsOperand w n' second on es others → others ≡ seconds pairs

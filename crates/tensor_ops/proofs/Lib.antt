@@ -1,5 +1,5 @@
 pub use Rattle.tensor_terms.proofs.OtherAxes
-pub use Rattle.tensor_terms.proofs.Ranks
+pub use Rattle.tensor_terms.proofs.Widening
 pub use Rattle.tensor_terms.proofs.Shapes
 pub mod CombinedRuns
 pub mod Contractions

@@ -10,7 +10,7 @@ use Rattle.std.proofs.lemmas.List.{ext_get_or, map-append, take_all}
 use Rattle.std.proofs.lemmas.List.FromFn.{length-map-range_with_len, get_or-map-range_with_len}
 use Rattle.std.proofs.lemmas.List.FromFn.{length-range_with_len, get_or-range_with_len}
 use Rattle.std.proofs.lemmas.Simd.{map-map}
-use Rattle.tensor_shape.specs.Legal.{highest_rank}
+use Rattle.tensor_shape.specs.Legal.{widest}
 use Rattle.tensor_shape.specs.Index.{size_of, IsIndexOf, index_of}
 use Rattle.tensor_shape.specs.Wrap.{wrap}
 use Rattle.tensor_shape.proofs.Places.{length-IsIndexOf}
@@ -119,7 +119,7 @@ in-order axes ds legal same index within =
 
 pub dims-in-order : (axes ds : List ℕ) → are_axes (length ds) axes ≡ true
     → axes_first axes (length ds) ≡ range_with_len 0 (length ds)
-    → moved_dims highest_rank (shuffle (axes_first axes (length ds))) ds ≡ Ok ds
+    → moved_dims widest (shuffle (axes_first axes (length ds))) ds ≡ Ok ds
 dims-in-order axes ds legal same =
     shuffle-first axes ds legal
     ∙ ap (λ es. Ok es)
@@ -137,7 +137,7 @@ numbers-in-order xs each =
 
 -- an operand with some axes first lies in runs along them
 module _ (axes ds es : List ℕ) (f : List ℕ → ℤ) (legal : are_axes (length ds) axes ≡ true)
-    (dims : moved_dims highest_rank (shuffle (axes_first axes (length ds))) ds ≡ Ok es)
+    (dims : moved_dims widest (shuffle (axes_first axes (length ds))) ds ≡ Ok es)
   where
     fronted-dims : es ≡ shuffled_dims ds (axes_first axes (length ds))
     fronted-dims =
@@ -198,7 +198,7 @@ module _ (inputs : List Contents) where
   -- the parts of a contraction
   pub gives-contracted : (t u : Term) (pairs : List (ℕ × ℕ)) (ds es xs ys : List ℕ)
       (operand other : Placed) (a b : ValueRuns)
-      → IsOk (dims_of highest_rank (binary (contract pairs) t u) inputs)
+      → IsOk (dims_of widest (binary (contract pairs) t u) inputs)
       → Gives operand ds (value t inputs) → ds ≡ shape_of t inputs
       → Gives other es (value u inputs) → es ≡ shape_of u inputs
       → xs ≡ firsts pairs

@@ -4,7 +4,7 @@ use Rattle.std.proofs.Common.{refl, ap, sym, subst, ◌∙◌, arith}
 use Rattle.std.specs.List.{range_with_len}
 use Rattle.std.proofs.lemmas.List.FromFn.{length-map-range_with_len, get_or-map-range_with_len}
 use Rattle.tensor_shape.specs.Index.{size_of, IsIndexOf, place, index_of}
-use Rattle.tensor_shape.specs.Legal.{highest_rank, most_elements}
+use Rattle.tensor_shape.specs.Legal.{widest, most_elements}
 use Rattle.tensor_shape.proofs.Places.{place-below-size_of, index_of-place, place-index_of, IsIndexOf-index_of}
 use Rattle.tensor_views.specs.Axes.{axes_from, by_steps, moved_axes, moved_start}
 use Rattle.tensor_terms.specs.Contents.{Contents, value_at}
@@ -70,7 +70,7 @@ view-whole placed ds sound count few = record {
 
 -- a view over such an operand
 pub gives-walk : (m : Movement) (inner outer whole : Placed) (start from : ℕ) (axes along : List Axis) (ds rs : List ℕ)
-    → IsView inner start axes outer ds → moved_dims highest_rank m ds ≡ Ok rs → from ≡ moved_start m start axes → along ≡ moved_axes m axes
+    → IsView inner start axes outer ds → moved_dims widest m ds ≡ Ok rs → from ≡ moved_start m start axes → along ≡ moved_axes m axes
     → ((p : ℕ) → meaning whole p ≡ meaning inner (reached from along p)) → count_of whole ≡ walk_size along
     → (IsSound inner → count_of inner ≤ most_elements
     → ((p : ℕ) → p < walk_size along → reached from along p < count_of inner) → IsSound whole)
@@ -93,7 +93,7 @@ gives-walk m inner outer whole start from axes along ds rs view dims is_from is_
 
 -- where it starts is within bounds
 pub moved_start-few : (m : Movement) (inner outer : Placed) (start : ℕ) (axes : List Axis) (ds rs : List ℕ)
-    → IsView inner start axes outer ds → moved_dims highest_rank m ds ≡ Ok rs → 0 < size_of rs → moved_start m start axes < 2 ^ 32
+    → IsView inner start axes outer ds → moved_dims widest m ds ≡ Ok rs → 0 < size_of rs → moved_start m start axes < 2 ^ 32
 moved_start-few m inner outer start axes ds rs view dims some =
     let inside = view.inside (moved m ds (index_of rs 0)) (index-moved axes ds rs view.along m (index_of rs 0) dims (IsIndexOf-index_of rs 0 some)) in
     moved_start-below axes ds rs view.along m start (2 ^ 32) dims some (omega (arith, inside, view.few))
@@ -138,7 +138,7 @@ gives-list whole placed items ds count is sound same full = record {
 
 -- a reshape has its operand's values at the same places
 pub gives-reshape : (sizes ds rs : List ℕ) (placed : Placed) → IsSound placed → count_of placed ≡ size_of ds
-    → moved_dims highest_rank (reshape sizes) ds ≡ Ok rs → Gives placed rs (λ index. meaning_at placed ds (moved (reshape sizes) ds index))
+    → moved_dims widest (reshape sizes) ds ≡ Ok rs → Gives placed rs (λ index. meaning_at placed ds (moved (reshape sizes) ds index))
 gives-reshape sizes ds rs placed sound count dims =
     let known = reshape-known sizes ds (rw dims refl) in
     let result : sizes ≡ rs = (cc known.dims) in

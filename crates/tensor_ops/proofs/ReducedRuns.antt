@@ -4,7 +4,7 @@ use Rattle.std.proofs.Common.{ap, sym, subst, ◌∙◌, arith}
 use Rattle.std.specs.List.{fold, range_with_len}
 use Rattle.std.proofs.lemmas.Simd.{map-map}
 use Rattle.tensor_shape.specs.Index.{size_of, IsIndexOf, index_of}
-use Rattle.tensor_shape.specs.Legal.{highest_rank}
+use Rattle.tensor_shape.specs.Legal.{widest}
 use Rattle.tensor_loops.specs.Folds.{folded}
 use Rattle.tensor_ops.specs.private.InRuns.{run_length, run_places, run_part, HaveOneLength}
 use Rattle.tensor_ops.specs.private.InRuns.{GivesParts, GivesReduced}
@@ -92,7 +92,7 @@ module _ (r : Reducer) (axes ds : List ℕ) where
 -- the parts of a reduction
 pub gives-reduced : (inputs : List Contents) (t : Term) (r : Reducer) (axes ds : List ℕ)
     (f : List ℕ → ℤ) (runs : InRuns)
-    → IsOk (dims_of highest_rank (unary (reduce r axes) t) inputs) → ds ≡ shape_of t inputs
+    → IsOk (dims_of widest (unary (reduce r axes) t) inputs) → ds ≡ shape_of t inputs
     → GivesReduced runs r axes ds f → Agree ds f (value t inputs)
     → GivesParts runs (unary (reduce r axes) t) inputs
 gives-reduced inputs t r axes ds f runs has_dims shape gives same =

@@ -5,7 +5,7 @@ use Rattle.std.proofs.lemmas.Bool.{cases_Bool}
 use Rattle.std.specs.Cmp.Lexicographic.{pointwise, same_text}
 use Rattle.std.specs.Prelude.{nat_eq}
 use Rattle.std.specs.Result.{result_unwrap_or}
-use Rattle.tensor_shape.specs.Legal.{highest_rank}
+use Rattle.tensor_shape.specs.Legal.{widest}
 use Rattle.tensor_shape.specs.Index.{size_of, IsIndexOf, index_of}
 use Rattle.tensor_shape.proofs.Places.{IsIndexOf-index_of}
 use Rattle.tensor_terms.specs.Concatenation.{joined_dims}
@@ -42,7 +42,7 @@ equal_dims-known ds es rs dims =
     ]
 
 -- operations on operands that agree
-pub agree-unary : (o : Unary) (ds rs : List ℕ) (f g : List ℕ → ℤ) → unary_dims highest_rank o ds ≡ Ok rs
+pub agree-unary : (o : Unary) (ds rs : List ℕ) (f g : List ℕ → ℤ) → unary_dims widest o ds ≡ Ok rs
     → Agree ds f g
     → Agree rs (unary_value o ds f) (unary_value o ds g)
 agree-unary (each o) ds rs f g dims same index inside =
@@ -60,7 +60,7 @@ agree-unary (reduce r axes) ds rs f g dims same index inside =
     reduced-other r axes ds f g same index (subst (λ d. IsIndexOf d index) result inside)
 
 pub agree-binary : (o : Binary) (ds es rs : List ℕ) (f g h k : List ℕ → ℤ)
-    → binary_dims highest_rank o ds es ≡ Ok rs → Agree ds f g → Agree es h k
+    → binary_dims widest o ds es ≡ Ok rs → Agree ds f g → Agree es h k
     → Agree rs (binary_value o ds es f h) (binary_value o ds es g k)
 agree-binary (pairwise o) ds es rs f g h k dims first second index inside =
     let known = equal_dims-known ds es rs dims in
@@ -102,15 +102,15 @@ agree-ternary select cs ds es rs e f g h k l dims first second third index insid
 -- a term over some tensors is the tensor that another is over others
 pub record IsSameTensor (s : Term) (ss : List Contents) (t : Term) (ts : List Contents) : Type 0
   where
-    pub dims : dims_of highest_rank s ss ≡ dims_of highest_rank t ts
+    pub dims : dims_of widest s ss ≡ dims_of widest t ts
     pub values : Agree (shape_of t ts) (value s ss) (value t ts)
 
 module _ (ss ts : List Contents) where
   -- a tensor that was worked out
-  pub same-worked_out : (n : ℕ) (t : Term) → IsOk (dims_of highest_rank t ts) → input_of ss n ≡ tensor_of t ts
+  pub same-worked_out : (n : ℕ) (t : Term) → IsOk (dims_of widest t ts) → input_of ss n ≡ tensor_of t ts
       → IsSameTensor (input n) ss t ts
   same-worked_out n t has here = record {
-    dims = ap (λ x. Ok x.dims) here ∙ sym (Ok-unwrap (dims_of highest_rank t ts) has);
+    dims = ap (λ x. Ok x.dims) here ∙ sym (Ok-unwrap (dims_of widest t ts) has);
     values = λ index inside. ap (λ x. value_at x index) here ∙ value_at-tensor_of ts t index inside;
   }
 
@@ -121,33 +121,33 @@ module _ (ss ts : List Contents) where
     values = λ index inside. ap (λ x. value_at x index) here;
   }
 
-  pub same-unary : (o : Unary) (s t : Term) → IsOk (dims_of highest_rank (unary o t) ts) → IsSameTensor s ss t ts
+  pub same-unary : (o : Unary) (s t : Term) → IsOk (dims_of widest (unary o t) ts) → IsSameTensor s ss t ts
       → IsSameTensor (unary o s) ss (unary o t) ts
   same-unary o s t has same =
-      let known = with_one-known (unary_dims highest_rank o) (dims_of highest_rank t ts) has in
+      let known = with_one-known (unary_dims widest o) (dims_of widest t ts) has in
       let shape : shape_of s ss ≡ shape_of t ts = ap (λ r. result_unwrap_or r []) same.dims in
-      let dims : unary_dims highest_rank o (shape_of t ts) ≡ Ok (shape_of (unary o t) ts) =
-      sym known.1 ∙ Ok-unwrap (dims_of highest_rank (unary o t) ts) has in
+      let dims : unary_dims widest o (shape_of t ts) ≡ Ok (shape_of (unary o t) ts) =
+      sym known.1 ∙ Ok-unwrap (dims_of widest (unary o t) ts) has in
       record {
-        dims = ap (with_one (unary_dims highest_rank o)) same.dims;
+        dims = ap (with_one (unary_dims widest o)) same.dims;
         values = λ index inside.
             ap (λ d. unary_value o d (value s ss) index) shape
             ∙ agree-unary o (shape_of t ts) (shape_of (unary o t) ts) (value s ss) (value t ts)
             dims same.values index inside;
       }
 
-  pub same-binary : (o : Binary) (s t u v : Term) → IsOk (dims_of highest_rank (binary o t v) ts)
+  pub same-binary : (o : Binary) (s t u v : Term) → IsOk (dims_of widest (binary o t v) ts)
       → IsSameTensor s ss t ts → IsSameTensor u ss v ts
       → IsSameTensor (binary o s u) ss (binary o t v) ts
   same-binary o s t u v has first second =
-      let known = with_two-known (binary_dims highest_rank o) (dims_of highest_rank t ts) (dims_of highest_rank v ts) has in
+      let known = with_two-known (binary_dims widest o) (dims_of widest t ts) (dims_of widest v ts) has in
       let left : shape_of s ss ≡ shape_of t ts = ap (λ r. result_unwrap_or r []) first.dims in
       let right : shape_of u ss ≡ shape_of v ts = ap (λ r. result_unwrap_or r []) second.dims in
-      let dims : binary_dims highest_rank o (shape_of t ts) (shape_of v ts) ≡ Ok (shape_of (binary o t v) ts) =
-      sym known.2 ∙ Ok-unwrap (dims_of highest_rank (binary o t v) ts) has in
+      let dims : binary_dims widest o (shape_of t ts) (shape_of v ts) ≡ Ok (shape_of (binary o t v) ts) =
+      sym known.2 ∙ Ok-unwrap (dims_of widest (binary o t v) ts) has in
       record {
-        dims = ap (λ r. with_two (binary_dims highest_rank o) r (dims_of highest_rank u ss)) first.dims
-            ∙ ap (with_two (binary_dims highest_rank o) (dims_of highest_rank t ts)) second.dims;
+        dims = ap (λ r. with_two (binary_dims widest o) r (dims_of widest u ss)) first.dims
+            ∙ ap (with_two (binary_dims widest o) (dims_of widest t ts)) second.dims;
         values = λ index inside.
             ap (λ d. binary_value o d (shape_of u ss) (value s ss) (value u ss) index) left
             ∙ ap (λ e. binary_value o (shape_of t ts) e (value s ss) (value u ss) index) right
@@ -156,20 +156,20 @@ module _ (ss ts : List Contents) where
             (value u ss) (value v ts) dims first.values second.values index inside;
       }
 
-  pub same-ternary : (o : Ternary) (s t u v w x : Term) → IsOk (dims_of highest_rank (ternary o t v x) ts)
+  pub same-ternary : (o : Ternary) (s t u v w x : Term) → IsOk (dims_of widest (ternary o t v x) ts)
       → IsSameTensor s ss t ts
       → IsSameTensor u ss v ts → IsSameTensor w ss x ts
       → IsSameTensor (ternary o s u w) ss (ternary o t v x) ts
   same-ternary o s t u v w x has first second third =
-      let known = with_three-known (ternary_dims o) (dims_of highest_rank t ts) (dims_of highest_rank v ts) (dims_of highest_rank x ts)
+      let known = with_three-known (ternary_dims o) (dims_of widest t ts) (dims_of widest v ts) (dims_of widest x ts)
       has in
       let dims : ternary_dims o (shape_of t ts) (shape_of v ts) (shape_of x ts)
       ≡ Ok (shape_of (ternary o t v x) ts) =
-      sym known.3 ∙ Ok-unwrap (dims_of highest_rank (ternary o t v x) ts) has in
+      sym known.3 ∙ Ok-unwrap (dims_of widest (ternary o t v x) ts) has in
       record {
-        dims = ap (λ r. with_three (ternary_dims o) r (dims_of highest_rank u ss) (dims_of highest_rank w ss)) first.dims
-            ∙ ap (λ r. with_three (ternary_dims o) (dims_of highest_rank t ts) r (dims_of highest_rank w ss)) second.dims
-            ∙ ap (with_three (ternary_dims o) (dims_of highest_rank t ts) (dims_of highest_rank v ts)) third.dims;
+        dims = ap (λ r. with_three (ternary_dims o) r (dims_of widest u ss) (dims_of widest w ss)) first.dims
+            ∙ ap (λ r. with_three (ternary_dims o) (dims_of widest t ts) r (dims_of widest w ss)) second.dims
+            ∙ ap (with_three (ternary_dims o) (dims_of widest t ts) (dims_of widest v ts)) third.dims;
         values = λ index inside.
             agree-ternary o (shape_of t ts) (shape_of v ts) (shape_of x ts)
             (shape_of (ternary o t v x) ts)

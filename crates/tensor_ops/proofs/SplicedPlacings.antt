@@ -5,7 +5,7 @@ use Rattle.std.proofs.lemmas.Bool.{lt-ltb, le-ltb}
 use Rattle.std.proofs.lemmas.Nat.{div-add-mod'}
 use Rattle.std.proofs.Math.Nat.{mod-lt}
 use Rattle.tensor_shape.specs.Index.{size_of, index_of}
-use Rattle.tensor_shape.specs.Legal.{highest_rank}
+use Rattle.tensor_shape.specs.Legal.{widest}
 use Rattle.tensor_terms.specs.Concatenation.{joined_dims, concatenated_dims, concatenated}
 use Rattle.tensor_ops.specs.private.Meaning.{meaning, count_of, IsSound}
 use Rattle.tensor_ops.specs.private.Placing.{Gives, meaning_at}
@@ -32,7 +32,7 @@ first-alone v w f g p none some =
     sym (div-add-mod' p v) ∙ ap (λ n. p / n * v + p % n) (sym width) ∙ omega (arith, below) in
     ap f place ∙ spliced-first v w f g p first
 
-module _ (axis : ℕ) (ds es rs : List ℕ) (a b : Placed) (dims : concatenated_dims highest_rank axis ds es ≡ Ok rs) where
+module _ (axis : ℕ) (ds es rs : List ℕ) (a b : Placed) (dims : concatenated_dims widest axis ds es ≡ Ok rs) where
   known : IsConcatenation axis ds es
   known = concatenation-known axis ds es (rw dims refl)
 

@@ -4,7 +4,7 @@ use Rattle.std.proofs.Common.{subst, arith}
 use Rattle.std.specs.List.{range_with_len}
 use Rattle.std.specs.Result.{result_unwrap_or}
 use Rattle.std.proofs.lemmas.List.FromFn.{length-map-range_with_len, get_or-map-range_with_len}
-use Rattle.tensor_shape.specs.Legal.{highest_rank}
+use Rattle.tensor_shape.specs.Legal.{widest}
 use Rattle.tensor_shape.specs.Index.{size_of, place, index_of}
 use Rattle.tensor_shape.proofs.Places.{place-below-size_of, index_of-place, place-index_of}
 use Rattle.tensor_shape.proofs.Places.{IsIndexOf-index_of}
@@ -31,7 +31,7 @@ reduced-shape axes ds rs dims =
     ap (λ r. result_unwrap_or r []) (sym (reduction-known axes ds (rw dims refl)).dims ∙ dims)
 
 contracted-shape : (pairs : List (ℕ × ℕ)) (ds es rs : List ℕ)
-    → contracted_dims highest_rank pairs ds es ≡ Ok rs → outer_dims pairs ds es ≡ rs
+    → contracted_dims widest pairs ds es ≡ Ok rs → outer_dims pairs ds es ≡ rs
 contracted-shape pairs ds es rs dims =
     ap (λ r. result_unwrap_or r []) (sym (contraction-known pairs ds es (rw dims refl)).dims ∙ dims)
 
@@ -39,7 +39,7 @@ module _ (inputs : List Contents) where
   -- an operation on one tensor, of an operand that was placed
   pub agree-term : (t : Term) (o : Unary) (a : Placed) (ds rs : List ℕ)
       → Gives a ds (value t inputs)
-      → ds ≡ shape_of t inputs → unary_dims highest_rank o ds ≡ Ok rs
+      → ds ≡ shape_of t inputs → unary_dims widest o ds ≡ Ok rs
       → Agree rs (unary_value o ds (meaning_at a ds)) (value (unary o t) inputs)
   agree-term t o a ds rs operand shape dims index is_index =
       agree-unary o ds rs (meaning_at a ds) (value t inputs) dims
@@ -48,7 +48,7 @@ module _ (inputs : List Contents) where
 
   pub gives-unary : (t : Term) (o : Unary) (a whole : Placed) (ds rs : List ℕ)
       → Gives a ds (value t inputs)
-      → ds ≡ shape_of t inputs → unary_dims highest_rank o ds ≡ Ok rs
+      → ds ≡ shape_of t inputs → unary_dims widest o ds ≡ Ok rs
       → Gives whole rs (unary_value o ds (meaning_at a ds))
       → Gives whole rs (value (unary o t) inputs)
   gives-unary t o a whole ds rs operand shape dims gives =
@@ -58,7 +58,7 @@ module _ (inputs : List Contents) where
   -- and on two
   pub agree-terms : (t u : Term) (o : Binary) (a b : Placed) (ds es rs : List ℕ)
       → Gives a ds (value t inputs) → Gives b es (value u inputs)
-      → ds ≡ shape_of t inputs → es ≡ shape_of u inputs → binary_dims highest_rank o ds es ≡ Ok rs
+      → ds ≡ shape_of t inputs → es ≡ shape_of u inputs → binary_dims widest o ds es ≡ Ok rs
       → Agree rs (binary_value o ds es (meaning_at a ds) (meaning_at b es))
       (value (binary o t u) inputs)
   agree-terms t u o a b ds es rs first second shape_first shape_second dims index is_index =
@@ -71,7 +71,7 @@ module _ (inputs : List Contents) where
 
   pub gives-binary : (t u : Term) (o : Binary) (a b whole : Placed) (ds es rs : List ℕ)
       → Gives a ds (value t inputs) → Gives b es (value u inputs)
-      → ds ≡ shape_of t inputs → es ≡ shape_of u inputs → binary_dims highest_rank o ds es ≡ Ok rs
+      → ds ≡ shape_of t inputs → es ≡ shape_of u inputs → binary_dims widest o ds es ≡ Ok rs
       → Gives whole rs (binary_value o ds es (meaning_at a ds) (meaning_at b es))
       → Gives whole rs (value (binary o t u) inputs)
   gives-binary t u o a b whole ds es rs first second shape_first shape_second dims gives =
@@ -158,7 +158,7 @@ values-reduced r axes ds rs n count of at f dims values whole at_each =
     (reduced-other r axes ds (λ js. of (place ds js)) f (values-agree n of ds f values)))
 
 pub values-contracted : (pairs : List (ℕ × ℕ)) (ds es rs : List ℕ) (n m count : ℕ) (of on at : ℕ
-    → ℤ) (f g : List ℕ → ℤ) → contracted_dims highest_rank pairs ds es ≡ Ok rs
+    → ℤ) (f g : List ℕ → ℤ) → contracted_dims widest pairs ds es ≡ Ok rs
     → HasValues n of ds f → HasValues m on es g → count ≡ size_of (outer_dims pairs ds es)
     → ((p : ℕ) → p < count → at p ≡ contracted pairs ds es (λ js. of (place ds js))
     (λ js. on (place es js)) (index_of (outer_dims pairs ds es) p))

@@ -6,7 +6,7 @@ use Rattle.std.proofs.lemmas.Bool.{cases_Bool, and_from, eq-eqb, ltb-true, ltb-f
 use Rattle.std.proofs.lemmas.List.{get_or-set_same}
 use Rattle.std.specs.Cmp.Lexicographic.{pointwise}
 use Rattle.tensor_shape.specs.Index.{IsIndexOf}
-use Rattle.tensor_shape.specs.Legal.{highest_rank, most_elements, bulk_of, IsLegal, are_legal}
+use Rattle.tensor_shape.specs.Legal.{highest_rank, widest, most_elements, bulk_of, IsLegal, are_legal}
 use Rattle.tensor_terms.specs.Concatenation.{joined_dims, concatenated_dims, concatenated}
 use Rattle.tensor_ops.specs.private.Meaning.{meaning}
 use Rattle.tensor_terms.specs.Padding.{padded_dims, padded}
@@ -42,7 +42,7 @@ IsLegal-set-le k x y ds le legal = record {
 
 -- the dims of a concatenation of dims that are the same but for their sizes along the axis
 concatenated_dims-sizes : (k x y : ℕ) (ds : List ℕ) → k < length ds → IsLegal (set ds k (x + y))
-    → concatenated_dims highest_rank k (set ds k x) (set ds k y) ≡ Ok (set ds k (x + y))
+    → concatenated_dims widest k (set ds k x) (set ds k y) ≡ Ok (set ds k (x + y))
 concatenated_dims-sizes k x y ds within legal =
     let first = length-set ds k x in
     let second = length-set ds k y in
@@ -54,26 +54,26 @@ concatenated_dims-sizes k x y ds within legal =
     let others : pointwise nat_eq (remove (set ds k x) k) (remove (set ds k y) k) ≡ true =
     ap (λ l. pointwise nat_eq l (remove (set ds k y) k)) (remove-set k x ds)
     ∙ ap (pointwise nat_eq (remove ds k)) (remove-set k y ds) ∙ pointwise-itself (remove ds k) in
-    let are : are_legal highest_rank (joined_dims k (set ds k x) (set ds k y)) ≡ true =
-    ap (are_legal highest_rank) joined
+    let are : are_legal widest (joined_dims k (set ds k x) (set ds k y)) ≡ true =
+    ap (are_legal widest) joined
     ∙ and_from (nat_le (length (set ds k (x + y))) highest_rank) (nat_le (bulk_of (set ds k (x + y))) most_elements)
     (le-leb (length (set ds k (x + y))) highest_rank legal.rank) (le-leb (bulk_of (set ds k (x + y))) most_elements legal.elements) in
     rw (same, in_rank, others, are) (ap {A = List ℕ} {B = Shaped} Ok joined)
 
 -- those with zeroes before, and then with zeroes behind
 pub front-dims : (k b c : ℕ) (ds front : List ℕ) → front ≡ set ds k b → k < length ds → IsLegal (set ds k (b + get_or ds k 0 + c))
-    → concatenated_dims highest_rank k front ds ≡ Ok (set ds k (b + get_or ds k 0))
+    → concatenated_dims widest k front ds ≡ Ok (set ds k (b + get_or ds k 0))
 front-dims k b c ds front is within legal =
-    ap (λ l. concatenated_dims highest_rank k l ds) is
-    ∙ ap (λ l. concatenated_dims highest_rank k (set ds k b) l) (sym (set-itself k ds))
+    ap (λ l. concatenated_dims widest k l ds) is
+    ∙ ap (λ l. concatenated_dims widest k (set ds k b) l) (sym (set-itself k ds))
     ∙ concatenated_dims-sizes k b (get_or ds k 0) ds within
     (IsLegal-set-le k (b + get_or ds k 0) (b + get_or ds k 0 + c) ds (omega arith) legal)
 
 pub back-dims : (k b c : ℕ) (ds part back : List ℕ) → part ≡ set ds k (b + get_or ds k 0) → back ≡ set ds k c → k < length ds
-    → IsLegal (set ds k (b + get_or ds k 0 + c)) → concatenated_dims highest_rank k part back ≡ Ok (set ds k (b + get_or ds k 0 + c))
+    → IsLegal (set ds k (b + get_or ds k 0 + c)) → concatenated_dims widest k part back ≡ Ok (set ds k (b + get_or ds k 0 + c))
 back-dims k b c ds part back is_part is_back within legal =
-    ap (λ l. concatenated_dims highest_rank k l back) is_part
-    ∙ ap (λ l. concatenated_dims highest_rank k (set ds k (b + get_or ds k 0)) l) is_back
+    ap (λ l. concatenated_dims widest k l back) is_part
+    ∙ ap (λ l. concatenated_dims widest k (set ds k (b + get_or ds k 0)) l) is_back
     ∙ concatenated_dims-sizes k (b + get_or ds k 0) c ds within legal
 
 -- the values with zeroes before and behind

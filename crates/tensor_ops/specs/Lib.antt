@@ -1,5 +1,6 @@
 pub use Rattle.tensor_shape.specs.Index
 pub use Rattle.tensor_shape.specs.Legal
+pub use Rattle.tensor_shape.specs.declared.bounds.Bounds
 pub use Rattle.tensor_shape.specs.Wrap
 pub use Rattle.tensor_values.specs.Combining
 pub use Rattle.tensor_values.specs.Scalars

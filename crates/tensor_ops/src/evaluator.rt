@@ -5,7 +5,7 @@ pub(crate) mod root;
 
 ghost use Rattle.std.specs.Prelude.{◌≡◌, ◌<◌, ◌≤◌, ◌+◌, ◌-◌, ◌++◌, ℕ, length, IsTrue, IsOk, IfOk};
 ghost use Rattle.std.specs.Prelude.{OnOk};
-ghost use Rattle.tensor_shape.specs.Legal.{highest_rank};
+ghost use Rattle.tensor_shape.specs.Legal.{widest};
 ghost use Rattle.tensor_shape.specs.Index.{size_of};
 ghost use Rattle.tensor_terms.specs.Result.{dims_of, shape_of};
 ghost use Rattle.tensor_ops.specs.private.Root.{root_value, root_count, IsSoundRoot, IsSoundRoot-prop};
@@ -48,12 +48,12 @@ impl<'a> TensorEvaluator<'a> {
         inputs: &'a Inputs<'a>,
     ) -> Result<TensorEvaluator<'a>, AllocError>
         requires inputs { IsTrue (has_inputs (term_of expr.now) (length inputs.now.tensors)) }
-        requires dims { IsOk (dims_of inputs.now.rank (term_of expr.now) inputs.now.tensors) }
+        requires dims { IsOk (dims_of inputs.now.bounds (term_of expr.now) inputs.now.tensors) }
         ensures term { IfOk result (λ e. term_evaluated e ≡ term_of expr.now) }
         ensures inputs { IfOk result (λ e. inputs_evaluated e ≡ inputs.now.tensors) }
     {
-        // Says that the limit is a rank that dims can have.
-        let _limit = inputs.rank_limit();
+        // Says that dims can go as far as the inputs' bounds.
+        let _limit = inputs.bounds();
         TensorEvaluator::over(alloc, expr, inputs, &[])
     }
 
@@ -67,7 +67,7 @@ impl<'a> TensorEvaluator<'a> {
     ) -> Result<TensorEvaluator<'a>, AllocError>
         requires inputs { IsTrue (has_inputs (term_of expr.now)
             (length (inputs.now.tensors ++ others.now))) }
-        requires dims { IsOk (dims_of highest_rank (term_of expr.now)
+        requires dims { IsOk (dims_of widest (term_of expr.now)
             (inputs.now.tensors ++ others.now)) }
         ensures term { IfOk result (λ e. term_evaluated e ≡ term_of expr.now) }
         ensures inputs { IfOk result (λ e. inputs_evaluated e ≡ inputs.now.tensors ++ others.now) }

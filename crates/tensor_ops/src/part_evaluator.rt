@@ -7,7 +7,7 @@ pub(crate) mod value_runs;
 ghost use Rattle.std.specs.Prelude.{◌≡◌, ◌<◌, ◌≤◌, ◌+◌, ◌-◌, ◌++◌, ℕ, length, map};
 ghost use Rattle.std.specs.Prelude.{IsTrue, IsOk, IfOk};
 ghost use Rattle.std.specs.List.{range_with_len};
-ghost use Rattle.tensor_shape.specs.Legal.{highest_rank};
+ghost use Rattle.tensor_shape.specs.Legal.{widest};
 ghost use Rattle.tensor_shape.specs.Index.{size_of};
 ghost use Rattle.tensor_ops.specs.private.InRuns.{run_length, run_places, run_part};
 ghost use Rattle.tensor_ops.specs.private.InRuns.{HaveOneLength, HaveOneLength-prop};
@@ -58,7 +58,7 @@ impl<'a> PartEvaluator<'a> {
     ) -> Result<PartEvaluator<'a>, AllocError>
         requires inputs { IsTrue (has_inputs (term_of expr.now)
             (length (inputs.now.tensors ++ others.now))) }
-        requires dims { IsOk (dims_of highest_rank (term_of expr.now)
+        requires dims { IsOk (dims_of widest (term_of expr.now)
             (inputs.now.tensors ++ others.now)) }
         requires parts { IsTrue (has_parts (term_of expr.now)) }
         ensures term { IfOk result (λ e. term_in_parts e ≡ term_of expr.now) }

@@ -6,7 +6,7 @@ pub(crate) mod ready;
 pub(crate) mod splicing;
 
 ghost use Rattle.std.specs.Prelude.{◌≡◌, ◌^◌, length, Ok, IsTrue, IsOk, IfOk, if◌then◌else◌};
-ghost use Rattle.tensor_shape.specs.Legal.{highest_rank};
+ghost use Rattle.tensor_shape.specs.Legal.{widest};
 ghost use Rattle.tensor_shape.specs.Index.{size_of};
 ghost use Rattle.tensor_loops.specs.Loops.{either_way, selected};
 ghost use Rattle.tensor_ops.specs.private.Meaning.{meaning, count_of, IsSound};
@@ -27,7 +27,7 @@ use crate::placing::ready::{place_contraction, place_reduction};
 use crate::placing::splicing::{place_concatenation, place_pad};
 use std::alloc::{AllocError, Global};
 use tensor_loops::{Link, SelectOrder};
-use tensor_shape::{Dims, MAX_RANK};
+use tensor_shape::{Dims, WIDEST};
 use tensor_terms::{Binary, Expr, Movement, Node, Tensors, Ternary, Unary, moved_dims};
 use tensor_values::BinaryScalar;
 use tensor_views::View;
@@ -41,7 +41,7 @@ pub(crate) fn place<'a>(
     room: &mut usize,
 ) -> Result<Part<'a>, AllocError>
     requires inputs { IsTrue (has_inputs (term_of expr.now) (length (tensors_in tensors))) }
-    requires dims { IsOk (dims_of highest_rank (term_of expr.now) (tensors_in tensors)) }
+    requires dims { IsOk (dims_of widest (term_of expr.now) (tensors_in tensors)) }
     ensures placed { IfOk result (λ r.
         Gives r.placed r.dims (value (term_of expr.now) (tensors_in tensors.entry))) }
     ensures dims { IfOk result (λ r.
@@ -84,8 +84,8 @@ pub(crate) fn place_two<'a>(
     requires first_inputs { IsTrue (has_inputs (term_of first.now) (length (tensors_in tensors))) }
     requires second_inputs { IsTrue (has_inputs (term_of second.now)
         (length (tensors_in tensors))) }
-    requires first_dims { IsOk (dims_of highest_rank (term_of first.now) (tensors_in tensors)) }
-    requires second_dims { IsOk (dims_of highest_rank (term_of second.now) (tensors_in tensors)) }
+    requires first_dims { IsOk (dims_of widest (term_of first.now) (tensors_in tensors)) }
+    requires second_dims { IsOk (dims_of widest (term_of second.now) (tensors_in tensors)) }
     ensures first { IfOk result (λ r.
         Gives r.0.placed r.0.dims (value (term_of first.now) (tensors_in tensors.entry))) }
     ensures second { IfOk result (λ r.
@@ -109,12 +109,12 @@ fn place_unary<'a>(
 ) -> Result<Part<'a>, AllocError>
     requires sound { IsSound operand.placed }
     requires count { count_of operand.placed ≡ size_of operand.dims }
-    requires dims { IsOk (unary_dims highest_rank (unary_at operation) operand.dims) }
+    requires dims { IsOk (unary_dims widest (unary_at operation) operand.dims) }
     ensures placed { IfOk result (λ r. Gives r.placed r.dims
         (unary_value (unary_at operation.entry) operand.entry.dims
         (meaning_at operand.entry.placed operand.entry.dims))) }
     ensures dims { IfOk result (λ r.
-        unary_dims highest_rank (unary_at operation.entry) operand.entry.dims ≡ Ok r.dims) }
+        unary_dims widest (unary_at operation.entry) operand.entry.dims ≡ Ok r.dims) }
 {
     match operation {
         Unary::Each(operation) => {
@@ -150,13 +150,13 @@ fn place_binary<'a>(
     requires second { IsSound second.placed }
     requires count_first { count_of first.placed ≡ size_of first.dims }
     requires count_second { count_of second.placed ≡ size_of second.dims }
-    requires dims { IsOk (binary_dims highest_rank (binary_at operation) first.dims second.dims) }
+    requires dims { IsOk (binary_dims widest (binary_at operation) first.dims second.dims) }
     ensures placed { IfOk result (λ r. Gives r.placed r.dims
         (binary_value (binary_at operation.entry) first.entry.dims second.entry.dims
         (meaning_at first.entry.placed first.entry.dims)
         (meaning_at second.entry.placed second.entry.dims))) }
     ensures dims { IfOk result (λ r.
-        binary_dims highest_rank (binary_at operation.entry) first.entry.dims second.entry.dims
+        binary_dims widest (binary_at operation.entry) first.entry.dims second.entry.dims
         ≡ Ok r.dims) }
 {
     match operation {
@@ -289,14 +289,14 @@ pub(crate) fn place_movement<'a>(
 ) -> Result<Part<'a>, AllocError>
     requires sound { IsSound operand.placed }
     requires count { count_of operand.placed ≡ size_of operand.dims }
-    requires dims { IsOk (moved_dims highest_rank (movement_at movement) operand.dims) }
+    requires dims { IsOk (moved_dims widest (movement_at movement) operand.dims) }
     ensures dims { IfOk result (λ r.
-        moved_dims highest_rank (movement_at movement.entry) operand.entry.dims ≡ Ok r.dims) }
+        moved_dims widest (movement_at movement.entry) operand.entry.dims ≡ Ok r.dims) }
     ensures placed { IfOk result (λ r. Gives r.placed r.dims (λ index.
         meaning_at operand.entry.placed operand.entry.dims
         (moved (movement_at movement.entry) operand.entry.dims index))) }
 {
-    let dims = moved_dims(MAX_RANK, movement, &operand.dims).unwrap();
+    let dims = moved_dims(WIDEST, movement, &operand.dims).unwrap();
     let count = dims.size() as usize;
     if count == 0 {
         return Ok(Part {

@@ -6,7 +6,7 @@ use Rattle.std.proofs.lemmas.Bool.{and_parts, cases_Bool, ltb-true, leb-true, le
 use Rattle.std.proofs.lemmas.List.{length-map}
 use Rattle.std.proofs.Math.Nat.{div-div-eq-div-mul, mod-mod_of_dvd, dvd-mul_right, mul-le-mul_right}
 use Rattle.std.specs.Int.{div_ceil}
-use Rattle.tensor_shape.specs.Legal.{highest_rank}
+use Rattle.tensor_shape.specs.Legal.{widest}
 use Rattle.tensor_shape.specs.Index.{size_of, IsIndexOf, index_of, place}
 use Rattle.tensor_shape.proofs.Places.{place-index_of, IsIndexOf-index_of, div-below}
 use Rattle.tensor_views.specs.Rising.{no_axis}
@@ -211,111 +211,111 @@ one_result r known rs first second = (cc)
 
 -- any movement's view
 module _ (axes : List Axis) (ds rs : List ℕ) (along : are_along axes ds ≡ true) where
-  pub walk_size-moved : (m : Movement) → moved_dims highest_rank m ds ≡ Ok rs → walk_size (moved_axes m axes) ≡ size_of rs
+  pub walk_size-moved : (m : Movement) → moved_dims widest m ds ≡ Ok rs → walk_size (moved_axes m axes) ≡ size_of rs
   walk_size-moved (broadcast counts) h =
-      let known = broadcast-known counts ds (has_result (moved_dims highest_rank (broadcast counts) ds) rs h) in
-      walk_size-broadcast axes ds counts along ∙ ap size_of (one_result (moved_dims highest_rank (broadcast counts) ds) _ rs known.dims h)
+      let known = broadcast-known counts ds (has_result (moved_dims widest (broadcast counts) ds) rs h) in
+      walk_size-broadcast axes ds counts along ∙ ap size_of (one_result (moved_dims widest (broadcast counts) ds) _ rs known.dims h)
   walk_size-moved (slice offsets extents) h =
-      let known = slice-known offsets extents ds (has_result (moved_dims highest_rank (slice offsets extents) ds) rs h) in
+      let known = slice-known offsets extents ds (has_result (moved_dims widest (slice offsets extents) ds) rs h) in
       let long = length-along axes ds along in
       walk_size-slice axes extents (known.extents_long ∙ sym long)
-      ∙ ap size_of (one_result (moved_dims highest_rank (slice offsets extents) ds) _ rs known.dims h)
+      ∙ ap size_of (one_result (moved_dims widest (slice offsets extents) ds) _ rs known.dims h)
   walk_size-moved (shuffle order) h =
-      let known = shuffle-known order ds (has_result (moved_dims highest_rank (shuffle order) ds) rs h) in
+      let known = shuffle-known order ds (has_result (moved_dims widest (shuffle order) ds) rs h) in
       walk_size-shuffle axes ds along order (are_below-permutation (length ds) order known.long known.all)
-      ∙ ap size_of (one_result (moved_dims highest_rank (shuffle order) ds) _ rs known.dims h)
+      ∙ ap size_of (one_result (moved_dims widest (shuffle order) ds) _ rs known.dims h)
   walk_size-moved (reshape sizes) h =
-      let known = reshape-known sizes ds (has_result (moved_dims highest_rank (reshape sizes) ds) rs h) in
-      walk_size-along axes ds along ∙ sym known.same ∙ ap size_of (one_result (moved_dims highest_rank (reshape sizes) ds) _ rs known.dims h)
+      let known = reshape-known sizes ds (has_result (moved_dims widest (reshape sizes) ds) rs h) in
+      walk_size-along axes ds along ∙ sym known.same ∙ ap size_of (one_result (moved_dims widest (reshape sizes) ds) _ rs known.dims h)
   walk_size-moved (chip offset axis) h =
-      let known = chip-known offset axis ds (has_result (moved_dims highest_rank (chip offset axis) ds) rs h) in
-      walk_size-chip axes ds axis along ∙ ap size_of (one_result (moved_dims highest_rank (chip offset axis) ds) _ rs known.dims h)
+      let known = chip-known offset axis ds (has_result (moved_dims widest (chip offset axis) ds) rs h) in
+      walk_size-chip axes ds axis along ∙ ap size_of (one_result (moved_dims widest (chip offset axis) ds) _ rs known.dims h)
   walk_size-moved (reverse flags) h =
-      let known = reverse-known flags ds (has_result (moved_dims highest_rank (reverse flags) ds) rs h) in
-      walk_size-reverse axes ds flags along known.long ∙ ap size_of (one_result (moved_dims highest_rank (reverse flags) ds) _ rs known.dims h)
+      let known = reverse-known flags ds (has_result (moved_dims widest (reverse flags) ds) rs h) in
+      walk_size-reverse axes ds flags along known.long ∙ ap size_of (one_result (moved_dims widest (reverse flags) ds) _ rs known.dims h)
   walk_size-moved (stride steps) h =
-      let known = stride-known steps ds (has_result (moved_dims highest_rank (stride steps) ds) rs h) in
-      walk_size-stride axes ds steps along known.long ∙ ap size_of (one_result (moved_dims highest_rank (stride steps) ds) _ rs known.dims h)
+      let known = stride-known steps ds (has_result (moved_dims widest (stride steps) ds) rs h) in
+      walk_size-stride axes ds steps along known.long ∙ ap size_of (one_result (moved_dims widest (stride steps) ds) _ rs known.dims h)
 
-  pub reached-moved : (m : Movement) (start p : ℕ) → moved_dims highest_rank m ds ≡ Ok rs → p < size_of rs
+  pub reached-moved : (m : Movement) (start p : ℕ) → moved_dims widest m ds ≡ Ok rs → p < size_of rs
       → reached (moved_start m start axes) (moved_axes m axes) p ≡ start + by_steps axes (moved m ds (index_of rs p))
   reached-moved (broadcast counts) start p h below =
-      let known = broadcast-known counts ds (has_result (moved_dims highest_rank (broadcast counts) ds) rs h) in
+      let known = broadcast-known counts ds (has_result (moved_dims widest (broadcast counts) ds) rs h) in
       reached-start start (repeated_axes axes counts) p
       ∙ ap (λ n. start + n) (reached-broadcast axes ds counts p along known.long)
-      ∙ ap (λ r. start + by_steps axes (wrapped ds (index_of r p))) (one_result (moved_dims highest_rank (broadcast counts) ds) _ rs known.dims h)
+      ∙ ap (λ r. start + by_steps axes (wrapped ds (index_of r p))) (one_result (moved_dims widest (broadcast counts) ds) _ rs known.dims h)
   reached-moved (slice offsets extents) start p h below =
-      let known = slice-known offsets extents ds (has_result (moved_dims highest_rank (slice offsets extents) ds) rs h) in
+      let known = slice-known offsets extents ds (has_result (moved_dims widest (slice offsets extents) ds) rs h) in
       let long = length-along axes ds along in
       let whole = reached-slice axes offsets extents p (known.offsets_long ∙ sym long) (known.extents_long ∙ sym long) in
       let from = reached-start (start + by_steps axes offsets) (cut_axes axes extents) p in
       let joined : reached (start + by_steps axes offsets) (cut_axes axes extents) p
       ≡ start + by_steps axes (offset_by offsets (index_of extents p)) = omega (arith, whole, from) in
-      joined ∙ ap (λ r. start + by_steps axes (offset_by offsets (index_of r p))) (one_result (moved_dims highest_rank (slice offsets extents) ds) _ rs known.dims h)
+      joined ∙ ap (λ r. start + by_steps axes (offset_by offsets (index_of r p))) (one_result (moved_dims widest (slice offsets extents) ds) _ rs known.dims h)
   reached-moved (shuffle order) start p h below =
-      let known = shuffle-known order ds (has_result (moved_dims highest_rank (shuffle order) ds) rs h) in
+      let known = shuffle-known order ds (has_result (moved_dims widest (shuffle order) ds) rs h) in
       reached-start start (shuffled_axes axes order) p
       ∙ ap (λ n. start + n)
       (reached-shuffle axes ds along order p (are_below-permutation (length ds) order known.long known.all)
       (are_distinct-permutation (length ds) order known.long known.all))
-      ∙ ap (λ r. start + by_steps axes (scattered order (index_of r p) (zeros ds))) (one_result (moved_dims highest_rank (shuffle order) ds) _ rs known.dims h)
+      ∙ ap (λ r. start + by_steps axes (scattered order (index_of r p) (zeros ds))) (one_result (moved_dims widest (shuffle order) ds) _ rs known.dims h)
   reached-moved (reshape sizes) start p h below =
-      let known = reshape-known sizes ds (has_result (moved_dims highest_rank (reshape sizes) ds) rs h) in
-      let same = one_result (moved_dims highest_rank (reshape sizes) ds) sizes rs known.dims h in
+      let known = reshape-known sizes ds (has_result (moved_dims widest (reshape sizes) ds) rs h) in
+      let same = one_result (moved_dims widest (reshape sizes) ds) sizes rs known.dims h in
       let inside : p < size_of sizes = rw same below in
       reached-start start axes p
       ∙ ap (λ n. start + n) (reached-along axes ds p along)
       ∙ ap (λ q. start + by_steps axes (index_of ds q)) (sym (place-index_of sizes p inside))
       ∙ ap (λ r. start + by_steps axes (index_of ds (place sizes (index_of r p)))) same
   reached-moved (chip offset axis) start p h below =
-      let known = chip-known offset axis ds (has_result (moved_dims highest_rank (chip offset axis) ds) rs h) in
+      let known = chip-known offset axis ds (has_result (moved_dims widest (chip offset axis) ds) rs h) in
       let whole = reached-chip axes ds offset axis p along known.in_rank in
       let from = reached-start (start + offset * (get_or axes axis no_axis).step) (remove axes axis) p in
       let joined : reached (start + offset * (get_or axes axis no_axis).step) (remove axes axis) p
       ≡ start + by_steps axes (insert (index_of (remove ds axis) p) axis offset) = omega (arith, whole, from) in
-      joined ∙ ap (λ r. start + by_steps axes (insert (index_of r p) axis offset)) (one_result (moved_dims highest_rank (chip offset axis) ds) _ rs known.dims h)
+      joined ∙ ap (λ r. start + by_steps axes (insert (index_of r p) axis offset)) (one_result (moved_dims widest (chip offset axis) ds) _ rs known.dims h)
   reached-moved (reverse flags) start p h below =
-      let known = reverse-known flags ds (has_result (moved_dims highest_rank (reverse flags) ds) rs h) in
+      let known = reverse-known flags ds (has_result (moved_dims widest (reverse flags) ds) rs h) in
       reached-start start (turned_axes axes flags) p
       ∙ ap (λ n. start + n) (reached-reverse axes ds flags p along known.long)
-      ∙ ap (λ r. start + by_steps axes (mirrored flags ds (index_of r p))) (one_result (moved_dims highest_rank (reverse flags) ds) _ rs known.dims h)
+      ∙ ap (λ r. start + by_steps axes (mirrored flags ds (index_of r p))) (one_result (moved_dims widest (reverse flags) ds) _ rs known.dims h)
   reached-moved (stride steps) start p h below =
-      let known = stride-known steps ds (has_result (moved_dims highest_rank (stride steps) ds) rs h) in
-      let same = one_result (moved_dims highest_rank (stride steps) ds) _ rs known.dims h in
+      let known = stride-known steps ds (has_result (moved_dims widest (stride steps) ds) rs h) in
+      let same = one_result (moved_dims widest (stride steps) ds) _ rs known.dims h in
       let inside : p < size_of (strided_dims ds steps) = rw same below in
       reached-start start (strided_axes axes steps) p
       ∙ ap (λ n. start + n) (reached-stride axes ds steps p along known.long known.some inside)
       ∙ ap (λ r. start + by_steps axes (scaled steps (index_of r p))) same
 
   -- its arguments are for the axes
-  pub has_rank-moved : (m : Movement) → moved_dims highest_rank m ds ≡ Ok rs → HasRank m (length axes)
+  pub has_rank-moved : (m : Movement) → moved_dims widest m ds ≡ Ok rs → HasRank m (length axes)
   has_rank-moved (broadcast counts) h =
-      (broadcast-known counts ds (has_result (moved_dims highest_rank (broadcast counts) ds) rs h)).long ∙ sym (length-along axes ds along)
+      (broadcast-known counts ds (has_result (moved_dims widest (broadcast counts) ds) rs h)).long ∙ sym (length-along axes ds along)
   has_rank-moved (slice offsets extents) h =
-      let known = slice-known offsets extents ds (has_result (moved_dims highest_rank (slice offsets extents) ds) rs h) in
+      let known = slice-known offsets extents ds (has_result (moved_dims widest (slice offsets extents) ds) rs h) in
       let long = sym (length-along axes ds along) in
       (known.offsets_long ∙ long, known.extents_long ∙ long)
   has_rank-moved (shuffle order) h =
-      let known = shuffle-known order ds (has_result (moved_dims highest_rank (shuffle order) ds) rs h) in
+      let known = shuffle-known order ds (has_result (moved_dims widest (shuffle order) ds) rs h) in
       let long = length-along axes ds along in
       λ k within. omega (arith, get_or-permutation (length ds) order k known.long known.all within)
   has_rank-moved (reshape sizes) h = tt
   has_rank-moved (chip offset axis) h =
-      let known = chip-known offset axis ds (has_result (moved_dims highest_rank (chip offset axis) ds) rs h) in
+      let known = chip-known offset axis ds (has_result (moved_dims widest (chip offset axis) ds) rs h) in
       omega (arith, length-along axes ds along, known.in_rank)
   has_rank-moved (reverse flags) h =
-      (reverse-known flags ds (has_result (moved_dims highest_rank (reverse flags) ds) rs h)).long ∙ sym (length-along axes ds along)
+      (reverse-known flags ds (has_result (moved_dims widest (reverse flags) ds) rs h)).long ∙ sym (length-along axes ds along)
   has_rank-moved (stride steps) h =
-      let known = stride-known steps ds (has_result (moved_dims highest_rank (stride steps) ds) rs h) in
+      let known = stride-known steps ds (has_result (moved_dims widest (stride steps) ds) rs h) in
       let long = sym (length-along axes ds along) in
       (known.long ∙ long, λ k within. get_or-none_is_zero steps k known.some (omega (arith, known.long, long)))
 
   -- the index list that it reads is one of its operand's
-  pub index-moved : (m : Movement) (index : List ℕ) → moved_dims highest_rank m ds ≡ Ok rs → IsIndexOf rs index → IsIndexOf ds (moved m ds index)
+  pub index-moved : (m : Movement) (index : List ℕ) → moved_dims widest m ds ≡ Ok rs → IsIndexOf rs index → IsIndexOf ds (moved m ds index)
   index-moved m index h is_index = IsIndexOf-moved m ds rs index h is_index
 
   -- a view starts no further than a place that it reaches
-  pub moved_start-below : (m : Movement) (start limit : ℕ) → moved_dims highest_rank m ds ≡ Ok rs → 0 < size_of rs
+  pub moved_start-below : (m : Movement) (start limit : ℕ) → moved_dims widest m ds ≡ Ok rs → 0 < size_of rs
       → start + by_steps axes (moved m ds (index_of rs 0)) < limit → moved_start m start axes < limit
   moved_start-below m start limit h some below =
       omega (

@@ -20,7 +20,7 @@ pub fn eval_plain(
     inputs: &Inputs,
 ) -> Result<Tensor<'static>, AllocError>
     requires inputs { IsTrue (has_inputs (term_of expr.now) (length inputs.now.tensors)) }
-    requires dims { IsOk (dims_of inputs.now.rank (term_of expr.now) inputs.now.tensors) }
+    requires dims { IsOk (dims_of inputs.now.bounds (term_of expr.now) inputs.now.tensors) }
     ensures tensor { IfOk result (λ t. t ≡ tensor_of (term_of expr.now) inputs.now.tensors) }
     ensures each { IfOk result (λ t. (index : List ℕ) → IsIndexOf t.dims index
         → value_at t index ≡ value (term_of expr.now) inputs.now.tensors index) }

@@ -3,7 +3,7 @@
 ghost use Rattle.std.specs.Prelude.{◌≡◌, ◌<◌, ◌≤◌, ◌+◌, ◌-◌, ℕ, length, map, IsTrue, IsOk, IfOk};
 ghost use Rattle.std.specs.Prelude.{OnOk};
 ghost use Rattle.std.specs.List.{range_with_len};
-ghost use Rattle.tensor_shape.specs.Legal.{highest_rank};
+ghost use Rattle.tensor_shape.specs.Legal.{widest};
 ghost use Rattle.tensor_ops.specs.private.Placing.{Gives, HasValues};
 ghost use Rattle.tensor_values.specs.Values.{value_in};
 ghost use Rattle.tensor_terms.specs.Result.{dims_of, shape_of};
@@ -55,7 +55,7 @@ impl<'a> Root<'a> {
         tensors: Tensors<'a>,
     ) -> Result<(Root<'a>, Dims), AllocError>
         requires inputs { IsTrue (has_inputs (term_of expr.now) (length (tensors_in tensors))) }
-        requires dims { IsOk (dims_of highest_rank (term_of expr.now) (tensors_in tensors)) }
+        requires dims { IsOk (dims_of widest (term_of expr.now) (tensors_in tensors)) }
         ensures sound { IfOk result (λ r. IsSoundRoot r.0) }
         ensures values { IfOk result (λ r. HasValues (root_count r.0) (root_value r.0) r.1
             (value (term_of expr.now) (tensors_in tensors.entry))) }
@@ -141,7 +141,7 @@ fn place_settled<'a>(
     room: &mut usize,
 ) -> Result<Part<'a>, AllocError>
     requires inputs { IsTrue (has_inputs (term_of expr.now) (length (tensors_in tensors))) }
-    requires dims { IsOk (dims_of highest_rank (term_of expr.now) (tensors_in tensors)) }
+    requires dims { IsOk (dims_of widest (term_of expr.now) (tensors_in tensors)) }
     ensures placed { IfOk result (λ r.
         Gives r.placed r.dims (value (term_of expr.now) (tensors_in tensors.entry))) }
     ensures dims { IfOk result (λ r.

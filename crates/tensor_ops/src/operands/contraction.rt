@@ -1,7 +1,7 @@
 //! Contractions of operands over pairs of their axes.
 
 ghost use Rattle.std.specs.Prelude.{◌≡◌, ◌<◌, ℕ, IfOk, IsOk};
-ghost use Rattle.tensor_shape.specs.Legal.{highest_rank};
+ghost use Rattle.tensor_shape.specs.Legal.{widest};
 ghost use Rattle.tensor_shape.specs.Index.{size_of, place, index_of};
 ghost use Rattle.tensor_kernels.specs.Contracting.{contraction_count, contraction_value};
 ghost use Rattle.tensor_terms.specs.Contraction.{firsts, seconds, contracted, contracted_dims};
@@ -32,7 +32,7 @@ pub(crate) fn paired_contraction<'a>(
     second: Operand<'a>,
     pairs: &[(u64, u64)],
 ) -> Result<Contraction<'a>, AllocError>
-    requires dims { IsOk (contracted_dims highest_rank pairs.now first_dims.now second_dims.now) }
+    requires dims { IsOk (contracted_dims widest pairs.now first_dims.now second_dims.now) }
     requires first { operand_count first ≡ size_of first_dims.now }
     requires second { operand_count second ≡ size_of second_dims.now }
     ensures count { IfOk result (λ c. contraction_count c

@@ -4,7 +4,7 @@
 ghost use Rattle.std.specs.Prelude.{◌≡◌, ◌<◌, ◌≤◌, ◌+◌, ◌-◌, ℕ, length, map, IsTrue, IsOk, IfOk};
 ghost use Rattle.std.specs.List.{range_with_len};
 ghost use Rattle.tensor_shape.specs.Index.{size_of};
-ghost use Rattle.tensor_shape.specs.Legal.{highest_rank};
+ghost use Rattle.tensor_shape.specs.Legal.{widest};
 ghost use Rattle.tensor_kernels.specs.Contracting.{contraction_count};
 ghost use Rattle.tensor_ops.specs.private.Meaning.{count_of, IsSound};
 ghost use Rattle.tensor_ops.specs.Parts.{has_parts};
@@ -49,7 +49,7 @@ impl<'a> InRuns<'a> {
         tensors: Tensors<'a>,
     ) -> Result<InRuns<'a>, AllocError>
         requires inputs { IsTrue (has_inputs (term_of expr.now) (length (tensors_in tensors))) }
-        requires dims { IsOk (dims_of highest_rank (term_of expr.now) (tensors_in tensors)) }
+        requires dims { IsOk (dims_of widest (term_of expr.now) (tensors_in tensors)) }
         requires parts { IsTrue (has_parts (term_of expr.now)) }
         ensures { IfOk result (λ r.
             GivesParts r (term_of expr.now) (tensors_in tensors.entry)) }
@@ -79,7 +79,7 @@ impl<'a> InRuns<'a> {
         tensors: Tensors<'a>,
     ) -> Result<InRuns<'a>, AllocError>
         requires inputs { IsTrue (has_inputs (term_of operand.now) (length (tensors_in tensors))) }
-        requires dims { IsOk (dims_of highest_rank
+        requires dims { IsOk (dims_of widest
             (unary (reduce reducer axes.now) (term_of operand.now)) (tensors_in tensors)) }
         ensures { IfOk result (λ r. GivesParts r
             (unary (reduce reducer axes.now) (term_of operand.now)) (tensors_in tensors.entry)) }

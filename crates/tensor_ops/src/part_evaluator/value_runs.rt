@@ -6,7 +6,7 @@ ghost use Rattle.std.specs.Prelude.{map, true, Ok, IsTrue, IfOk, OnOk, vec_len, 
 ghost use Rattle.std.specs.Cow.{cow_slice_items};
 ghost use Rattle.std.specs.List.{range_with_len};
 ghost use Rattle.tensor_shape.specs.Index.{size_of};
-ghost use Rattle.tensor_shape.specs.Legal.{highest_rank, most_elements};
+ghost use Rattle.tensor_shape.specs.Legal.{highest_rank, widest, most_elements};
 ghost use Rattle.tensor_shape.specs.Wrap.{wrap};
 ghost use Rattle.tensor_loops.specs.Folds.{folded};
 ghost use Rattle.tensor_ops.specs.private.Meaning.{meaning, count_of, IsSound, IsSound-prop};
@@ -214,7 +214,7 @@ fn with_axes_first<'a>(
     requires sound { IsSound operand.placed }
     requires count { count_of operand.placed ≡ size_of operand.dims }
     requires axes { are_axes (length operand.dims) axes.now ≡ true }
-    ensures dims { IfOk result (λ r. moved_dims highest_rank
+    ensures dims { IfOk result (λ r. moved_dims widest
         (shuffle (axes.now ++ others axes.now (length operand.entry.dims))) operand.entry.dims
         ≡ Ok r.dims) }
     ensures placed { IfOk result (λ r. Gives r.placed r.dims (λ index.

@@ -1,7 +1,7 @@
 //! Reductions and contractions of placed operands, made ready for ranges of places.
 
 ghost use Rattle.std.specs.Prelude.{◌≡◌, Ok, IsOk, IfOk};
-ghost use Rattle.tensor_shape.specs.Legal.{highest_rank};
+ghost use Rattle.tensor_shape.specs.Legal.{widest};
 ghost use Rattle.tensor_shape.specs.Index.{size_of};
 ghost use Rattle.tensor_kernels.specs.Contracting.{contraction_count, contraction_value};
 ghost use Rattle.tensor_terms.specs.Contraction.{contracted, contracted_dims};
@@ -17,7 +17,7 @@ use crate::placing::part::Part;
 use std::alloc::{AllocError, Global};
 use std::borrow::CowSlice;
 use tensor_kernels::Contraction;
-use tensor_shape::{Dims, MAX_RANK};
+use tensor_shape::{Dims, WIDEST};
 use tensor_terms::{contracted_dims, reduced_dims};
 use tensor_values::Reducer;
 
@@ -53,15 +53,15 @@ pub(crate) fn contraction_of<'a>(
     requires second { IsSound second.placed }
     requires count_first { count_of first.placed ≡ size_of first.dims }
     requires count_second { count_of second.placed ≡ size_of second.dims }
-    requires dims { IsOk (contracted_dims highest_rank pairs.now first.dims second.dims) }
+    requires dims { IsOk (contracted_dims widest pairs.now first.dims second.dims) }
     ensures dims { IfOk result (λ r.
-        contracted_dims highest_rank pairs.now first.entry.dims second.entry.dims ≡ Ok r.1) }
+        contracted_dims widest pairs.now first.entry.dims second.entry.dims ≡ Ok r.1) }
     ensures values { IfOk result (λ r. HasValues (contraction_count r.0) (contraction_value r.0)
         r.1 (contracted pairs.now first.entry.dims second.entry.dims
         (meaning_at first.entry.placed first.entry.dims)
         (meaning_at second.entry.placed second.entry.dims))) }
 {
-    let dims = contracted_dims(MAX_RANK, pairs, &first.dims, &second.dims).unwrap();
+    let dims = contracted_dims(WIDEST, pairs, &first.dims, &second.dims).unwrap();
     let left = first.placed.into_operand(alloc, &first.dims)?;
     let right = second.placed.into_operand(alloc, &second.dims)?;
     let contraction = paired_contraction(alloc, &first.dims, left, &second.dims, right, pairs)?;
@@ -103,9 +103,9 @@ pub(crate) fn place_contraction<'a>(
     requires second { IsSound second.placed }
     requires count_first { count_of first.placed ≡ size_of first.dims }
     requires count_second { count_of second.placed ≡ size_of second.dims }
-    requires dims { IsOk (contracted_dims highest_rank pairs.now first.dims second.dims) }
+    requires dims { IsOk (contracted_dims widest pairs.now first.dims second.dims) }
     ensures dims { IfOk result (λ r.
-        contracted_dims highest_rank pairs.now first.entry.dims second.entry.dims ≡ Ok r.dims) }
+        contracted_dims widest pairs.now first.entry.dims second.entry.dims ≡ Ok r.dims) }
     ensures placed { IfOk result (λ r. Gives r.placed r.dims
         (contracted pairs.now first.entry.dims second.entry.dims
         (meaning_at first.entry.placed first.entry.dims)

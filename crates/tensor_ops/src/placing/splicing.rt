@@ -3,7 +3,7 @@
 ghost use Rattle.std.specs.Prelude.{◌≡◌, ℕ, pos, ◌+◌, ◌<◌, length, slice_index, slice_set};
 ghost use Rattle.std.specs.Prelude.{Ok, IsOk, IfOk};
 ghost use Rattle.tensor_shape.specs.Index.{size_of};
-ghost use Rattle.tensor_shape.specs.Legal.{highest_rank, IsLegal};
+ghost use Rattle.tensor_shape.specs.Legal.{widest, IsLegal};
 ghost use Rattle.tensor_terms.specs.Concatenation.{concatenated, concatenated_dims};
 ghost use Rattle.tensor_ops.specs.private.Meaning.{meaning, count_of, IsSound};
 ghost use Rattle.tensor_terms.specs.Padding.{padded, pad_dims};
@@ -13,7 +13,7 @@ ghost use Rattle.tensor_ops.specs.private.Placing.{Gives, meaning_at};
 use crate::placed::Placed;
 use crate::placing::part::Part;
 use std::alloc::{AllocError, Global};
-use tensor_shape::{Dims, MAX_RANK, PerAxis};
+use tensor_shape::{Dims, PerAxis, WIDEST};
 use tensor_terms::{concatenated_dims, extend, turns_along};
 
 /// A concatenation along an axis, placed.
@@ -27,15 +27,15 @@ pub(crate) fn place_concatenation<'a>(
     requires second { IsSound second.placed }
     requires count_first { count_of first.placed ≡ size_of first.dims }
     requires count_second { count_of second.placed ≡ size_of second.dims }
-    requires dims { IsOk (concatenated_dims highest_rank axis first.dims second.dims) }
+    requires dims { IsOk (concatenated_dims widest axis first.dims second.dims) }
     ensures dims { IfOk result (λ r.
-        concatenated_dims highest_rank axis first.entry.dims second.entry.dims ≡ Ok r.dims) }
+        concatenated_dims widest axis first.entry.dims second.entry.dims ≡ Ok r.dims) }
     ensures placed { IfOk result (λ r. Gives r.placed r.dims
         (concatenated axis first.entry.dims
         (meaning_at first.entry.placed first.entry.dims)
         (meaning_at second.entry.placed second.entry.dims))) }
 {
-    let dims = concatenated_dims(MAX_RANK, axis, &first.dims, &second.dims).unwrap();
+    let dims = concatenated_dims(WIDEST, axis, &first.dims, &second.dims).unwrap();
     if dims.size() == 0 {
         return Ok(Part {
             placed: Placed::Same(0, 0),
@@ -68,9 +68,9 @@ pub(crate) fn place_pad<'a>(
 ) -> Result<Part<'a>, AllocError>
     requires sound { IsSound operand.placed }
     requires count { count_of operand.placed ≡ size_of operand.dims }
-    requires dims { IsOk (pad_dims highest_rank pairs.now operand.dims) }
+    requires dims { IsOk (pad_dims widest pairs.now operand.dims) }
     ensures dims { IfOk result (λ r.
-        pad_dims highest_rank pairs.now operand.entry.dims ≡ Ok r.dims) }
+        pad_dims widest pairs.now operand.entry.dims ≡ Ok r.dims) }
     ensures placed { IfOk result (λ r. Gives r.placed r.dims
         (padded pairs.now operand.entry.dims
         (meaning_at operand.entry.placed operand.entry.dims))) }
@@ -121,7 +121,7 @@ fn zeroes<'a>(axis: usize, size: u64, dims: &Dims) -> Part<'a>
     extend(&mut zeroes, &sizes[..axis]);
     zeroes.push(size);
     extend(&mut zeroes, &sizes[axis + 1..]);
-    let Ok(dims) = Dims::new(zeroes.as_slice()) else {
+    let Ok(dims) = Dims::within(WIDEST, zeroes.as_slice()) else {
         unreachable!()
     };
     let count = dims.size() as usize;

@@ -1,6 +1,6 @@
 use Rattle.std.proofs.Common.{[], IsOk, ap, subst, sym, ◌∙◌}
 use Rattle.std.specs.Result.{result_unwrap_or}
-use Rattle.tensor_shape.specs.Legal.{highest_rank}
+use Rattle.tensor_shape.specs.Legal.{widest}
 use Rattle.tensor_terms.specs.Contents.{value_at}
 use Rattle.tensor_ops.specs.private.Placing.{Gives}
 use Rattle.tensor_terms.specs.Result.{dims_of, binary_dims}
@@ -54,12 +54,12 @@ pub place-place_binary-requires-clause-dims : goal.place-place_binary-requires-c
 place-place_binary-requires-clause-dims t c =
     let arm = c.in-Binary in
     let both = c.in_ok-first-in-Binary in
-    let has = subst (λ e. IsOk (dims_of highest_rank e (tensors_in c.args.tensors)))
+    let has = subst (λ e. IsOk (dims_of widest e (tensors_in c.args.tensors)))
     (sym arm.ensures) c.requires.dims in
     subst (λ r. IsOk r)
-    (with_two-over (binary_dims highest_rank (binary_at arm.operation))
-    (dims_of highest_rank (term_of arm.first.now) (tensors_in c.args.tensors))
-    (dims_of highest_rank (term_of arm.second.now) (tensors_in c.args.tensors))
+    (with_two-over (binary_dims widest (binary_at arm.operation))
+    (dims_of widest (term_of arm.first.now) (tensors_in c.args.tensors))
+    (dims_of widest (term_of arm.second.now) (tensors_in c.args.tensors))
     both.first.dims both.second.dims both.ensures.first_dims both.ensures.second_dims has) has
 
 pub place-returns-in_ok-first-in-Binary-clause-dims :
@@ -67,11 +67,11 @@ pub place-returns-in_ok-first-in-Binary-clause-dims :
 place-returns-in_ok-first-in-Binary-clause-dims t c =
     let arm = c.in-Binary in
     let both = c.in_ok-first-in-Binary in
-    let has = subst (λ e. IsOk (dims_of highest_rank e (tensors_in c.args.tensors)))
+    let has = subst (λ e. IsOk (dims_of widest e (tensors_in c.args.tensors)))
     (sym arm.ensures) c.requires.dims in
-    let own = with_two-over (binary_dims highest_rank (binary_at arm.operation))
-    (dims_of highest_rank (term_of arm.first.now) (tensors_in c.args.tensors))
-    (dims_of highest_rank (term_of arm.second.now) (tensors_in c.args.tensors))
+    let own = with_two-over (binary_dims widest (binary_at arm.operation))
+    (dims_of widest (term_of arm.first.now) (tensors_in c.args.tensors))
+    (dims_of widest (term_of arm.second.now) (tensors_in c.args.tensors))
     both.first.dims both.second.dims both.ensures.first_dims both.ensures.second_dims has in
     rw (← arm.ensures)
     (IfOk-both c.place_binary.result _ _ _

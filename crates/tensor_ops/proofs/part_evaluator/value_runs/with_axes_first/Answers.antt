@@ -1,6 +1,6 @@
 use Rattle.std.proofs.Common.{◌≡◌, ℕ, List, length, IsOk, refl, ap, sym, subst, ◌∙◌}
 use Rattle.std.specs.List.{range_with_len}
-use Rattle.tensor_shape.specs.Legal.{highest_rank}
+use Rattle.tensor_shape.specs.Legal.{widest}
 use Rattle.tensor_terms.specs.Movement.{moved, moved_dims}
 use Rattle.tensor_ops.specs.private.Placing.{meaning_at}
 use Rattle.tensor_terms.specs.Term.{shuffle}
@@ -38,5 +38,5 @@ place_movement-requires-clause-dims c =
     let all : c.as_slice.result.now ≡ axes_first axes (length ds) =
     c.as_slice.ensures.value ∙ c.axes_first-order.ensures
     ∙ ap (λ n. axes_first axes n) c.rank-2.ensures.value in
-    subst (λ l. IsOk (moved_dims highest_rank (shuffle l) ds)) (sym all)
+    subst (λ l. IsOk (moved_dims widest (shuffle l) ds)) (sym all)
     (subst (λ r. IsOk r) (sym (shuffle-first axes ds c.requires.axes)) refl)

@@ -1,5 +1,5 @@
 use Rattle.std.proofs.Common.{◌≡◌, List, IsOk, ap, sym, subst, ◌∙◌}
-use Rattle.tensor_shape.specs.Legal.{highest_rank}
+use Rattle.tensor_shape.specs.Legal.{widest}
 use Rattle.tensor_terms.specs.Contents.{Contents}
 use Rattle.tensor_terms.specs.Result.{dims_of}
 use Rattle.tensor_terms.specs.Tensors.{tensors_in}
@@ -16,7 +16,7 @@ of_reduction-requires-clause-dims c =
     let node : unary (reduce arm.reducer arm.axes.now) (term_of arm.operand.now)
     ≡ term_of c.args.expr.now =
     ap (λ o. unary (unary_at o) (term_of arm.operand.now)) (sym arm.field-0-is) ∙ arm.ensures in
-    subst (λ t. IsOk (dims_of highest_rank t ts)) (sym node) c.requires.dims
+    subst (λ t. IsOk (dims_of widest t ts)) (sym node) c.requires.dims
 
 pub returns-in-Unary-Reduce-default : goal.returns-in-Unary-Reduce-default
 returns-in-Unary-Reduce-default c =
@@ -35,7 +35,7 @@ unwrap-firsts-requires c =
     ≡ term_of c.args.expr.now =
     ap (λ o. binary (binary_at o) (term_of arm.first.now) (term_of arm.second.now))
     (sym arm.field-0-is) ∙ arm.ensures in
-    let has_dims = subst (λ t. IsOk (dims_of highest_rank t ts)) (sym node) c.requires.dims in
+    let has_dims = subst (λ t. IsOk (dims_of widest t ts)) (sym node) c.requires.dims in
     let known = contracted-known ts arm.pairs.now (term_of arm.first.now) (term_of arm.second.now)
     has_dims in
     c.paired_axes.ensures.some.1 (rw both.ensures.first_dims known.few)
@@ -50,7 +50,7 @@ returns-in_ok-right-in-Binary-Contract-default-default c =
     ≡ term_of c.args.expr.now =
     ap (λ o. binary (binary_at o) (term_of arm.first.now) (term_of arm.second.now))
     (sym arm.field-0-is) ∙ arm.ensures in
-    let has_dims = subst (λ t. IsOk (dims_of highest_rank t ts)) (sym node) c.requires.dims in
+    let has_dims = subst (λ t. IsOk (dims_of widest t ts)) (sym node) c.requires.dims in
     rw (← node)
     (gives-contracted ts (term_of arm.first.now) (term_of arm.second.now) arm.pairs.now
     both.first.dims both.second.dims

@@ -2,7 +2,7 @@ use Rattle.std.proofs.Common.{◌≡◌, List, [], IsOk, ap, sym, subst, ◌∙�
 use Rattle.std.specs.Result.{result_unwrap_or}
 use Rattle.std.proofs.lemmas.Result.{IfOk-weaker}
 use Rattle.tensor_kernels.specs.Contracting.{contraction_count, contraction_value}
-use Rattle.tensor_shape.specs.Legal.{highest_rank}
+use Rattle.tensor_shape.specs.Legal.{widest}
 use Rattle.tensor_terms.specs.Contents.{Contents}
 use Rattle.tensor_terms.specs.Contraction.{contracted, contracted_dims}
 use Rattle.tensor_terms.specs.Result.{dims_of, shape_of}
@@ -33,11 +33,11 @@ returns-in_ok-contraction-in-Binary-Contract-default-default c =
     ap (λ o. binary (binary_at o) (term_of arm.first.now) (term_of arm.second.now))
     (sym arm.field-0-is) ∙ arm.ensures in
     let known = reduced-known ts c.args.reducer c.args.axes.now t c.requires.dims in
-    let own = with_two-over (contracted_dims highest_rank arm.pairs.now)
-    (dims_of highest_rank (term_of arm.first.now) ts)
-    (dims_of highest_rank (term_of arm.second.now) ts)
+    let own = with_two-over (contracted_dims widest arm.pairs.now)
+    (dims_of widest (term_of arm.first.now) ts)
+    (dims_of widest (term_of arm.second.now) ts)
     both.first.dims both.second.dims both.ensures.first_dims both.ensures.second_dims
-    (subst (λ e. IsOk (dims_of highest_rank e ts)) (sym node) known.operand) in
+    (subst (λ e. IsOk (dims_of widest e ts)) (sym node) known.operand) in
     let shape : made.dims ≡ shape_of t ts =
     sym (ap (λ s. result_unwrap_or s []) (own ∙ made.ensures.dims))
     ∙ ap (λ e. shape_of e ts) node in
