@@ -14,8 +14,8 @@ use Rattle.tensor_dots.proofs.ProductSums.{wrap-next}
 use Rattle.tensor_dots.proofs.SimdLanes.{value_in-lanes}
 
 -- a place of a row k + j + r rows after the first, with the offset before its number or behind it
-pub turned : (x offset k j r : ℕ) → x + offset + k + j + r ≡ x + (k + j + r) + offset
-turned x offset k j r = omega arith
+pub swapped : (x offset k j r : ℕ) → x + offset + k + j + r ≡ x + (k + j + r) + offset
+swapped x offset k j r = omega arith
 
 pub behind : (x offset k r : ℕ) → x + offset + k + r ≡ x + (k + r) + offset
 behind x offset k r = omega arith

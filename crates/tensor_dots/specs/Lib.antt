@@ -4,8 +4,8 @@ pub mod Inside
 pub mod Lanes
 pub mod Products
 pub mod Rows
-pub mod SlidDots
-pub mod SlidRuns
+pub mod WindowDots
+pub mod Windows
 pub mod StripDots
 pub mod Strips
 pub mod private

@@ -3,10 +3,10 @@
 pub(crate) mod row_pair;
 pub(crate) mod row_sums;
 pub(crate) mod sixteens;
-pub(crate) mod slid_dots;
 pub(crate) mod small_eight;
 pub(crate) mod strip_dots;
 pub(crate) mod wide_eight;
+pub(crate) mod window_dots;
 
 ghost use Rattle.std.specs.Prelude.{◌≡◌, ℕ, ◌*◌, ◌+◌, ◌<◌, ◌≤◌, length};
 ghost use Rattle.tensor_values.specs.Values.{value_in};

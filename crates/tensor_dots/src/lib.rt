@@ -7,7 +7,7 @@
 //! Dots        rows that begin anywhere, each with the values at the same offsets: those that begin
 //!             side by side are passed together, sixteen or eight at a time, in lanes
 //! StripDots   rows that are runs of a list: value by value
-//! SlidDots    one row that slides over runs of places (a convolution)
+//! WindowDots    one row that slides over runs of places (a convolution)
 //! ```
 #![tactic(auto)]
 
@@ -16,10 +16,10 @@ pub mod lanes;
 mod rows;
 
 pub use dots::Dots;
-pub use dots::slid_dots::SlidDots;
 pub use dots::strip_dots::{StripDots, sum_with_products};
+pub use dots::window_dots::WindowDots;
 pub use rows::Rows;
 pub use rows::part::RowsPart;
-pub use rows::slid_runs::SlidRuns;
 pub use rows::starts::side_by_side;
 pub use rows::strips::Strips;
+pub use rows::windows::Windows;

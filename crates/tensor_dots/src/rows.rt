@@ -1,9 +1,9 @@
 //! Lists seen as rows: each has the values at its start, moved by the same offsets.
 
 pub(crate) mod part;
-pub(crate) mod slid_runs;
 pub(crate) mod starts;
 pub(crate) mod strips;
+pub(crate) mod windows;
 
 ghost use Rattle.std.specs.Prelude.{◌≡◌, ◌≤◌, ◌+◌, ℕ, length, slice_index};
 ghost use Rattle.std.specs.Cow.{cow_slice_items};

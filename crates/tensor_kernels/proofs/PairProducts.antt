@@ -82,8 +82,8 @@ pairs-split f g (suc n) =
 taken-off : (z w p : ℤ) → ((pos 0 -ℤ z) -ℤ w) +ℤ p ≡ (p -ℤ z) -ℤ w
 taken-off z w p = omega (arith, ints)
 
-turned : (p a w : ℤ) → (p -ℤ a) -ℤ w ≡ (p -ℤ w) -ℤ a
-turned p a w = omega (arith, ints)
+swapped : (p a w : ℤ) → (p -ℤ a) -ℤ w ≡ (p -ℤ w) -ℤ a
+swapped p a w = omega (arith, ints)
 
 rest : (m a b : ℤ) → ((m +ℤ (a +ℤ b)) -ℤ b) -ℤ a ≡ m
 rest m a b = omega (arith, ints)
@@ -95,7 +95,7 @@ wrap-rest p m a b x y whole is_x is_y =
     ap wrap (taken-off x y p)
     ∙ ap (λ z. wrap ((p -ℤ x) -ℤ z)) is_y
     ∙ int_wrap-sub_right w64 (p -ℤ x) b
-    ∙ ap wrap (turned p x b)
+    ∙ ap wrap (swapped p x b)
     ∙ ap (λ z. wrap ((p -ℤ b) -ℤ z)) is_x
     ∙ int_wrap-sub_right w64 (p -ℤ b) a
     ∙ ap wrap (ap (λ z. (z -ℤ b) -ℤ a) whole ∙ rest m a b)

@@ -7,9 +7,9 @@ use Rattle.tensor_dots.specs.Products.{sum_to, rows_dot}
 use Rattle.tensor_dots.proofs.ProductSums.{sum_to-ext}
 
 -- where the first has one row, its products are the same the other way round
-pub rows_dot-turned : (m n w n' : ℕ) (first second : ℕ → ℕ → ℤ) (p : ℕ) → n ≡ n' → m ≡ 1 → p < w
+pub rows_dot-swapped : (m n w n' : ℕ) (first second : ℕ → ℕ → ℤ) (p : ℕ) → n ≡ n' → m ≡ 1 → p < w
     → rows_dot w n' second first p ≡ rows_dot m n first second p
-rows_dot-turned m n w n' first second p long one below =
+rows_dot-swapped m n w n' first second p long one below =
     let none : p % m ≡ 0 = rw one (omega arith) in
     let alone : p / m ≡ p = rw one (omega arith) in
     let row : p / w ≡ p % m = div-eq_of_lt below ∙ sym none in

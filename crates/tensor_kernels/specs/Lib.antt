@@ -1,6 +1,6 @@
 pub use Rattle.tensor_dots.specs.Products
 pub use Rattle.tensor_dots.specs.Rows
-pub use Rattle.tensor_dots.specs.SlidRuns
+pub use Rattle.tensor_dots.specs.Windows
 pub use Rattle.tensor_dots.specs.Strips
 pub mod Chunks
 pub mod Contracting

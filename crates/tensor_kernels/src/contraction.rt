@@ -5,12 +5,12 @@ ghost use Rattle.std.specs.List.{range_with_len};
 ghost use Rattle.tensor_values.specs.Values.{value_in};
 ghost use Rattle.tensor_dots.specs.Products.{rows_dot};
 ghost use Rattle.tensor_dots.specs.Rows.{row_count, row_length, row_value, dot_at};
-ghost use Rattle.tensor_dots.specs.SlidRuns.{slid_count, slid_length, slid_value};
+ghost use Rattle.tensor_dots.specs.Windows.{window_count, window_length, window_value};
 ghost use Rattle.tensor_dots.specs.Strips.{strip_count, strip_length, strip_value};
 
 use crate::tiling::Tiled;
 use std::alloc::{AllocError, Allocator, Global};
-use tensor_dots::{Dots, Rows, SlidDots, SlidRuns, StripDots, Strips};
+use tensor_dots::{Dots, Rows, StripDots, Strips, WindowDots, Windows};
 
 /// From so many rows of the second operand on tiles are used, whose packing takes longer than so few
 /// sums.
@@ -26,7 +26,7 @@ pub enum Contraction<'a> {
     /// Value by value, where an operand has few rows and those of both lie side by side.
     InStrips(StripDots<'a>),
     /// A convolution, run by run.
-    InRuns(SlidDots<'a>),
+    InRuns(WindowDots<'a>),
 }
 
 // Said once, where a derived drop is unfolded wherever one may be dropped.
@@ -82,15 +82,15 @@ impl<'a> Contraction<'a> {
     }
 
     /// The convolution of an operand as runs with a kernel of one row.
-    pub fn of_runs(runs: SlidRuns<'a>, kernel: Rows<'a>) -> Contraction<'a>
+    pub fn of_runs(runs: Windows<'a>, kernel: Rows<'a>) -> Contraction<'a>
         requires one { row_count kernel ≡ 1 }
-        requires lengths { slid_length runs ≡ row_length kernel }
-        ensures count { contraction_count result ≡ slid_count runs.entry }
+        requires lengths { window_length runs ≡ row_length kernel }
+        ensures count { contraction_count result ≡ window_count runs.entry }
         ensures value { (p : ℕ) → contraction_value result p
-            ≡ rows_dot (slid_count runs.entry) (slid_length runs.entry) (slid_value runs.entry)
+            ≡ rows_dot (window_count runs.entry) (window_length runs.entry) (window_value runs.entry)
             (row_value kernel.entry) p }
     {
-        Contraction::InRuns(SlidDots::of(runs, kernel))
+        Contraction::InRuns(WindowDots::of(runs, kernel))
     }
 
     /// The values at the places from the first to before the last of the result, in order. Where

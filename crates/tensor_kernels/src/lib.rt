@@ -22,6 +22,6 @@ mod panels;
 mod tiling;
 
 pub use contraction::{Contraction, TILED_ROWS};
-pub use tensor_dots::{Rows, SlidRuns, Strips, sum_with_products};
+pub use tensor_dots::{Rows, Strips, Windows, sum_with_products};
 pub use tiling::strassen::PAIRED_COLUMNS;
 pub use tiling::{BAND_COLUMNS, WIDE_BAND_COLUMNS};

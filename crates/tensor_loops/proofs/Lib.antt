@@ -2,4 +2,4 @@ pub mod Chains
 pub mod CombinedRows
 pub mod Folding
 pub mod RunValues
-pub mod SplicedParts
+pub mod InterleavedParts

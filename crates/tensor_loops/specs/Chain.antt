@@ -7,7 +7,7 @@ use Rattle.tensor_views.specs.declared.view.Reading.{Reading}
 -- the value of a chain: each operation is on the value of those before it and the operand's
 abbrev pub chained : List Link → ℤ → ℤ → ℤ
 chained [] x y = x
-chained (l ∷ rest) x y = chained rest (either_way l.operation l.turned x y) y
+chained (l ∷ rest) x y = chained rest (either_way l.operation l.swapped x y) y
 
 -- two readings are of equal lists, along one view
 pub record AreSame (first second : Reading) : Type 0 where

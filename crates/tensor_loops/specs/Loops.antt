@@ -9,9 +9,9 @@ use Rattle.tensor_views.specs.declared.axis.Axis.{Axis}
 use Rattle.tensor_views.specs.declared.row.Row.{Row}
 use Rattle.tensor_views.specs.View.{place_in}
 
--- the operation on two values, of which the second comes first where they are turned
+-- the operation on two values, of which the second comes first where they are swapped
 abbrev pub either_way : BinaryScalar → Bool → ℤ → ℤ → ℤ
-either_way o turned x y = if turned then combined o y x else combined o x y
+either_way o swapped x y = if swapped then combined o y x else combined o x y
 
 -- select's value, from those of its operands in the order in which they are worked out
 abbrev pub selected : SelectOrder → ℤ → ℤ → ℤ → ℤ
@@ -26,11 +26,11 @@ has_long_rows (a ∷ rest) = if nat_eq a.size 1 then has_long_rows rest else nat
 
 -- so many values from a place on become the operation's of them and a list's along a row, and the
 -- others stay
-pub record CombinesRow (o : BinaryScalar) (turned : Bool) (old list : List ℤ) (row : Row) (at count : ℕ)
+pub record CombinesRow (o : BinaryScalar) (swapped : Bool) (old list : List ℤ) (row : Row) (at count : ℕ)
     (new : List ℤ) : Type 0 where
   pub len : length new ≡ length old
   pub each : (k : ℕ) → k < count → slice_index_or new (at + k) (pos 0)
-      ≡ either_way o turned (slice_index_or old (at + k) (pos 0))
+      ≡ either_way o swapped (slice_index_or old (at + k) (pos 0))
       (slice_index_or list (place_in row k) (pos 0))
   pub before : (k : ℕ) → k < at → slice_index_or new k (pos 0) ≡ slice_index_or old k (pos 0)
   pub after : (k : ℕ) → at + count ≤ k → slice_index_or new k (pos 0) ≡ slice_index_or old k (pos 0)

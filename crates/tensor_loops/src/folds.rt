@@ -106,13 +106,13 @@ fn combine_by_row(
     let width = row.len();
     for t in 0..run {
         let from = start + t * step;
-        combine_row(reducer, row, &values[from..from + width]);
+        fold_row(reducer, row, &values[from..from + width]);
     }
 }
 
 /// Combines each value with that at its place in another row.
 #[inline(always)]
-fn combine_row(reducer: Reducer, row: &mut [i64], others: &[i64])
+fn fold_row(reducer: Reducer, row: &mut [i64], others: &[i64])
     requires { length row.old ≡ length others.now }
     ensures len { length row.new ≡ length row.old }
     ensures each { (i : ℕ) → i < length row.old

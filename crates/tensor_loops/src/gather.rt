@@ -1,6 +1,6 @@
 //! Values of a list at places, and along views.
 
-pub(crate) mod spliced;
+pub(crate) mod interleaved;
 
 ghost use Rattle.std.specs.Prelude.{◌≡◌, ◌<◌, ◌≤◌, ◌-◌, ◌+◌, ◌*◌, ◌/◌, ◌^◌, ◌++◌, ℕ, length, map};
 ghost use Rattle.std.specs.Prelude.{IfOk, OnOk, slice_index, vec_len, vec_capacity};
@@ -9,7 +9,7 @@ ghost use Rattle.std.specs.List.{range_with_len};
 ghost use Rattle.tensor_views.specs.Places.{places_of, AreBelow};
 ghost use Rattle.tensor_values.specs.Values.{value_in};
 ghost use Rattle.tensor_views.specs.Reading.{read_at};
-ghost use Rattle.tensor_views.specs.View.{walk_size, reached, along, steps_to};
+ghost use Rattle.tensor_views.specs.View.{view_size, reached, along, steps_to};
 
 use std::alloc::{AllocError, Global};
 use std::borrow::CowSlice;
@@ -49,8 +49,8 @@ pub fn picked_along(
     reading: Reading<'_>,
     places: &Places<'_>,
 ) -> Result<Vec<i64>, AllocError>
-    requires within { AreBelow places.now (walk_size reading.view.axes.now) }
-    requires inside { (p : ℕ) → p < walk_size reading.view.axes.now
+    requires within { AreBelow places.now (view_size reading.view.axes.now) }
+    requires inside { (p : ℕ) → p < view_size reading.view.axes.now
         → reached reading.view.start reading.view.axes.now p < length reading.list.now }
     requires few { length reading.list.now < 2 ^ 32 }
     ensures { IfOk result (λ v. v.items ≡ map (read_at reading.entry) (places_of places.now)) }
@@ -72,8 +72,8 @@ fn gathered_along(
     last: usize,
 ) -> Result<Vec<i64>, AllocError>
     requires order { first ≤ last }
-    requires within { last ≤ walk_size reading.view.axes.now }
-    requires inside { (p : ℕ) → p < walk_size reading.view.axes.now
+    requires within { last ≤ view_size reading.view.axes.now }
+    requires inside { (p : ℕ) → p < view_size reading.view.axes.now
         → reached reading.view.start reading.view.axes.now p < length reading.list.now }
     requires few { length reading.list.now < 2 ^ 32 }
     ensures { IfOk result (λ v. v.items
@@ -141,10 +141,10 @@ fn gather_row(
     ensures len { OnOk result (vec_len gathered.new ≡ vec_len gathered.old + (to - from)) }
     ensures capacity { OnOk result (vec_capacity gathered.old ≤ vec_capacity gathered.new) }
 {
-    if axis.step == 1 && !axis.falls && from < to {
+    if axis.step == 1 && !axis.reversed && from < to {
         return gathered.extend_from_slice(&values[row + from..row + to]);
     }
-    match (axis.step, axis.falls) {
+    match (axis.step, axis.reversed) {
         (1, true) => gather_each(gathered, values, row, axis.known(1, true), from, to),
         (0, false) => gather_each(gathered, values, row, axis.known(0, false), from, to),
         _ => gather_each(gathered, values, row, axis, from, to),

@@ -5,7 +5,7 @@
 //! a list, a view, places   ──gather──>   the values there: a copy, a loop a row, or one by one
 //! values, another list     ──loops───>   an operation's of both, where it stands; several in a chain
 //! a row, runs of rows      ──folds───>   the row, with all of them combined
-//! two lists in turns       ──spliced─>   one list
+//! two lists in turns       ──interleaved─>   one list
 //! ```
 #![tactic(auto)]
 
@@ -14,7 +14,7 @@ mod gather;
 mod loops;
 
 pub use folds::{add_combined, combine_runs, combined_with};
-pub use gather::spliced::{parted, spliced_list, spliced_run};
+pub use gather::interleaved::{interleaved_list, interleaved_run, places_of_each};
 pub use gather::{picked, picked_along};
 pub use loops::chain::{Link, are_same, combine_chain};
 pub use loops::combining::{combine_along, has_long_rows};

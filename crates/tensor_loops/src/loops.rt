@@ -39,57 +39,69 @@ pub fn apply(operation: UnaryScalar, values: &mut [i64])
 }
 
 /// Each value becomes the operation's of it and the other list's at its place, of which the second
-/// comes first where they are turned.
+/// comes first where they are swapped.
 pub fn combine(link: Link, values: &mut [i64], others: &[i64])
     requires { length values.old ≡ length others.now }
     ensures len { length values.new ≡ length others.now }
     ensures each { (k : ℕ) → k < length others.now → slice_index_or values.new k (pos 0)
-        ≡ either_way link.operation link.turned (slice_index_or values.old k (pos 0))
+        ≡ either_way link.operation link.swapped (slice_index_or values.old k (pos 0))
         (slice_index_or others.now k (pos 0)) }
 {
     combine_row(link, values, 0, others, Row::whole(others.len()));
 }
 
 /// Each value becomes the operation's of those of two lists at its place, of which the second comes
-/// first where they are turned.
+/// first where they are swapped.
 pub fn put_combined(link: Link, values: &mut [i64], first: &[i64], second: &[i64])
     requires first { length values.old ≡ length first.now }
     requires second { length second.now ≡ length first.now }
     ensures len { length values.new ≡ length first.now }
     ensures each { (k : ℕ) → k < length first.now → slice_index_or values.new k (pos 0)
-        ≡ either_way link.operation link.turned (slice_index_or first.now k (pos 0))
+        ≡ either_way link.operation link.swapped (slice_index_or first.now k (pos 0))
         (slice_index_or second.now k (pos 0)) }
 {
-    let turned = link.turned;
+    let swapped = link.swapped;
     match link.operation {
-        BinaryScalar::Add => put_each(BinaryScalar::Add, turned, values, first, second),
-        BinaryScalar::Sub => put_each(BinaryScalar::Sub, turned, values, first, second),
-        BinaryScalar::Mul => put_each(BinaryScalar::Mul, turned, values, first, second),
-        BinaryScalar::CwiseMax => put_each(BinaryScalar::CwiseMax, turned, values, first, second),
-        BinaryScalar::CwiseMin => put_each(BinaryScalar::CwiseMin, turned, values, first, second),
-        BinaryScalar::Lt => put_each(BinaryScalar::Lt, turned, values, first, second),
-        BinaryScalar::Le => put_each(BinaryScalar::Le, turned, values, first, second),
-        BinaryScalar::Eq => put_each(BinaryScalar::Eq, turned, values, first, second),
-        BinaryScalar::Ne => put_each(BinaryScalar::Ne, turned, values, first, second),
-        BinaryScalar::Gt => put_each(BinaryScalar::Gt, turned, values, first, second),
-        BinaryScalar::Ge => put_each(BinaryScalar::Ge, turned, values, first, second),
-        BinaryScalar::And => put_each(BinaryScalar::And, turned, values, first, second),
-        BinaryScalar::Or => put_each(BinaryScalar::Or, turned, values, first, second),
+        BinaryScalar::Add => put_each(BinaryScalar::Add, swapped, values, first, second),
+        BinaryScalar::Sub => put_each(BinaryScalar::Sub, swapped, values, first, second),
+        BinaryScalar::Mul => put_each(BinaryScalar::Mul, swapped, values, first, second),
+        BinaryScalar::CwiseMax => put_each(BinaryScalar::CwiseMax, swapped, values, first, second),
+        BinaryScalar::CwiseMin => put_each(BinaryScalar::CwiseMin, swapped, values, first, second),
+        BinaryScalar::Lt => put_each(BinaryScalar::Lt, swapped, values, first, second),
+        BinaryScalar::Le => put_each(BinaryScalar::Le, swapped, values, first, second),
+        BinaryScalar::Eq => put_each(BinaryScalar::Eq, swapped, values, first, second),
+        BinaryScalar::Ne => put_each(BinaryScalar::Ne, swapped, values, first, second),
+        BinaryScalar::Gt => put_each(BinaryScalar::Gt, swapped, values, first, second),
+        BinaryScalar::Ge => put_each(BinaryScalar::Ge, swapped, values, first, second),
+        BinaryScalar::And => put_each(BinaryScalar::And, swapped, values, first, second),
+        BinaryScalar::Or => put_each(BinaryScalar::Or, swapped, values, first, second),
         BinaryScalar::FloorDivide => put_each(
             BinaryScalar::FloorDivide,
-            turned,
+            swapped,
             values,
             first,
             second,
         ),
-        BinaryScalar::Remainder => put_each(BinaryScalar::Remainder, turned, values, first, second),
-        BinaryScalar::BitAnd => put_each(BinaryScalar::BitAnd, turned, values, first, second),
-        BinaryScalar::BitOr => put_each(BinaryScalar::BitOr, turned, values, first, second),
-        BinaryScalar::BitXor => put_each(BinaryScalar::BitXor, turned, values, first, second),
-        BinaryScalar::ShiftLeft => put_each(BinaryScalar::ShiftLeft, turned, values, first, second),
+        BinaryScalar::Remainder => put_each(
+            BinaryScalar::Remainder,
+            swapped,
+            values,
+            first,
+            second,
+        ),
+        BinaryScalar::BitAnd => put_each(BinaryScalar::BitAnd, swapped, values, first, second),
+        BinaryScalar::BitOr => put_each(BinaryScalar::BitOr, swapped, values, first, second),
+        BinaryScalar::BitXor => put_each(BinaryScalar::BitXor, swapped, values, first, second),
+        BinaryScalar::ShiftLeft => put_each(
+            BinaryScalar::ShiftLeft,
+            swapped,
+            values,
+            first,
+            second,
+        ),
         BinaryScalar::ShiftRight => put_each(
             BinaryScalar::ShiftRight,
-            turned,
+            swapped,
             values,
             first,
             second,
@@ -98,21 +110,21 @@ pub fn put_combined(link: Link, values: &mut [i64], first: &[i64], second: &[i64
 }
 
 /// The values from a place on become the operation's of them and a list's along a row, of which the
-/// second comes first where they are turned.
+/// second comes first where they are swapped.
 pub fn combine_row(link: Link, values: &mut [i64], at: usize, list: &[i64], row: Row)
     requires row { IsRowIn row (length list.now) }
     requires room { at + row.count ≤ length values.old }
-    ensures { CombinesRow link.operation link.turned values.old list.now row at row.count
+    ensures { CombinesRow link.operation link.swapped values.old list.now row at row.count
         values.new }
 {
-    let turned = link.turned;
+    let swapped = link.swapped;
     match link.operation {
-        BinaryScalar::Add => combine_by_steps(BinaryScalar::Add, turned, values, at, list, row),
-        BinaryScalar::Sub => combine_by_steps(BinaryScalar::Sub, turned, values, at, list, row),
-        BinaryScalar::Mul => combine_by_steps(BinaryScalar::Mul, turned, values, at, list, row),
+        BinaryScalar::Add => combine_by_steps(BinaryScalar::Add, swapped, values, at, list, row),
+        BinaryScalar::Sub => combine_by_steps(BinaryScalar::Sub, swapped, values, at, list, row),
+        BinaryScalar::Mul => combine_by_steps(BinaryScalar::Mul, swapped, values, at, list, row),
         BinaryScalar::CwiseMax => combine_by_steps(
             BinaryScalar::CwiseMax,
-            turned,
+            swapped,
             values,
             at,
             list,
@@ -120,23 +132,23 @@ pub fn combine_row(link: Link, values: &mut [i64], at: usize, list: &[i64], row:
         ),
         BinaryScalar::CwiseMin => combine_by_steps(
             BinaryScalar::CwiseMin,
-            turned,
+            swapped,
             values,
             at,
             list,
             row,
         ),
-        BinaryScalar::Lt => combine_by_steps(BinaryScalar::Lt, turned, values, at, list, row),
-        BinaryScalar::Le => combine_by_steps(BinaryScalar::Le, turned, values, at, list, row),
-        BinaryScalar::Eq => combine_by_steps(BinaryScalar::Eq, turned, values, at, list, row),
-        BinaryScalar::Ne => combine_by_steps(BinaryScalar::Ne, turned, values, at, list, row),
-        BinaryScalar::Gt => combine_by_steps(BinaryScalar::Gt, turned, values, at, list, row),
-        BinaryScalar::Ge => combine_by_steps(BinaryScalar::Ge, turned, values, at, list, row),
-        BinaryScalar::And => combine_by_steps(BinaryScalar::And, turned, values, at, list, row),
-        BinaryScalar::Or => combine_by_steps(BinaryScalar::Or, turned, values, at, list, row),
+        BinaryScalar::Lt => combine_by_steps(BinaryScalar::Lt, swapped, values, at, list, row),
+        BinaryScalar::Le => combine_by_steps(BinaryScalar::Le, swapped, values, at, list, row),
+        BinaryScalar::Eq => combine_by_steps(BinaryScalar::Eq, swapped, values, at, list, row),
+        BinaryScalar::Ne => combine_by_steps(BinaryScalar::Ne, swapped, values, at, list, row),
+        BinaryScalar::Gt => combine_by_steps(BinaryScalar::Gt, swapped, values, at, list, row),
+        BinaryScalar::Ge => combine_by_steps(BinaryScalar::Ge, swapped, values, at, list, row),
+        BinaryScalar::And => combine_by_steps(BinaryScalar::And, swapped, values, at, list, row),
+        BinaryScalar::Or => combine_by_steps(BinaryScalar::Or, swapped, values, at, list, row),
         BinaryScalar::FloorDivide => combine_by_steps(
             BinaryScalar::FloorDivide,
-            turned,
+            swapped,
             values,
             at,
             list,
@@ -144,7 +156,7 @@ pub fn combine_row(link: Link, values: &mut [i64], at: usize, list: &[i64], row:
         ),
         BinaryScalar::Remainder => combine_by_steps(
             BinaryScalar::Remainder,
-            turned,
+            swapped,
             values,
             at,
             list,
@@ -152,16 +164,23 @@ pub fn combine_row(link: Link, values: &mut [i64], at: usize, list: &[i64], row:
         ),
         BinaryScalar::BitAnd => combine_by_steps(
             BinaryScalar::BitAnd,
-            turned,
+            swapped,
             values,
             at,
             list,
             row,
         ),
-        BinaryScalar::BitOr => combine_by_steps(BinaryScalar::BitOr, turned, values, at, list, row),
+        BinaryScalar::BitOr => combine_by_steps(
+            BinaryScalar::BitOr,
+            swapped,
+            values,
+            at,
+            list,
+            row,
+        ),
         BinaryScalar::BitXor => combine_by_steps(
             BinaryScalar::BitXor,
-            turned,
+            swapped,
             values,
             at,
             list,
@@ -169,7 +188,7 @@ pub fn combine_row(link: Link, values: &mut [i64], at: usize, list: &[i64], row:
         ),
         BinaryScalar::ShiftLeft => combine_by_steps(
             BinaryScalar::ShiftLeft,
-            turned,
+            swapped,
             values,
             at,
             list,
@@ -177,7 +196,7 @@ pub fn combine_row(link: Link, values: &mut [i64], at: usize, list: &[i64], row:
         ),
         BinaryScalar::ShiftRight => combine_by_steps(
             BinaryScalar::ShiftRight,
-            turned,
+            swapped,
             values,
             at,
             list,
@@ -219,7 +238,7 @@ fn apply_each(operation: UnaryScalar, values: &mut [i64])
 #[inline(always)]
 fn combine_by_steps(
     operation: BinaryScalar,
-    turned: bool,
+    swapped: bool,
     values: &mut [i64],
     at: usize,
     list: &[i64],
@@ -227,11 +246,11 @@ fn combine_by_steps(
 )
     requires row { IsRowIn row (length list.now) }
     requires room { at + row.count ≤ length values.old }
-    ensures { CombinesRow operation turned values.old list.now row at row.count
+    ensures { CombinesRow operation swapped values.old list.now row at row.count
         values.new }
 {
-    let link = Link { operation, turned };
-    match (row.axis.step, row.axis.falls) {
+    let link = Link { operation, swapped };
+    match (row.axis.step, row.axis.reversed) {
         (1, false) => combine_each(link, values, at, list, row.known(1, false)),
         (1, true) => combine_each(link, values, at, list, row.known(1, true)),
         (0, false) => combine_each(link, values, at, list, row.known(0, false)),
@@ -243,7 +262,7 @@ fn combine_by_steps(
 fn combine_each(link: Link, values: &mut [i64], at: usize, list: &[i64], row: Row)
     requires row { IsRowIn row (length list.now) }
     requires room { at + row.count ≤ length values.old }
-    ensures { CombinesRow link.operation link.turned values.old list.now row at row.count
+    ensures { CombinesRow link.operation link.swapped values.old list.now row at row.count
         values.new }
 {
     for k in 0..row.count {
@@ -269,7 +288,7 @@ fn select_each(order: SelectOrder, values: &mut [i64], second: &[i64], third: &[
 #[inline(always)]
 fn put_each(
     operation: BinaryScalar,
-    turned: bool,
+    swapped: bool,
     values: &mut [i64],
     first: &[i64],
     second: &[i64],
@@ -278,21 +297,21 @@ fn put_each(
     requires second { length second.now ≡ length first.now }
     ensures len { length values.new ≡ length first.now }
     ensures each { (k : ℕ) → k < length first.now → slice_index_or values.new k (pos 0)
-        ≡ either_way operation turned (slice_index_or first.now k (pos 0))
+        ≡ either_way operation swapped (slice_index_or first.now k (pos 0))
         (slice_index_or second.now k (pos 0)) }
 {
-    let link = Link { operation, turned };
+    let link = Link { operation, swapped };
     for place in 0..first.len() {
         values[place] = either_way(link, first[place], second[place]);
     }
 }
 
-/// The operation on two values, of which the second comes first where they are turned.
+/// The operation on two values, of which the second comes first where they are swapped.
 #[inline(always)]
 fn either_way(link: Link, x: i64, y: i64) -> i64
-    ensures { result ≡ either_way link.operation link.turned x y }
+    ensures { result ≡ either_way link.operation link.swapped x y }
 {
-    if link.turned {
+    if link.swapped {
         combined(link.operation, y, x)
     } else {
         combined(link.operation, x, y)

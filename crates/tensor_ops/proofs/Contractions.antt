@@ -14,7 +14,7 @@ use Rattle.tensor_shape.specs.Wrap.{wrap}
 use Rattle.tensor_terms.specs.Contraction.{firsts, seconds, outer_dims, contracted, contracted_dims}
 use Rattle.tensor_kernels.specs.Products.{sum_to, rows_dot}
 use Rattle.tensor_ops.specs.private.OperandRows.{IsOperand}
-use Rattle.tensor_terms.specs.Woven.{dims_at, other_dims, woven}
+use Rattle.tensor_terms.specs.Merged.{dims_at, other_dims, merged}
 use Rattle.tensor_terms.proofs.Known.{contraction-known}
 use Rattle.tensor_ops.proofs.OperandRows.{operand-same}
 use Rattle.tensor_kernels.proofs.ProductSums.{sum_to-ext}
@@ -37,15 +37,15 @@ fold-sum_to f (suc n) =
 contracted-sum_to : (pairs : List (ℕ × ℕ)) (ds es : List ℕ) (a b : List ℕ → ℤ) (is : List ℕ)
     → contracted pairs ds es a b is
     ≡ wrap (sum_to (λ q.
-    a (woven (firsts pairs) ds (index_of (dims_at (firsts pairs) ds) q)
+    a (merged (firsts pairs) ds (index_of (dims_at (firsts pairs) ds) q)
     (take (length (other_dims (firsts pairs) ds)) is))
-    *ℤ b (woven (seconds pairs) es (index_of (dims_at (firsts pairs) ds) q)
+    *ℤ b (merged (seconds pairs) es (index_of (dims_at (firsts pairs) ds) q)
     (drop (length (other_dims (firsts pairs) ds)) is)))
     (size_of (dims_at (firsts pairs) ds)))
 contracted-sum_to pairs ds es a b is =
     let product = λ (js : List ℕ).
-    a (woven (firsts pairs) ds js (take (length (other_dims (firsts pairs) ds)) is))
-    *ℤ b (woven (seconds pairs) es js (drop (length (other_dims (firsts pairs) ds)) is)) in
+    a (merged (firsts pairs) ds js (take (length (other_dims (firsts pairs) ds)) is))
+    *ℤ b (merged (seconds pairs) es js (drop (length (other_dims (firsts pairs) ds)) is)) in
     let dims = dims_at (firsts pairs) ds in
     ap (λ l. wrap (fold ◌+ℤ◌ (pos 0) l))
     (map-map product (λ (q : ℕ). index_of dims q) (range_with_len 0 (size_of dims)))
@@ -104,18 +104,18 @@ module _ (pairs : List (ℕ × ℕ)) (ds es : List ℕ) (a b : ℕ → ℤ) (m n
       let here : q < n = omega (arith, is_first.len) in
       let there : q < n' = omega (arith, is_second.len, ap size_of same_dims) in
       let left : first (p % m) q
-      ≡ a (place ds (woven (firsts pairs) ds (index_of dims q)
+      ≡ a (place ds (merged (firsts pairs) ds (index_of dims q)
       (take (length kept) is))) =
       is_first.each (p % m) q row here
-      ∙ ap (λ l. a (place ds (woven (firsts pairs) ds (index_of dims q) l))) (sym top) in
+      ∙ ap (λ l. a (place ds (merged (firsts pairs) ds (index_of dims q) l))) (sym top) in
       let right : second (p / m) q
-      ≡ b (place es (woven (seconds pairs) es (index_of dims q)
+      ≡ b (place es (merged (seconds pairs) es (index_of dims q)
       (drop (length kept) is))) =
       is_second.each (p / m) q column there
-      ∙ ap (λ ds. b (place es (woven (seconds pairs) es (index_of ds q) (index_of other
+      ∙ ap (λ ds. b (place es (merged (seconds pairs) es (index_of ds q) (index_of other
       (p / m)))))
       (sym same_dims)
-      ∙ ap (λ l. b (place es (woven (seconds pairs) es (index_of dims q) l)))
+      ∙ ap (λ l. b (place es (merged (seconds pairs) es (index_of dims q) l)))
       (sym bottom) in
       cc (left, right)))
       ∙ sym (contracted-sum_to pairs ds es (λ js. a (place ds js))

@@ -1,10 +1,10 @@
--- Convolutions of operands that were placed, and their values, worked out.
+-- Convolutions of operands that were lowered, and their values, worked out.
 use Rattle.std.proofs.Common.{◌≡◌, ℕ, ℤ, ◌<◌, List, Ok, sym, subst, arith}
 use Rattle.tensor_shape.specs.Index.{size_of, IsIndexOf, place, index_of}
 use Rattle.tensor_terms.specs.Convolution.{convolved, convolved_dims}
-use Rattle.tensor_ops.specs.private.Placing.{HasValues}
+use Rattle.tensor_ops.specs.private.Lowering.{HasValues}
 use Rattle.tensor_terms.proofs.Convolutions.{convolved-other}
-use Rattle.tensor_terms.proofs.SlidIndex.{known, convolved-shape}
+use Rattle.tensor_terms.proofs.WindowIndex.{known, convolved-shape}
 use Rattle.tensor_ops.proofs.Worked.{values-other, values-agree}
 
 -- a convolution of two operands whose values are those of functions

@@ -8,7 +8,7 @@ use Rattle.tensor_shape.proofs.Places.{place-index_of}
 use Rattle.tensor_terms.specs.Convolution.{convolved}
 use Rattle.tensor_values.specs.Values.{value_in}
 use Rattle.tensor_kernels.specs.Products.{sum_to, rows_dot}
-use Rattle.tensor_ops.specs.private.Slid.{IsUnderKernel, IsOneRow}
+use Rattle.tensor_ops.specs.private.Windows.{IsUnderKernel, IsOneRow}
 use Rattle.tensor_ops.proofs.Contractions.{fold-sum_to}
 use Rattle.tensor_kernels.proofs.ProductSums.{sum_to-ext}
 use Rattle.tensor_terms.proofs.Convolutions.{product_under, convolved-fold}

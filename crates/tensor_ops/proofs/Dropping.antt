@@ -13,7 +13,7 @@ use Rattle.tensor_views.specs.Offsets.{offset_of}
 use Rattle.tensor_values.specs.Values.{value_in}
 use Rattle.tensor_terms.specs.Reduction.{are_axes, reduced}
 use Rattle.tensor_values.specs.Combining.{unit, combine}
-use Rattle.tensor_terms.specs.Woven.{among, others, dims_at, other_dims, woven}
+use Rattle.tensor_terms.specs.Merged.{among, others, dims_at, other_dims, merged}
 use Rattle.tensor_values.specs.declared.reducer.Reducer.{Reducer}
 use Rattle.tensor_loops.proofs.Folding.{folded-ext}
 use Rattle.tensor_terms.proofs.OtherAxes.{are_axes-among, are_axes-others, others-among}
@@ -22,11 +22,11 @@ use Rattle.tensor_terms.proofs.Splits.{size_of-dims_at-append}
 use Rattle.tensor_views.proofs.OffsetRanges.{offset_of-append, offset_of-range}
 use Rattle.tensor_terms.proofs.Splits.{dims_at-range}
 use Rattle.tensor_values.proofs.Factors.{some_size}
-use Rattle.tensor_views.proofs.WovenPlaces.{place-woven}
-use Rattle.tensor_terms.proofs.Weaving.{IsIndexOf-woven}
+use Rattle.tensor_views.proofs.MergedPlaces.{place-merged}
+use Rattle.tensor_terms.proofs.Weaving.{IsIndexOf-merged}
 
-turned : (m n : ℕ) → m * n ≡ n * m
-turned m n = grind arith
+swapped : (m n : ℕ) → m * n ≡ n * m
+swapped m n = grind arith
 
 -- the axes from one on that a reduction keeps, and those that it drops
 abbrev pub kept_after : List ℕ → ℕ → ℕ → List ℕ
@@ -41,7 +41,7 @@ module _ (ds axes : List ℕ) where
   -- the place that a reduction reads
   abbrev pub place_dropped : ℕ → ℕ → ℕ
   place_dropped p q =
-      place ds (woven (among axes (length ds)) ds (index_of (dims_at (among axes (length ds)) ds) q)
+      place ds (merged (among axes (length ds)) ds (index_of (dims_at (among axes (length ds)) ds) q)
       (index_of (other_dims axes ds) p))
 
   same_others : dims_at (others (among axes (length ds)) (length ds)) ds ≡ other_dims axes ds
@@ -60,16 +60,16 @@ module _ (ds axes : List ℕ) where
 
     pub place_dropped-below : place_dropped p q < size_of ds
     place_dropped-below =
-        place-below-size_of ds (woven (among axes (length ds)) ds
+        place-below-size_of ds (merged (among axes (length ds)) ds
         (index_of (dims_at (among axes (length ds)) ds) q) (index_of (other_dims axes ds) p))
-        (IsIndexOf-woven (among axes (length ds)) ds (are_axes-among axes (length ds))
+        (IsIndexOf-merged (among axes (length ds)) ds (are_axes-among axes (length ds))
         (index_of (dims_at (among axes (length ds)) ds) q)
         (index_of (other_dims axes ds) p) dropped_index kept_index)
 
     pub place_dropped-offsets : place_dropped p q ≡ offset_of
         (others axes (length ds)) ds p + offset_of (among axes (length ds)) ds q
     place_dropped-offsets =
-        let whole = place-woven (among axes (length ds)) ds (are_axes-among axes (length ds))
+        let whole = place-merged (among axes (length ds)) ds (are_axes-among axes (length ds))
         (index_of (dims_at (among axes (length ds)) ds) q)
         (index_of (other_dims axes ds) p) dropped_index in
         let same = ap (λ l. place ds (scattered l (index_of (other_dims axes ds) p)
@@ -110,7 +110,7 @@ module _ (ds axes : List ℕ) (first after width run : ℕ) (rows offsets : List
   -- how many places the result has, and how many values are combined into one
   pub size-kept : length rows * width ≡ size_of (other_dims axes ds)
   size-kept =
-      turned (length rows) width
+      swapped (length rows) width
       ∙ ap (λ n. width * n) tables.rows_len
       ∙ ap (λ n. n * size_of (dims_at (kept_after axes after (length ds)) ds)) width-first
       ∙ sym (size_of-dims_at-append (range_with_len 0 first) (kept_after axes after (length ds)) ds)
@@ -118,7 +118,7 @@ module _ (ds axes : List ℕ) (first after width run : ℕ) (rows offsets : List
 
   pub size-dropped : length offsets * run ≡ size_of (dims_at (among axes (length ds)) ds)
   size-dropped =
-      turned (length offsets) run
+      swapped (length offsets) run
       ∙ ap (λ n. run * n) tables.offsets_len
       ∙ ap (λ n. n * size_of (dims_at (dropped_after axes after (length ds)) ds)) tables.run_is
       ∙ sym (size_of-dims_at-append (range_with_len first (after - first))
@@ -129,22 +129,22 @@ module _ (ds axes : List ℕ) (first after width run : ℕ) (rows offsets : List
   pub start_at-kept : (p : ℕ) → p < length rows * width
       → start_at rows width p ≡ offset_of (others axes (length ds)) ds p
   start_at-kept p below =
-      let lead : List ℕ = range_with_len 0 first in
+      let map_through : List ℕ = range_with_len 0 first in
       let rest : List ℕ = kept_after axes after (length ds) in
       let some : 0 < width =
-      some_size width (length rows) p (omega (arith, turned (length rows) width)) in
-      let spans : 0 < size_of (dims_at lead ds) = omega (arith, width-first) in
+      some_size width (length rows) p (omega (arith, swapped (length rows) width)) in
+      let spans : 0 < size_of (dims_at map_through ds) = omega (arith, width-first) in
       let row : p / width < length rows = div_below p width (length rows) some below in
-      let once : are_axes (length ds) (lead ++ rest) ≡ true =
+      let once : are_axes (length ds) (map_through ++ rest) ≡ true =
       subst (λ l. are_axes (length ds) l ≡ true) kept-split (are_axes-others axes (length ds)) in
-      let parts = offset_of-append lead rest ds p once
+      let parts = offset_of-append map_through rest ds p once
       (are_axes-range (length ds) 0 first (omega (arith, tables.order, tables.within))) in
       let near = offset_of-range ds 0 first p (omega (arith, tables.order, tables.within)) spans in
       let far = tables.rows_each (p / width) (omega (arith, tables.rows_len)) in
-      let all : offset_of (others axes (length ds)) ds p ≡ offset_of (lead ++ rest) ds p =
+      let all : offset_of (others axes (length ds)) ds p ≡ offset_of (map_through ++ rest) ds p =
       ap (λ l. offset_of l ds p) kept-split in
-      let in_row : p % size_of (dims_at lead ds) ≡ p % width = ap (λ n. p % n) (sym width-first) in
-      let in_rows : offset_of rest ds (p / size_of (dims_at lead ds)) ≡ offset_of rest ds
+      let in_row : p % size_of (dims_at map_through ds) ≡ p % width = ap (λ n. p % n) (sym width-first) in
+      let in_rows : offset_of rest ds (p / size_of (dims_at map_through ds)) ≡ offset_of rest ds
       (p / width) =
       ap (λ n. offset_of rest ds (p / n)) (sym width-first) in
       omega (arith, parts, near, far, all, in_row, in_rows)
@@ -153,27 +153,27 @@ module _ (ds axes : List ℕ) (first after width run : ℕ) (rows offsets : List
   pub offset_at-dropped : (q : ℕ) → q < length offsets * run
       → offset_at offsets width run q ≡ offset_of (among axes (length ds)) ds q
   offset_at-dropped q below =
-      let lead : List ℕ = range_with_len first (after - first) in
+      let map_through : List ℕ = range_with_len first (after - first) in
       let rest : List ℕ = dropped_after axes after (length ds) in
       let some : 0 < run =
-      some_size run (length offsets) q (omega (arith, turned (length offsets) run)) in
-      let spans : 0 < size_of (dims_at lead ds) = omega (arith, tables.run_is) in
+      some_size run (length offsets) q (omega (arith, swapped (length offsets) run)) in
+      let spans : 0 < size_of (dims_at map_through ds) = omega (arith, tables.run_is) in
       let in_run : q / run < length offsets = div_below q run (length offsets) some below in
-      let once : are_axes (length ds) (lead ++ rest) ≡ true =
+      let once : are_axes (length ds) (map_through ++ rest) ≡ true =
       subst (λ l. are_axes (length ds) l ≡ true) dropped-split (are_axes-among axes (length ds)) in
       let ends : first + (after - first) ≤ length ds = omega (arith, tables.order, tables.within) in
-      let parts = offset_of-append lead rest ds q once
+      let parts = offset_of-append map_through rest ds q once
       (are_axes-range (length ds) first (after - first) ends) in
       let near = offset_of-range ds first (after - first) q ends spans in
       let far = tables.offsets_each (q / run) (omega (arith, tables.offsets_len)) in
-      let all : offset_of (among axes (length ds)) ds q ≡ offset_of (lead ++ rest) ds q =
+      let all : offset_of (among axes (length ds)) ds q ≡ offset_of (map_through ++ rest) ds q =
       ap (λ l. offset_of l ds q) dropped-split in
       let step : size_of (take first ds) ≡ width =
       ap size_of (dims_at-range ds 0 first (omega (arith, tables.order, tables.within)))
       ∙ sym width-first in
-      let steps : q % size_of (dims_at lead ds) * size_of (take first ds) ≡ q % run * width =
+      let steps : q % size_of (dims_at map_through ds) * size_of (take first ds) ≡ q % run * width =
       ap (λ n. q % n * size_of (take first ds)) (sym tables.run_is) ∙ ap (λ n. q % run * n) step in
-      let runs : offset_of rest ds (q / size_of (dims_at lead ds)) ≡ offset_of rest ds (q / run) =
+      let runs : offset_of rest ds (q / size_of (dims_at map_through ds)) ≡ offset_of rest ds (q / run) =
       ap (λ n. offset_of rest ds (q / n)) (sym tables.run_is) in
       omega (arith, parts, near, far, all, steps, runs)
 
@@ -210,6 +210,6 @@ module _ (ds axes : List ℕ) (first after width run : ℕ) (rows offsets : List
       ∙ ap (folded r (unit r) (λ q. value_in values (place_dropped ds axes p q))) size-dropped
       ∙ ap (fold (combine r) (unit r))
       (sym (map-map (λ js. value_in values
-      (place ds (woven (among axes (length ds)) ds js (index_of (other_dims axes ds) p))))
+      (place ds (merged (among axes (length ds)) ds js (index_of (other_dims axes ds) p))))
       (index_of (dims_at (among axes (length ds)) ds))
       (range_with_len 0 (size_of (dims_at (among axes (length ds)) ds)))))

@@ -8,7 +8,7 @@ use Rattle.std.specs.List.{range_with_len}
 use Rattle.tensor_shape.specs.Index.{size_of}
 use Rattle.tensor_views.specs.Offsets.{offset_of, HasOffsets}
 use Rattle.tensor_terms.specs.Reduction.{are_axes}
-use Rattle.tensor_terms.specs.Woven.{dims_at}
+use Rattle.tensor_terms.specs.Merged.{dims_at}
 use Rattle.tensor_terms.proofs.OtherAxes.{get_or-are_axes}
 use Rattle.tensor_views.proofs.OffsetRanges.{offset_of-range}
 

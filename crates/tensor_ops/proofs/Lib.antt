@@ -9,16 +9,16 @@ pub mod Dropping
 pub mod Evaluated
 mod Filled
 pub mod FirstAxes
-pub mod LedRows
+pub mod MappedRows
 pub mod OperandRows
 pub mod Outcomes
 pub mod PartValues
-pub mod Placings
+pub mod Lowerings
 pub mod ReducedRuns
 pub mod SameTensors
-pub mod Settled
+pub mod Sunk
 pub mod Shared
-pub mod SlidRows
-pub mod SplicedPlacings
+pub mod WindowRows
+pub mod InterleavedLowerings
 pub mod Worked
 pub mod Zeroes

@@ -5,7 +5,7 @@ use Rattle.tensor_shape.specs.Index.{size_of}
 use Rattle.tensor_views.specs.Offsets.{HasTables}
 use Rattle.tensor_ops.specs.private.OperandRows.{IsOperand}
 use Rattle.tensor_terms.specs.Reduction.{are_axes}
-use Rattle.tensor_views.proofs.OffsetTables.{woven-below, sum_of_tables-woven}
+use Rattle.tensor_views.proofs.OffsetTables.{merged-below, sum_of_tables-merged}
 
 -- rows that have what an operand's rows have are an operand's
 pub operand-made : (m n m' n' : ℕ) (value other : ℕ → ℕ → ℤ) (at : ℕ → ℤ) (ds axes : List ℕ)
@@ -27,7 +27,7 @@ operand-same rows width value of other ds axes legal same is = record {
   len = is.len;
   each = λ x q row below.
       is.each x q row below
-      ∙ same _ (woven-below ds axes legal x q (omega (arith, is.count)) (omega (arith, is.len)));
+      ∙ same _ (merged-below ds axes legal x q (omega (arith, is.count)) (omega (arith, is.len)));
 }
 
 -- the values at the places that two tables add up to are the operand's
@@ -40,5 +40,5 @@ tables-operand starts offsets axes ds value of tables same = record {
   count = tables.rows.len;
   len = tables.values.len;
   each = λ x q row below.
-      same x q row below ∙ ap of (sum_of_tables-woven starts offsets axes ds tables x q row below);
+      same x q row below ∙ ap of (sum_of_tables-merged starts offsets axes ds tables x q row below);
 }

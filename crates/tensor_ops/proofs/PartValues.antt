@@ -21,7 +21,7 @@ use Rattle.tensor_ops.specs.private.InRuns.{GivesParts}
 use Rattle.tensor_ops.specs.private.Meaning.{meaning}
 use Rattle.tensor_terms.specs.Movement.{moved, moved_dims, shuffled_dims, scattered}
 use Rattle.tensor_values.specs.Values.{value_in}
-use Rattle.tensor_ops.specs.private.Placing.{Gives, meaning_at}
+use Rattle.tensor_ops.specs.private.Lowering.{Gives, meaning_at}
 use Rattle.tensor_kernels.specs.Products.{sum_to}
 use Rattle.tensor_terms.specs.Reduction.{are_axes}
 use Rattle.tensor_terms.specs.Result.{dims_of, shape_of}
@@ -29,26 +29,26 @@ use Rattle.tensor_terms.specs.Term.{Term, binary, contract, shuffle}
 use Rattle.tensor_terms.specs.Value.{value}
 use Rattle.tensor_ops.specs.private.Runs.{LieInRuns}
 use Rattle.tensor_ops.specs.private.ValueRuns.{run_value}
-use Rattle.tensor_terms.specs.Woven.{others, dims_at, other_dims, woven}
+use Rattle.tensor_terms.specs.Merged.{others, dims_at, other_dims, merged}
 use Rattle.tensor_ops.specs.declared.part_evaluator.in_runs.InRuns.TheVariants.{Multiplied}
-use Rattle.tensor_ops.specs.declared.placed.Placed.{Placed}
+use Rattle.tensor_ops.specs.declared.lowered.Lowered.{Lowered}
 use Rattle.tensor_values.specs.declared.reducer.Reducer.{Reducer}
 use Rattle.tensor_ops.specs.declared.part_evaluator.value_runs.ValueRuns.{ValueRuns}
 use Rattle.tensor_ops.proofs.Contractions.{fold-sum_to}
 use Rattle.tensor_terms.proofs.Dropped.{axes_first}
 use Rattle.tensor_loops.proofs.Folding.{folded-ext, folded-append}
-use Rattle.tensor_ops.proofs.Placings.{gives-index}
+use Rattle.tensor_ops.proofs.Lowerings.{gives-index}
 use Rattle.tensor_kernels.proofs.ProductSums.{sum_to-ext, sum_to-append}
 use Rattle.tensor_values.proofs.Runs.{map-shifted}
 use Rattle.tensor_terms.proofs.Splits.{size_of-append, dims_at-range}
 use Rattle.tensor_terms.proofs.SameValues.{Agree}
 use Rattle.tensor_terms.proofs.Terms.{contracted-known, contracted-parts}
-use Rattle.tensor_terms.proofs.TwoParts.{shuffle-first, dims-first, part-below, woven-moved}
+use Rattle.tensor_terms.proofs.TwoParts.{shuffle-first, dims-first, part-below, merged-moved}
 use Rattle.tensor_terms.proofs.TwoParts.{IsIndexOf-parts}
-use Rattle.tensor_terms.proofs.Weaving.{woven-parts}
+use Rattle.tensor_terms.proofs.Weaving.{merged-parts}
 
-turned : (m n : ℕ) → m * n ≡ n * m
-turned m n = grind arith
+swapped : (m n : ℕ) → m * n ≡ n * m
+swapped m n = grind arith
 
 -- the values of a piece
 pub piece-value : (f : ℕ → ℤ) (from count : ℕ) (items : List ℤ) (k : ℕ)
@@ -115,7 +115,7 @@ in-order axes ds legal same index within =
     ≡ dims_at axes index ++ dims_at (others axes (length ds)) index =
     map-append (λ s. get_or index s 0) axes (others axes (length ds)) in
     ap (λ js. scattered (axes_first axes (length ds)) js (map (λ d. 0) ds)) (sym whole ∙ parts)
-    ∙ woven-parts axes ds legal index within
+    ∙ merged-parts axes ds legal index within
 
 pub dims-in-order : (axes ds : List ℕ) → are_axes (length ds) axes ≡ true
     → axes_first axes (length ds) ≡ range_with_len 0 (length ds)
@@ -164,7 +164,7 @@ module _ (axes ds es : List ℕ) (f : List ℕ → ℤ) (legal : are_axes (lengt
           ∙ each (q + m * x) below
           ∙ ap (λ d. f (moved (shuffle (axes_first axes (length ds))) ds (index_of d (q + m * x))))
           fronted-dims
-          ∙ ap f (woven-moved axes ds legal q x in_axes);
+          ∙ ap f (merged-moved axes ds legal q x in_axes);
     }
 
 -- which are also those of a function that agrees with it
@@ -176,35 +176,35 @@ lie-same at n count ds axes f g legal lies same = record {
   many = lies.many;
   each = λ x q in_others in_axes.
       lies.each x q in_others in_axes
-      ∙ same (woven axes ds (index_of (dims_at axes ds) q) (index_of (other_dims axes ds) x))
+      ∙ same (merged axes ds (index_of (dims_at axes ds) q) (index_of (other_dims axes ds) x))
       (IsIndexOf-parts axes ds legal q x in_axes in_others);
 }
 
 module _ (inputs : List Contents) where
-  -- the value that a run has, where the operand was placed
-  run-term : (t : Term) (operand : Placed) (ds axes : List ℕ) (runs : ValueRuns)
+  -- the value that a run has, where the operand was lowered
+  run-term : (t : Term) (operand : Lowered) (ds axes : List ℕ) (runs : ValueRuns)
       → are_axes (length (shape_of t inputs)) axes ≡ true
       → Gives operand ds (value t inputs) → ds ≡ shape_of t inputs
-      → LieInRuns (meaning runs.placed) runs.length runs.count ds axes (meaning_at operand ds)
-      → LieInRuns (meaning runs.placed) runs.length runs.count (shape_of t inputs) axes
+      → LieInRuns (meaning runs.lowered) runs.length runs.count ds axes (meaning_at operand ds)
+      → LieInRuns (meaning runs.lowered) runs.length runs.count (shape_of t inputs) axes
       (value t inputs)
   run-term t operand ds axes runs legal gives shape lies =
-      subst (λ d. LieInRuns (meaning runs.placed) runs.length runs.count d axes (value t inputs))
+      subst (λ d. LieInRuns (meaning runs.lowered) runs.length runs.count d axes (value t inputs))
       shape
-      (lie-same (meaning runs.placed) runs.length runs.count ds axes (meaning_at operand ds)
+      (lie-same (meaning runs.lowered) runs.length runs.count ds axes (meaning_at operand ds)
       (value t inputs) (rw shape legal) lies
       (λ index within. gives-index operand ds (value t inputs) index gives within))
 
   -- the parts of a contraction
   pub gives-contracted : (t u : Term) (pairs : List (ℕ × ℕ)) (ds es xs ys : List ℕ)
-      (operand other : Placed) (a b : ValueRuns)
+      (operand other : Lowered) (a b : ValueRuns)
       → IsOk (dims_of widest (binary (contract pairs) t u) inputs)
       → Gives operand ds (value t inputs) → ds ≡ shape_of t inputs
       → Gives other es (value u inputs) → es ≡ shape_of u inputs
       → xs ≡ firsts pairs
-      → LieInRuns (meaning a.placed) a.length a.count ds xs (meaning_at operand ds)
+      → LieInRuns (meaning a.lowered) a.length a.count ds xs (meaning_at operand ds)
       → ys ≡ seconds pairs
-      → LieInRuns (meaning b.placed) b.length b.count es ys (meaning_at other es)
+      → LieInRuns (meaning b.lowered) b.length b.count es ys (meaning_at other es)
       → GivesParts (Multiplied a b) (binary (contract pairs) t u) inputs
   gives-contracted t u pairs ds es xs ys operand other a b has_dims gives shape gives_other
       shape_other is_xs lies is_ys lies_other =
@@ -212,13 +212,13 @@ module _ (inputs : List Contents) where
       let e : List ℕ = shape_of u inputs in
       let known = contracted-known inputs pairs t u has_dims in
       let paired : dims_at (firsts pairs) d ≡ dims_at (seconds pairs) e = known.known.paired in
-      let left : LieInRuns (meaning a.placed) a.length a.count d (firsts pairs) (value t inputs) =
+      let left : LieInRuns (meaning a.lowered) a.length a.count d (firsts pairs) (value t inputs) =
       run-term t operand ds (firsts pairs) a known.known.first gives shape
-      (subst (λ l. LieInRuns (meaning a.placed) a.length a.count ds l (meaning_at operand ds))
+      (subst (λ l. LieInRuns (meaning a.lowered) a.length a.count ds l (meaning_at operand ds))
       is_xs lies) in
-      let right : LieInRuns (meaning b.placed) b.length b.count e (seconds pairs) (value u inputs) =
+      let right : LieInRuns (meaning b.lowered) b.length b.count e (seconds pairs) (value u inputs) =
       run-term u other es (seconds pairs) b known.known.second gives_other shape_other
-      (subst (λ l. LieInRuns (meaning b.placed) b.length b.count es l (meaning_at other es))
+      (subst (λ l. LieInRuns (meaning b.lowered) b.length b.count es l (meaning_at other es))
       is_ys lies_other) in
       let kept : List ℕ = other_dims (firsts pairs) d in
       let rest : List ℕ = other_dims (seconds pairs) e in
@@ -227,7 +227,7 @@ module _ (inputs : List Contents) where
         inner = left.long;
         places =
             ap (λ n. n * a.count) right.many ∙ ap (λ n. size_of rest * n) left.many
-            ∙ turned (size_of rest) (size_of kept)
+            ∙ swapped (size_of rest) (size_of kept)
             ∙ sym (size_of-append kept rest) ∙ ap size_of (sym known.shape);
         parts = λ p first count below within.
             let in_size : first + count ≤ size_of (dims_at (firsts pairs) d) = within in
@@ -240,8 +240,8 @@ module _ (inputs : List Contents) where
             let bottom : index_of rest (p / size_of kept) ≡ drop (length kept) is =
             sym parts.second ∙ ap (drop (length kept)) is_at in
             let product : List ℕ → ℤ =
-            λ js. value t inputs (woven (firsts pairs) d js (take (length kept) is))
-            *ℤ value u inputs (woven (seconds pairs) e js (drop (length kept) is)) in
+            λ js. value t inputs (merged (firsts pairs) d js (take (length kept) is))
+            *ℤ value u inputs (merged (seconds pairs) e js (drop (length kept) is)) in
             let one : (q : ℕ) → first + q < first + count
             → run_value a (p % a.count) (first + q) *ℤ run_value b (p / a.count) (first + q)
             ≡ product (index_of (dims_at (firsts pairs) d) (first + q)) =
@@ -252,14 +252,14 @@ module _ (inputs : List Contents) where
             ap (λ n. run_value a (p % n) (first + q) *ℤ run_value b (p / n) (first + q)) left.many
             ∙ ap (λ x. x *ℤ run_value b (p / size_of kept) (first + q))
             (left.each (p % size_of kept) (first + q) parts.inner in_first
-            ∙ ap (λ l. value t inputs (woven (firsts pairs) d
+            ∙ ap (λ l. value t inputs (merged (firsts pairs) d
             (index_of (dims_at (firsts pairs) d) (first + q)) l)) top)
-            ∙ ap (λ y. value t inputs (woven (firsts pairs) d
+            ∙ ap (λ y. value t inputs (merged (firsts pairs) d
             (index_of (dims_at (firsts pairs) d) (first + q)) (take (length kept) is)) *ℤ y)
             (right.each (p / size_of kept) (first + q) parts.outer in_second
-            ∙ ap (λ l. value u inputs (woven (seconds pairs) e (index_of l (first + q))
+            ∙ ap (λ l. value u inputs (merged (seconds pairs) e (index_of l (first + q))
             (index_of rest (p / size_of kept)))) (sym paired)
-            ∙ ap (λ l. value u inputs (woven (seconds pairs) e
+            ∙ ap (λ l. value u inputs (merged (seconds pairs) e
             (index_of (dims_at (firsts pairs) d) (first + q)) l)) bottom) in
             ap wrap (sym (fold-sum_to (λ q. run_value a (p % a.count) (first + q)
             *ℤ run_value b (p / a.count) (first + q)) count))

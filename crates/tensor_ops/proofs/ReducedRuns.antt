@@ -14,7 +14,7 @@ use Rattle.tensor_terms.specs.Contents.{Contents}
 use Rattle.tensor_terms.specs.Result.{dims_of, shape_of}
 use Rattle.tensor_terms.specs.Term.{Term, unary, reduce}
 use Rattle.tensor_terms.specs.Value.{value}
-use Rattle.tensor_terms.specs.Woven.{among, dims_at, other_dims, woven}
+use Rattle.tensor_terms.specs.Merged.{among, dims_at, other_dims, merged}
 use Rattle.tensor_values.specs.Combining.{combine, unit}
 use Rattle.tensor_ops.specs.declared.part_evaluator.in_runs.InRuns.{InRuns}
 use Rattle.tensor_values.specs.declared.reducer.Reducer.{Reducer}
@@ -51,13 +51,13 @@ module _ (r : Reducer) (axes ds : List ℕ) where
             each p first many
             ∙ ap (fold (combine r) (unit r))
             (map-shifted (λ q. value_in_run at n p (first + q))
-            (λ k. f (woven dropped ds (index_of (dims_at dropped ds) k) is)) 0 first many
+            (λ k. f (merged dropped ds (index_of (dims_at dropped ds) k) is)) 0 first many
             (λ k in_count.
             let here : first + (0 + k) ≡ first + k = omega arith in
             ap (value_in_run at n p) here
             ∙ lies.each p (first + k) inside (omega arith)
-            ∙ ap (λ l. f (woven dropped ds (index_of (dims_at dropped ds) (first + k)) l)) is_at)
-            ∙ sym (map-map (λ js. f (woven dropped ds js is))
+            ∙ ap (λ l. f (merged dropped ds (index_of (dims_at dropped ds) (first + k)) l)) is_at)
+            ∙ sym (map-map (λ js. f (merged dropped ds js is))
             (index_of (dims_at dropped ds)) (range_with_len first many)));
       }
 
@@ -75,18 +75,18 @@ module _ (r : Reducer) (axes ds : List ℕ) where
             let is : List ℕ = index_of (other_dims axes ds) p in
             let inside : p < size_of (other_dims dropped ds) = omega (arith, ap size_of others) in
             let legal : (q : ℕ) → q < size_of (dims_at dropped ds)
-            → IsIndexOf ds (woven dropped ds (at q) is) =
+            → IsIndexOf ds (merged dropped ds (at q) is) =
             λ q in_axes.
-            subst (λ d. IsIndexOf ds (woven dropped ds (at q) (index_of d p))) others
+            subst (λ d. IsIndexOf ds (merged dropped ds (at q) (index_of d p))) others
             (IsIndexOf-parts dropped ds (are_axes-among axes (length ds)) q p in_axes inside) in
             gives.parts p first many below within
             ∙ ap (fold (combine r) (unit r))
-            (map-map (λ js. f (woven dropped ds js is)) at (range_with_len first many)
-            ∙ map-shifted (λ k. f (woven dropped ds (at k) is))
-            (λ k. g (woven dropped ds (at k) is)) first first many
-            (λ k in_count. same (woven dropped ds (at (first + k)) is)
+            (map-map (λ js. f (merged dropped ds js is)) at (range_with_len first many)
+            ∙ map-shifted (λ k. f (merged dropped ds (at k) is))
+            (λ k. g (merged dropped ds (at k) is)) first first many
+            (λ k in_count. same (merged dropped ds (at (first + k)) is)
             (legal (first + k) (omega arith)))
-            ∙ sym (map-map (λ js. g (woven dropped ds js is)) at (range_with_len first many)));
+            ∙ sym (map-map (λ js. g (merged dropped ds js is)) at (range_with_len first many)));
       }
 
 -- the parts of a reduction

@@ -11,7 +11,7 @@ use Rattle.tensor_shape.proofs.Places.{IsIndexOf-index_of}
 use Rattle.tensor_terms.specs.Concatenation.{joined_dims}
 use Rattle.tensor_terms.specs.Contents.{Contents, input_of, value_at}
 use Rattle.tensor_terms.specs.Contraction.{outer_dims}
-use Rattle.tensor_terms.specs.Convolution.{slid_dims}
+use Rattle.tensor_terms.specs.Convolution.{window_dims}
 use Rattle.tensor_terms.specs.Movement.{moved}
 use Rattle.tensor_terms.specs.Padding.{padded_dims}
 use Rattle.tensor_terms.specs.Result.{dims_of, shape_of, unary_dims, binary_dims, ternary_dims}
@@ -22,7 +22,7 @@ use Rattle.tensor_terms.specs.Term.{Unary, each, constant, movement, pad, reduce
 use Rattle.tensor_terms.specs.Term.{concat, contract, convolve, Ternary, select}
 use Rattle.tensor_terms.specs.Value.{value, value_of_place, tensor_of, unary_value, binary_value}
 use Rattle.tensor_terms.specs.Value.{ternary_value}
-use Rattle.tensor_terms.specs.Woven.{other_dims}
+use Rattle.tensor_terms.specs.Merged.{other_dims}
 use Rattle.tensor_terms.proofs.Convolutions.{convolved-other}
 use Rattle.tensor_ops.proofs.Evaluated.{map-values_from, value_at-tensor_of, tensor_of-made}
 use Rattle.tensor_terms.proofs.Known.{reduction-known, contraction-known, convolution-known}
@@ -30,8 +30,8 @@ use Rattle.tensor_terms.proofs.Moved.{IsIndexOf-moved}
 use Rattle.tensor_terms.proofs.Pads.{pad-known, padded-other}
 use Rattle.tensor_terms.proofs.SameValues.{Agree, reduced-other, contracted-other}
 use Rattle.tensor_terms.proofs.Shapes.{Ok-unwrap, with_one-known, with_two-known, with_three-known}
-use Rattle.tensor_terms.proofs.SplicedTerms.{concatenated-other}
-use Rattle.tensor_terms.proofs.Splices.{concatenation-known}
+use Rattle.tensor_terms.proofs.InterleavedTerms.{concatenated-other}
+use Rattle.tensor_terms.proofs.Interleavings.{concatenation-known}
 
 -- dims that are equal
 pub equal_dims-known : (ds es rs : List ℕ) → equal_dims ds es ≡ Ok rs → (ds ≡ es) × (rs ≡ ds)
@@ -79,7 +79,7 @@ agree-binary (contract pairs) ds es rs f g h k dims first second index inside =
     (subst (λ d. IsIndexOf d index) result inside)
 agree-binary (convolve axes) ds es rs f g h k dims first second index inside =
     let known = convolution-known axes ds es (rw dims refl) in
-    let result : rs ≡ slid_dims axes es ds = (cc known.dims) in
+    let result : rs ≡ window_dims axes es ds = (cc known.dims) in
     convolved-other axes ds es f g h k known first second index
     (subst (λ d. IsIndexOf d index) result inside)
 

@@ -5,19 +5,19 @@ use denote.Ref.{NamedLft}
 use denote.Struct.Declared.{shape}
 use Rattle.std.proofs.Crossing.{crosses, Box-sync}
 use Rattle.tensor_ops.proofs.part_evaluator.contracted_runs.ContractedRuns.TheSendSync as contracted
-use Rattle.tensor_ops.proofs.placed.Placed.TheLaws.TheKnot.{sync-Placed}
+use Rattle.tensor_ops.proofs.lowered.Lowered.TheLaws.TheKnot.{sync-Lowered}
 use Rattle.tensor_terms.proofs.expr.Expr.TheLaws.TheKnot.{sync-Expr}
 use Rattle.tensor_terms.proofs.tensor.tensors.Tensors.TheSendSync as tensors
 use Rattle.tensor_ops.specs.contracts.part_evaluator.PartEvaluator as parts
 use Rattle.tensor_ops.specs.contracts.part_evaluator.in_runs.InRuns as in_runs
 use Rattle.tensor_ops.specs.contracts.part_evaluator.value_runs.ValueRuns as value_runs
-use Rattle.tensor_ops.specs.contracts.placed.Placed as placed
+use Rattle.tensor_ops.specs.contracts.lowered.Lowered as lowered
 use Rattle.tensor_terms.specs.contracts.expr.Expr as expr
 
 -- a tree, which is recursive, by the types of what stands in its nodes
-placed-sync : (ℓ : NamedLft) → IsSync (placed.the_field ℓ).row
-placed-sync ℓ =
-    sync-Placed ℓ (search sendable) (search (crosses, sendable)) (search sendable)
+lowered-sync : (ℓ : NamedLft) → IsSync (lowered.the_field ℓ).row
+lowered-sync ℓ =
+    sync-Lowered ℓ (search sendable) (search (crosses, sendable)) (search sendable)
     (search sendable) (search sendable depth 60) (λ h s. Box-sync h s)
     (search sendable depth 80) (search (crosses, sendable) depth 80)
     (search sendable depth 60) (search (crosses, sendable) depth 80) (search sendable depth 20)
@@ -26,7 +26,7 @@ placed-sync ℓ =
 value_runs-sync : (ℓ : NamedLft) → IsSync (value_runs.the_field ℓ).row
 value_runs-sync ℓ =
     struct_sync (shape (value_runs.the_type ℓ))
-    (placed-sync ℓ, (search sendable, (search sendable, tt)))
+    (lowered-sync ℓ, (search sendable, (search sendable, tt)))
 
 in_runs-sync : (ℓ : NamedLft) → IsSync (in_runs.the_field ℓ).row
 in_runs-sync ℓ =

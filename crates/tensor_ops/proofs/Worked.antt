@@ -1,4 +1,4 @@
--- Operations on operands that were placed, and values that were worked out.
+-- Operations on operands that were lowered, and values that were worked out.
 use Rattle.std.proofs.Common.{◌≡◌, ℕ, ℤ, pos, ◌<◌, List, length, map, [], Ok, refl, ap, sym, ◌∙◌}
 use Rattle.std.proofs.Common.{subst, arith}
 use Rattle.std.specs.List.{range_with_len}
@@ -12,16 +12,16 @@ use Rattle.tensor_terms.specs.Contents.{Contents}
 use Rattle.tensor_terms.specs.Contraction.{outer_dims, contracted, contracted_dims}
 use Rattle.tensor_ops.specs.private.Meaning.{meaning, count_of, IsSound, IsListOf}
 use Rattle.tensor_values.specs.Values.{value_in}
-use Rattle.tensor_ops.specs.private.Placing.{Gives, HasValues, meaning_at}
+use Rattle.tensor_ops.specs.private.Lowering.{Gives, HasValues, meaning_at}
 use Rattle.tensor_terms.specs.Reduction.{reduced, reduced_dims}
 use Rattle.tensor_terms.specs.Result.{shape_of, unary_dims, binary_dims}
 use Rattle.tensor_terms.specs.Term.{Term, unary, binary, Unary, Binary}
 use Rattle.tensor_terms.specs.Value.{value, unary_value, binary_value}
-use Rattle.tensor_terms.specs.Woven.{other_dims}
-use Rattle.tensor_ops.specs.declared.placed.Placed.{Placed}
+use Rattle.tensor_terms.specs.Merged.{other_dims}
+use Rattle.tensor_ops.specs.declared.lowered.Lowered.{Lowered}
 use Rattle.tensor_values.specs.declared.reducer.Reducer.{Reducer}
 use Rattle.tensor_terms.proofs.Known.{reduction-known, contraction-known}
-use Rattle.tensor_ops.proofs.Placings.{gives-index, gives-other}
+use Rattle.tensor_ops.proofs.Lowerings.{gives-index, gives-other}
 use Rattle.tensor_ops.proofs.SameTensors.{agree-unary, agree-binary}
 use Rattle.tensor_terms.proofs.SameValues.{Agree, reduced-other, contracted-other}
 
@@ -36,8 +36,8 @@ contracted-shape pairs ds es rs dims =
     ap (λ r. result_unwrap_or r []) (sym (contraction-known pairs ds es (rw dims refl)).dims ∙ dims)
 
 module _ (inputs : List Contents) where
-  -- an operation on one tensor, of an operand that was placed
-  pub agree-term : (t : Term) (o : Unary) (a : Placed) (ds rs : List ℕ)
+  -- an operation on one tensor, of an operand that was lowered
+  pub agree-term : (t : Term) (o : Unary) (a : Lowered) (ds rs : List ℕ)
       → Gives a ds (value t inputs)
       → ds ≡ shape_of t inputs → unary_dims widest o ds ≡ Ok rs
       → Agree rs (unary_value o ds (meaning_at a ds)) (value (unary o t) inputs)
@@ -46,7 +46,7 @@ module _ (inputs : List Contents) where
       (λ js. gives-index a ds (value t inputs) js operand) index is_index
       ∙ ap (λ d. unary_value o d (value t inputs) index) shape
 
-  pub gives-unary : (t : Term) (o : Unary) (a whole : Placed) (ds rs : List ℕ)
+  pub gives-unary : (t : Term) (o : Unary) (a whole : Lowered) (ds rs : List ℕ)
       → Gives a ds (value t inputs)
       → ds ≡ shape_of t inputs → unary_dims widest o ds ≡ Ok rs
       → Gives whole rs (unary_value o ds (meaning_at a ds))
@@ -56,7 +56,7 @@ module _ (inputs : List Contents) where
       (agree-term t o a ds rs operand shape dims)
 
   -- and on two
-  pub agree-terms : (t u : Term) (o : Binary) (a b : Placed) (ds es rs : List ℕ)
+  pub agree-terms : (t u : Term) (o : Binary) (a b : Lowered) (ds es rs : List ℕ)
       → Gives a ds (value t inputs) → Gives b es (value u inputs)
       → ds ≡ shape_of t inputs → es ≡ shape_of u inputs → binary_dims widest o ds es ≡ Ok rs
       → Agree rs (binary_value o ds es (meaning_at a ds) (meaning_at b es))
@@ -69,7 +69,7 @@ module _ (inputs : List Contents) where
       ∙ ap (λ e. binary_value o (shape_of t inputs) e (value t inputs) (value u inputs) index)
       shape_second
 
-  pub gives-binary : (t u : Term) (o : Binary) (a b whole : Placed) (ds es rs : List ℕ)
+  pub gives-binary : (t u : Term) (o : Binary) (a b whole : Lowered) (ds es rs : List ℕ)
       → Gives a ds (value t inputs) → Gives b es (value u inputs)
       → ds ≡ shape_of t inputs → es ≡ shape_of u inputs → binary_dims widest o ds es ≡ Ok rs
       → Gives whole rs (binary_value o ds es (meaning_at a ds) (meaning_at b es))
@@ -94,33 +94,33 @@ values-agree count at ds f values js is_index =
     values.each (place ds js) (place-below-size_of ds js is_index)
     ∙ ap f (index_of-place ds js is_index)
 
--- what is placed has its own values, and those that are worked out
-pub values-placed : (placed : Placed) (ds : List ℕ) (f : List ℕ → ℤ) → Gives placed ds f
-    → HasValues (count_of placed) (meaning placed) ds f
-values-placed placed ds f gives = record { whole = gives.count; each = gives.means }
+-- what is lowered has its own values, and those that are worked out
+pub values-lowered : (lowered : Lowered) (ds : List ℕ) (f : List ℕ → ℤ) → Gives lowered ds f
+    → HasValues (count_of lowered) (meaning lowered) ds f
+values-lowered lowered ds f gives = record { whole = gives.count; each = gives.means }
 
-pub values-own : (placed : Placed) (ds : List ℕ) → count_of placed ≡ size_of ds
-    → HasValues (count_of placed) (meaning placed) ds (meaning_at placed ds)
-values-own placed ds count = record {
+pub values-own : (lowered : Lowered) (ds : List ℕ) → count_of lowered ≡ size_of ds
+    → HasValues (count_of lowered) (meaning lowered) ds (meaning_at lowered ds)
+values-own lowered ds count = record {
   whole = count;
-  each = λ p below. ap (meaning placed) (sym (place-index_of ds p below));
+  each = λ p below. ap (meaning lowered) (sym (place-index_of ds p below));
 }
 
 -- its values at index lists are those that it gives
-pub values-given : (count : ℕ) (at : ℕ → ℤ) (placed : Placed) (ds : List ℕ) (f : List ℕ → ℤ)
-    → HasValues count at ds (meaning_at placed ds) → Gives placed ds f → HasValues count at ds f
-values-given count at placed ds f values gives = record {
+pub values-given : (count : ℕ) (at : ℕ → ℤ) (lowered : Lowered) (ds : List ℕ) (f : List ℕ → ℤ)
+    → HasValues count at ds (meaning_at lowered ds) → Gives lowered ds f → HasValues count at ds f
+values-given count at lowered ds f values gives = record {
   whole = values.whole;
   each = λ p below.
-      values.each p below ∙ ap (meaning placed) (place-index_of ds p below) ∙ gives.means p below;
+      values.each p below ∙ ap (meaning lowered) (place-index_of ds p below) ∙ gives.means p below;
 }
 
-pub values-list : (placed : Placed) (items : List ℤ) (ds : List ℕ) → IsListOf placed items
-    → count_of placed ≡ size_of ds
-    → HasValues (length items) (value_in items) ds (meaning_at placed ds)
-values-list placed items ds is count = record {
+pub values-list : (lowered : Lowered) (items : List ℤ) (ds : List ℕ) → IsListOf lowered items
+    → count_of lowered ≡ size_of ds
+    → HasValues (length items) (value_in items) ds (meaning_at lowered ds)
+values-list lowered items ds is count = record {
   whole = sym is.count ∙ count;
-  each = λ p below. sym (is.each p) ∙ ap (meaning placed) (sym (place-index_of ds p below));
+  each = λ p below. sym (is.each p) ∙ ap (meaning lowered) (sym (place-index_of ds p below));
 }
 
 pub values-worked : (at : ℕ → ℤ) (items : List ℤ) (count n : ℕ) (ds : List ℕ) (f : List ℕ → ℤ)
@@ -133,8 +133,8 @@ values-worked at items count n ds f values same full = record {
       ∙ get_or-map-range_with_len at 0 n p p (pos 0) (omega arith) (omega arith) ∙ values.each p below;
 }
 
--- worked out values, placed
-pub gives-worked : (whole : Placed) (items : List ℤ) (ds : List ℕ) (f : List ℕ → ℤ)
+-- worked out values, lowered
+pub gives-worked : (whole : Lowered) (items : List ℤ) (ds : List ℕ) (f : List ℕ → ℤ)
     → IsListOf whole items → IsSound whole
     → HasValues (length items) (value_in items) ds f → Gives whole ds f
 gives-worked whole items ds f is sound values = record {

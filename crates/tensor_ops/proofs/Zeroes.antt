@@ -1,4 +1,4 @@
--- Zeroes before and behind, placed by concatenations.
+-- Zeroes before and behind, lowered by concatenations.
 use Rattle.std.proofs.Common.{◌≡◌, ℕ, zero, suc, ◌+◌, ◌-◌, ◌<◌, ◌≤◌, ℤ, pos, List, [], ◌∷◌, length, get_or, set, remove}
 use Rattle.std.proofs.Common.{true, false, nat_eq, nat_lt, nat_le, Ok, refl, ap, sym, subst, ◌∙◌, inl, inr, arith}
 use Rattle.std.proofs.Math.ListN.{length-set}
@@ -10,12 +10,12 @@ use Rattle.tensor_shape.specs.Legal.{highest_rank, widest, most_elements, bulk_o
 use Rattle.tensor_terms.specs.Concatenation.{joined_dims, concatenated_dims, concatenated}
 use Rattle.tensor_ops.specs.private.Meaning.{meaning}
 use Rattle.tensor_terms.specs.Padding.{padded_dims, padded}
-use Rattle.tensor_ops.specs.private.Placing.{Gives, meaning_at}
+use Rattle.tensor_ops.specs.private.Lowering.{Gives, meaning_at}
 use Rattle.tensor_terms.specs.Shaped.{Shaped}
-use Rattle.tensor_values.specs.Splicing.{padded_along}
-use Rattle.tensor_ops.specs.declared.placed.Placed.{Placed}
+use Rattle.tensor_values.specs.Interleaving.{padded_along}
+use Rattle.tensor_ops.specs.declared.lowered.Lowered.{Lowered}
 use Rattle.tensor_terms.proofs.Pads.{first_pads, padded_dims-more, bulk_of-first_pads, length-padded_dims, bulk_of-set-le, padded_along-other, padded-more}
-use Rattle.tensor_ops.proofs.Placings.{gives-index}
+use Rattle.tensor_ops.proofs.Lowerings.{gives-index}
 use Rattle.tensor_terms.proofs.ListSets.{set-itself, IsIndexOf-set}
 
 -- one size of a list, and again
@@ -77,7 +77,7 @@ back-dims k b c ds part back is_part is_back within legal =
     ∙ concatenated_dims-sizes k (b + get_or ds k 0) c ds within legal
 
 -- the values with zeroes before and behind
-pub zeroes-around : (k b c : ℕ) (ds fs ps bs rs is : List ℕ) (front part back : Placed) (a : List ℕ → ℤ) → k < length ds
+pub zeroes-around : (k b c : ℕ) (ds fs ps bs rs is : List ℕ) (front part back : Lowered) (a : List ℕ → ℤ) → k < length ds
     → fs ≡ set ds k b → ps ≡ set ds k (b + get_or ds k 0) → rs ≡ set ds k (b + get_or ds k 0 + c)
     → ((p : ℕ) → meaning front p ≡ pos 0) → ((p : ℕ) → meaning back p ≡ pos 0)
     → Gives part ps (concatenated k fs (meaning_at front fs) a) → IsIndexOf rs is
@@ -139,7 +139,7 @@ module _ (k : ℕ) (ps : List (ℕ × ℕ)) (ds es : List ℕ) (same : length ps
       ∙ ap (λ l. set l k ((get_or ps k (0, 0)).0 + get_or ds k 0 + (get_or ps k (0, 0)).1)) dims
       ∙ sym (padded_dims-more k ps ds same within).1
 
-  pub padded-next : (part : Placed) (a : List ℕ → ℤ) (is : List ℕ) → Gives part es (padded (first_pads k ps) ds a)
+  pub padded-next : (part : Lowered) (a : List ℕ → ℤ) (is : List ℕ) → Gives part es (padded (first_pads k ps) ds a)
       → IsIndexOf (set es k ((get_or ps k (0, 0)).0 + get_or es k 0 + (get_or ps k (0, 0)).1)) is → length is ≡ length ds
       → padded_along k (get_or ps k (0, 0)).0 es (meaning_at part es) is ≡ padded (first_pads (suc k) ps) ds a is
   padded-next part a is gives index long =

@@ -16,7 +16,7 @@ pub use Rattle.tensor_terms.specs.Shaped
 pub use Rattle.tensor_terms.specs.Term
 pub use Rattle.tensor_terms.specs.Tree
 pub use Rattle.tensor_terms.specs.Value
-pub use Rattle.tensor_terms.specs.Woven
+pub use Rattle.tensor_terms.specs.Merged
 pub use Rattle.tensor_terms.specs.declared.fault.ExprFault
 pub mod Evaluator
 pub mod PartEvaluator

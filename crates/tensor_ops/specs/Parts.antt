@@ -12,7 +12,7 @@ use Rattle.tensor_terms.specs.Term.{Term, input, unary, binary, ternary}
 use Rattle.tensor_terms.specs.Term.{Unary, each, constant, movement, pad, reduce}
 use Rattle.tensor_terms.specs.Term.{Binary, pairwise, concat, contract, convolve}
 use Rattle.tensor_terms.specs.Value.{value}
-use Rattle.tensor_terms.specs.Woven.{among, dims_at, other_dims, woven}
+use Rattle.tensor_terms.specs.Merged.{among, dims_at, other_dims, merged}
 use Rattle.tensor_values.specs.declared.reducer.Reducer.{Reducer}
 
 -- so many index lists of dims, in order, from the one at a place on
@@ -24,7 +24,7 @@ index_lists_from ds first count = map (index_of ds) (range_with_len first count)
 abbrev pub reduced_part :
     Reducer → List ℕ → List ℕ → (List ℕ → ℤ) → List ℕ → ℕ → ℕ → ℤ
 reduced_part r axes ds a is first count =
-    combination r (map (λ js. a (woven (among axes (length ds)) ds js is))
+    combination r (map (λ js. a (merged (among axes (length ds)) ds js is))
     (index_lists_from (dims_at (among axes (length ds)) ds) first count))
 
 -- the sum, modulo 2^64, of a contraction's products at so many index lists of the paired axes, from
@@ -34,8 +34,8 @@ abbrev pub contracted_part :
     → (List ℕ → ℤ) → (List ℕ → ℤ) → List ℕ → ℕ → ℕ → ℤ
 contracted_part pairs ds es a b is first count =
     wrap (fold ◌+ℤ◌ (pos 0) (map (λ js.
-    a (woven (firsts pairs) ds js (take (length (other_dims (firsts pairs) ds)) is))
-    *ℤ b (woven (seconds pairs) es js (drop (length (other_dims (firsts pairs) ds)) is)))
+    a (merged (firsts pairs) ds js (take (length (other_dims (firsts pairs) ds)) is))
+    *ℤ b (merged (seconds pairs) es js (drop (length (other_dims (firsts pairs) ds)) is)))
     (index_lists_from (dims_at (firsts pairs) ds) first count)))
 
 -- whether an operation is a reduction

@@ -5,10 +5,10 @@ pub mod InRuns
 pub mod Meaning
 pub mod Operand
 pub mod OperandRows
-pub mod Placing
+pub mod Lowering
 pub mod Reduced
 pub mod Root
 pub mod Runs
-pub mod Settling
-pub mod Slid
+pub mod Sinking
+pub mod Windows
 pub mod ValueRuns

@@ -5,5 +5,5 @@ pub(crate) mod contraction;
 pub(crate) mod operand;
 pub(crate) mod reduction;
 pub(crate) mod rows;
-pub(crate) mod slid_runs;
 pub(crate) mod strips;
+pub(crate) mod windows;

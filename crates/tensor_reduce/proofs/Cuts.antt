@@ -8,10 +8,10 @@ use Rattle.tensor_ops.specs.Contents.{Contents}
 use Rattle.tensor_ops.specs.Result.{dims_of}
 use Rattle.tensor_ops.specs.Shaped.{Shaped}
 use Rattle.tensor_ops.specs.Term.{Term, input, unary, binary, ternary, Unary, Binary, Ternary}
-use Rattle.tensor_reduce.specs.private.Cutting.{IsCut, IsSettled}
+use Rattle.tensor_reduce.specs.private.Cutting.{IsCut, IsSplitOff}
 use Rattle.tensor_reduce.specs.Plan.{term_of_step, dims_of_step, terms_in, dims_in}
 use Rattle.tensor_reduce.specs.Steps.{combines, combines_two, own, operand_nodes, number_of, Cut}
-use Rattle.tensor_reduce.specs.Steps.{settled, cut}
+use Rattle.tensor_reduce.specs.Steps.{split_off, cut}
 use Rattle.tensor_reduce.specs.declared.step.Step.{Step}
 
 -- a fact that follows of a result
@@ -59,13 +59,13 @@ module _ (inputs : List Contents) where
     pub term : term_of_step rest ≡ c.left
     pub dims : dims_of widest t inputs ≡ Ok (dims_of_step rest)
 
-  node-settled : (is_step : Bool) (old mid new : List Step) (us ts : List Term) (u t : Term)
+  node-split_off : (is_step : Bool) (old mid new : List Step) (us ts : List Term) (u t : Term)
       (node rest : Step)
       → HaveGrown old mid us ts → term_of_step node ≡ u
-      → dims_of widest t inputs ≡ Ok (dims_of_step node) → IsSettled inputs is_step node mid new rest
-      → IsNode old new (settled (length inputs + length old) is_step us u) (ts ++ own is_step t) t
+      → dims_of widest t inputs ≡ Ok (dims_of_step node) → IsSplitOff inputs is_step node mid new rest
+      → IsNode old new (split_off (length inputs + length old) is_step us u) (ts ++ own is_step t) t
       rest
-  node-settled true old mid new us ts u t node rest grown term dims done =
+  node-split_off true old mid new us ts u t node rest grown term dims done =
       let count : length inputs + length mid ≡ length inputs + length old + length us =
       omega (arith, length-grown old mid us ts grown) in
       let one : HaveGrown mid new (u ∷ []) (t ∷ []) =
@@ -80,7 +80,7 @@ module _ (inputs : List Contents) where
         term = done.term ∙ ap (λ n. input (number_of n)) count;
         dims = dims ∙ ap Ok (sym done.dims);
       }
-  node-settled false old mid new us ts u t node rest grown term dims done =
+  node-split_off false old mid new us ts u t node rest grown term dims done =
       record {
         grown = record {
           terms = ap terms_in done.steps ∙ grown.terms;
@@ -99,13 +99,13 @@ module _ (inputs : List Contents) where
   node-unary : (whole : Bool) (o : Unary) (a : Term) (old mid new : List Step) (x node rest : Step)
       → IsCut inputs (combines o) a old mid x → term_of_step node ≡ unary o (term_of_step x)
       → dims_of widest (unary o a) inputs ≡ Ok (dims_of_step node)
-      → IsSettled inputs (whole || combines o) node mid new rest
+      → IsSplitOff inputs (whole || combines o) node mid new rest
       → IsCut inputs whole (unary o a) old new rest
   node-unary whole o a old mid new x node rest first term dims done =
       let c : Cut = cut (length inputs + length old) (combines o) a in
       let is : IsNode old new (cut (length inputs + length old) whole (unary o a))
       (operand_nodes whole (unary o a)) (unary o a) rest =
-      node-settled (whole || combines o) old mid new c.steps (operand_nodes (combines o) a)
+      node-split_off (whole || combines o) old mid new c.steps (operand_nodes (combines o) a)
       (unary o c.left) (unary o a) node rest
       (grown-cut (combines o) a old mid x first) (term ∙ ap (unary o) first.term) dims done in
       record { terms = is.grown.terms; nodes = is.grown.nodes; term = is.term; dims = is.dims }
@@ -127,7 +127,7 @@ module _ (inputs : List Contents) where
       → IsCut inputs (combines_two o) a old mid x → IsCut inputs (combines_two o) b mid late y
       → term_of_step node ≡ binary o (term_of_step x) (term_of_step y)
       → dims_of widest (binary o a b) inputs ≡ Ok (dims_of_step node)
-      → IsSettled inputs (whole || combines_two o) node late new rest
+      → IsSplitOff inputs (whole || combines_two o) node late new rest
       → IsCut inputs whole (binary o a b) old new rest
   node-binary whole o a b old mid late new x y node rest first second term dims done =
       let w : Bool = combines_two o in
@@ -142,7 +142,7 @@ module _ (inputs : List Contents) where
       ∙ ap (λ v. binary o v (term_of_step y)) first.term ∙ ap (binary o c.left) next.term in
       let is : IsNode old new (cut before whole (binary o a b))
       (operand_nodes whole (binary o a b)) (binary o a b) rest =
-      node-settled (whole || w) old late new (c.steps ++ d.steps)
+      node-split_off (whole || w) old late new (c.steps ++ d.steps)
       (operand_nodes w a ++ operand_nodes w b) (binary o c.left d.left) (binary o a b)
       node rest both left dims done in
       record { terms = is.grown.terms; nodes = is.grown.nodes; term = is.term; dims = is.dims }
@@ -153,7 +153,7 @@ module _ (inputs : List Contents) where
       → IsCut inputs false c late last z
       → term_of_step node ≡ ternary o (term_of_step x) (term_of_step y) (term_of_step z)
       → dims_of widest (ternary o a b c) inputs ≡ Ok (dims_of_step node)
-      → IsSettled inputs whole node last new rest
+      → IsSplitOff inputs whole node last new rest
       → IsCut inputs whole (ternary o a b c) old new rest
   node-ternary whole o a b c old mid late last new x y z node rest first second third term dims
       done =
@@ -179,7 +179,7 @@ module _ (inputs : List Contents) where
       ∙ ap (ternary o d.left e.left) after.term in
       let is : IsNode old new (cut before whole (ternary o a b c))
       (operand_nodes whole (ternary o a b c)) (ternary o a b c) rest =
-      node-settled whole old last new (d.steps ++ e.steps ++ f.steps) (xs ++ ys ++ zs)
+      node-split_off whole old last new (d.steps ++ e.steps ++ f.steps) (xs ++ ys ++ zs)
       (ternary o d.left e.left f.left) (ternary o a b c)
       node rest three left dims done in
       record { terms = is.grown.terms; nodes = is.grown.nodes; term = is.term; dims = is.dims }
@@ -189,20 +189,20 @@ module _ (inputs : List Contents) where
       (x node rest : Step) → unary o a ≡ t → w ≡ combines o
       → IsCut inputs w a old mid x → term_of_step node ≡ unary o u → u ≡ term_of_step x
       → dims_of widest t inputs ≡ Ok (dims_of_step node)
-      → IsSettled inputs (whole || w) node mid new rest → IsCut inputs whole t old new rest
+      → IsSplitOff inputs (whole || w) node mid new rest → IsCut inputs whole t old new rest
   cut-unary whole w o a t u old mid new x node rest is_t is_w first term is_u dims done =
       subst (λ r. IsCut inputs whole r old new rest) is_t
       (node-unary whole o a old mid new x node rest
       (subst (λ b. IsCut inputs b a old mid x) is_w first)
       (term ∙ ap (unary o) is_u) (ap (λ r. dims_of widest r inputs) is_t ∙ dims)
-      (subst (λ b. IsSettled inputs (whole || b) node mid new rest) is_w done))
+      (subst (λ b. IsSplitOff inputs (whole || b) node mid new rest) is_w done))
 
   pub cut-binary : (whole w : Bool) (o : Binary) (a b t u v : Term) (old mid late new : List Step)
       (x y node rest : Step) → binary o a b ≡ t
       → w ≡ combines_two o → IsCut inputs w a old mid x → IsCut inputs w b mid late y
       → term_of_step node ≡ binary o u v → u ≡ term_of_step x → v ≡ term_of_step y
       → dims_of widest t inputs ≡ Ok (dims_of_step node)
-      → IsSettled inputs (whole || w) node late new rest → IsCut inputs whole t old new rest
+      → IsSplitOff inputs (whole || w) node late new rest → IsCut inputs whole t old new rest
   cut-binary whole w o a b t u v old mid late new x y node rest is_t is_w first second term is_u
       is_v dims done =
       subst (λ r. IsCut inputs whole r old new rest) is_t
@@ -211,7 +211,7 @@ module _ (inputs : List Contents) where
       (subst (λ c. IsCut inputs c b mid late y) is_w second)
       (term ∙ ap (λ r. binary o r v) is_u ∙ ap (binary o (term_of_step x)) is_v)
       (ap (λ r. dims_of widest r inputs) is_t ∙ dims)
-      (subst (λ c. IsSettled inputs (whole || c) node late new rest) is_w done))
+      (subst (λ c. IsSplitOff inputs (whole || c) node late new rest) is_w done))
 
   pub cut-ternary : (whole : Bool) (o : Ternary) (a b c t u v w : Term)
       (old mid late last new : List Step) (x y z node rest : Step)
@@ -219,7 +219,7 @@ module _ (inputs : List Contents) where
       → IsCut inputs false c late last z
       → term_of_step node ≡ ternary o u v w → u ≡ term_of_step x → v ≡ term_of_step y
       → w ≡ term_of_step z
-      → dims_of widest t inputs ≡ Ok (dims_of_step node) → IsSettled inputs whole node last new rest
+      → dims_of widest t inputs ≡ Ok (dims_of_step node) → IsSplitOff inputs whole node last new rest
       → IsCut inputs whole t old new rest
   cut-ternary whole o a b c t u v w old mid late last new x y z node rest is_t first second third
       term is_u is_v is_w dims done =

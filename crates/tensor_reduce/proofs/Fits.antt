@@ -16,7 +16,7 @@ use Rattle.tensor_reduce.specs.Plan.{term_of_step, dims_of_step, terms_in, dims_
 use Rattle.tensor_reduce.specs.Plan.{AreReady}
 use Rattle.tensor_reduce.specs.Steps.{combines, combines_two, own, operand_nodes, step_nodes}
 use Rattle.tensor_reduce.specs.Steps.{is_input}
-use Rattle.tensor_reduce.specs.Steps.{Cut, settled, cut, steps_of, is_single}
+use Rattle.tensor_reduce.specs.Steps.{Cut, split_off, cut, steps_of, is_single}
 use Rattle.tensor_reduce.specs.declared.step.Step.{Step}
 use Rattle.tensor_reduce.proofs.Named.{length-cut, is_input-cut, AreAt, AreAt-left, AreAt-right}
 use Rattle.tensor_reduce.proofs.Named.{AreAt-append}
@@ -57,13 +57,13 @@ module _ (inputs : List Contents) where
       )
 
   -- the node behind its operands
-  AreFit-settled : (tensors : List Contents) (before : ℕ) (is_step : Bool) (us ts : List Term)
+  AreFit-split_off : (tensors : List Contents) (before : ℕ) (is_step : Bool) (us ts : List Term)
       (u t : Term) → AreFit tensors us ts
       → IsFit (tensors ++ tensors_of ts) u t
-      → AreFit tensors (settled before is_step us u).steps (ts ++ own is_step t)
-  AreFit-settled tensors before true us ts u t first fit =
+      → AreFit tensors (split_off before is_step us u).steps (ts ++ own is_step t)
+  AreFit-split_off tensors before true us ts u t first fit =
       AreFit-append tensors us ts (u ∷ []) (t ∷ []) first (fit, tt)
-  AreFit-settled tensors before false us ts u t first fit =
+  AreFit-split_off tensors before false us ts u t first fit =
       subst (AreFit tensors us) (sym (append-nil ts)) first
 
   -- tensors over the inputs, and more
@@ -111,7 +111,7 @@ module _ (inputs : List Contents) where
       (omega (arith, length-more tensors ts)) in
       let body = body-unary inputs (tensors ++ tensors_of ts) all o x.left a has left
       (λ e. ap (λ b. is_input (cut before b a).left) e ∙ is_input-cut a before) in
-      AreFit-settled tensors before (whole || c) x.steps ts (unary o x.left) (unary o a) first
+      AreFit-split_off tensors before (whole || c) x.steps ts (unary o x.left) (unary o a) first
       (fit-body (tensors ++ tensors_of ts) c (unary o x.left) (unary o a) body)
   fit-cut (binary o a b) tensors whole before here over names has few =
       let c : Bool = combines_two o in
@@ -151,7 +151,7 @@ module _ (inputs : List Contents) where
         ap (λ d. is_input (cut next d b).left) e
             ∙ is_input-cut b next,
       )) in
-      AreFit-settled tensors before (whole || c) (x.steps ++ y.steps) (xs ++ ys)
+      AreFit-split_off tensors before (whole || c) (x.steps ++ y.steps) (xs ++ ys)
       (binary o x.left y.left) (binary o a b) both
       (fit-body all c (binary o x.left y.left) (binary o a b) body)
   fit-cut (ternary o a b c) tensors whole before here over names has few =
@@ -209,7 +209,7 @@ module _ (inputs : List Contents) where
       (omega arith) in
       let body = body-ternary inputs all over_all o x.left y.left z.left a b c has left centre
       right in
-      AreFit-settled tensors before whole (x.steps ++ y.steps ++ z.steps) (xs ++ ys ++ zs)
+      AreFit-split_off tensors before whole (x.steps ++ y.steps ++ z.steps) (xs ++ ys ++ zs)
       (ternary o x.left y.left z.left) (ternary o a b c)
       three_fit
       (fit-body all false (ternary o x.left y.left z.left) (ternary o a b c) body)

@@ -16,7 +16,7 @@ use Rattle.tensor_ops.proofs.SameTensors.{IsSameTensor, same-worked_out, same-in
 use Rattle.tensor_ops.proofs.SameTensors.{same-binary, same-ternary}
 use Rattle.tensor_ops.proofs.Shapes.{with_one-known, with_two-known, with_three-known}
 use Rattle.tensor_reduce.specs.Steps.{combines, combines_two, own, operand_nodes, is_input}
-use Rattle.tensor_reduce.specs.Steps.{number_of, Cut, settled, cut}
+use Rattle.tensor_reduce.specs.Steps.{number_of, Cut, split_off, cut}
 use Rattle.tensor_reduce.specs.Steps.{combines_nothing, is_single}
 
 -- a number of 32 bits is the place
@@ -24,26 +24,26 @@ number_of-small : (place : ℕ) → place < 2 ^ 32 → number_of place ≡ place
 number_of-small place small = omega arith
 
 -- each node that is a step has a term
-length-settled : (before : ℕ) (is_step : Bool) (us ts : List Term) (u t : Term)
+length-split_off : (before : ℕ) (is_step : Bool) (us ts : List Term) (u t : Term)
     → length us ≡ length ts
-    → length (settled before is_step us u).steps ≡ length (ts ++ own is_step t)
-length-settled before true us ts u t same =
+    → length (split_off before is_step us u).steps ≡ length (ts ++ own is_step t)
+length-split_off before true us ts u t same =
     omega (arith, length-append us (u ∷ []), length-append ts (t ∷ []))
-length-settled before false us ts u t same = same ∙ ap length (sym (append-nil ts))
+length-split_off before false us ts u t same = same ∙ ap length (sym (append-nil ts))
 
 pub length-cut : (t : Term) (before : ℕ) (whole : Bool)
     → length (cut before whole t).steps ≡ length (operand_nodes whole t)
 length-cut (input n) before whole = refl
 length-cut (unary o a) before whole =
     let x : Cut = cut before (combines o) a in
-    length-settled before (whole || combines o) x.steps (operand_nodes (combines o) a)
+    length-split_off before (whole || combines o) x.steps (operand_nodes (combines o) a)
     (unary o x.left) (unary o a)
     (length-cut a before (combines o))
 length-cut (binary o a b) before whole =
     let c : Bool = combines_two o in
     let x : Cut = cut before c a in
     let y : Cut = cut (before + length x.steps) c b in
-    length-settled before (whole || c) (x.steps ++ y.steps)
+    length-split_off before (whole || c) (x.steps ++ y.steps)
     (operand_nodes c a ++ operand_nodes c b) (binary o x.left y.left) (binary o a b)
     (omega (
       arith,
@@ -59,7 +59,7 @@ length-cut (ternary o a b c) before whole =
     let xs : List Term = operand_nodes false a in
     let ys : List Term = operand_nodes false b in
     let zs : List Term = operand_nodes false c in
-    length-settled before whole (x.steps ++ y.steps ++ z.steps) (xs ++ ys ++ zs)
+    length-split_off before whole (x.steps ++ y.steps ++ z.steps) (xs ++ ys ++ zs)
     (ternary o x.left y.left z.left) (ternary o a b c)
     (omega (
       arith,
@@ -161,17 +161,17 @@ module _ (inputs : List Contents) where
         })
 
     -- a node is left as its own tensor, or as it is
-    left-settled : (before : ℕ) (is_step : Bool) (us ts : List Term) (u t : Term)
+    left-split_off : (before : ℕ) (is_step : Bool) (us ts : List Term) (u t : Term)
         → length us ≡ length ts
         → before + length (ts ++ own is_step t) ≤ length tensors
         → AreAt tensors before (ts ++ own is_step t) → IsOk (dims_of widest t inputs)
         → (is_step ≡ false → IsLeft tensors u t)
-        → IsLeft tensors (settled before is_step us u).left t
-    left-settled before true us ts u t same within at has alone =
+        → IsLeft tensors (split_off before is_step us u).left t
+    left-split_off before true us ts u t same within at has alone =
         let last = AreAt-right tensors before ts (t ∷ []) at in
         left-step (before + length us) t (omega (arith, length-append ts (t ∷ []))) has
         (ap (λ n. input_of tensors (before + n)) same ∙ last.0)
-    left-settled before false us ts u t same within at has alone = alone refl
+    left-split_off before false us ts u t same within at has alone = alone refl
 
     pub body-unary : (o : Unary) (u a : Term) → IsOk (dims_of widest (unary o a) inputs)
         → IsLeft tensors u a
@@ -255,7 +255,7 @@ module _ (inputs : List Contents) where
       (AreAt-left tensors before ts last at) (omega (arith, length-append ts last)) in
       let body = body-unary tensors over o x.left a has left
       (λ e. ap (λ b. is_input (cut before b a).left) e ∙ is_input-cut a before) in
-      left-settled tensors over before (whole || c) x.steps ts (unary o x.left) (unary o a)
+      left-split_off tensors over before (whole || c) x.steps ts (unary o x.left) (unary o a)
       (length-cut a before c) within at has
       (left-body tensors over c whole (unary o x.left) (unary o a) body)
   left-cut (binary o a b) tensors over before whole names has at within =
@@ -291,7 +291,7 @@ module _ (inputs : List Contents) where
         length-cut a before c,
         length-cut b next c,
       ) in
-      left-settled tensors over before (whole || c) (x.steps ++ y.steps) (xs ++ ys)
+      left-split_off tensors over before (whole || c) (x.steps ++ y.steps) (xs ++ ys)
       (binary o x.left y.left) (binary o a b) same within at has
       (left-body tensors over c whole (binary o x.left y.left) (binary o a b) body)
   left-cut (ternary o a b c) tensors over before whole names has at within =
@@ -342,7 +342,7 @@ module _ (inputs : List Contents) where
         length-cut b next false,
         length-cut c after false,
       ) in
-      left-settled tensors over before whole (x.steps ++ y.steps ++ z.steps) (xs ++ ys ++ zs)
+      left-split_off tensors over before whole (x.steps ++ y.steps ++ z.steps) (xs ++ ys ++ zs)
       (ternary o x.left y.left z.left) (ternary o a b c)
       same within at has
       (λ none. record { same = body.same; names = body.names; plain = body.plain refl })

@@ -18,7 +18,7 @@ use Rattle.tensor_ops.specs.Index.{size_of, index_of}
 use Rattle.tensor_ops.specs.Parts.{reduced_part, contracted_part}
 use Rattle.tensor_ops.specs.Combining.{combine, unit, combination}
 use Rattle.tensor_ops.specs.Reduction.{reduced}
-use Rattle.tensor_ops.specs.Woven.{among, dims_at, other_dims, woven}
+use Rattle.tensor_ops.specs.Merged.{among, dims_at, other_dims, merged}
 use Rattle.tensor_ops.specs.Wrap.{wrap}
 use Rattle.tensor_ops.specs.Reducer.{Reducer}
 use Rattle.tensor_ops.specs.Reducer.TheVariants.{Sum}
@@ -200,7 +200,7 @@ pub reduced-shards : (r : Reducer) (axes ds : List ℕ) (a : List ℕ → ℤ) (
     ≡ reduced r axes ds a is
 reduced-shards r axes ds a is w wide =
     let dims : List ℕ = dims_at (among axes (length ds)) ds in
-    let f : List ℕ → ℤ = λ js. a (woven (among axes (length ds)) ds js is) in
+    let f : List ℕ → ℤ = λ js. a (merged (among axes (length ds)) ds js is) in
     let g : ℕ → ℤ = λ q. f (index_of dims q) in
     ap (combination r) (map-ext (λ s. combination r (map f (map (index_of dims) (lists_in s))))
     (λ s. combination r (map g (lists_in s)))
@@ -217,8 +217,8 @@ pub contracted-shards : (pairs : List (ℕ × ℕ)) (ds es : List ℕ) (a b : Li
 contracted-shards pairs ds es a b is w wide =
     let dims : List ℕ = dims_at (firsts pairs) ds in
     let f : List ℕ → ℤ = λ js.
-    a (woven (firsts pairs) ds js (take (length (other_dims (firsts pairs) ds)) is))
-    *ℤ b (woven (seconds pairs) es js (drop (length (other_dims (firsts pairs) ds)) is)) in
+    a (merged (firsts pairs) ds js (take (length (other_dims (firsts pairs) ds)) is))
+    *ℤ b (merged (seconds pairs) es js (drop (length (other_dims (firsts pairs) ds)) is)) in
     let g : ℕ → ℤ = λ q. f (index_of dims q) in
     ap (combination Sum) (map-ext
     (λ s. wrap (fold ◌+ℤ◌ (pos 0) (map f (map (index_of dims) (lists_in s)))))

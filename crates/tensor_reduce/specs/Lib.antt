@@ -10,7 +10,7 @@ pub use Rattle.tensor_ops.specs.Scalars
 pub use Rattle.tensor_ops.specs.Term
 pub use Rattle.tensor_ops.specs.Tree
 pub use Rattle.tensor_ops.specs.Value
-pub use Rattle.tensor_ops.specs.Woven
+pub use Rattle.tensor_ops.specs.Merged
 pub use Rattle.tensor_ops.specs.Wrap
 pub mod Kernels
 pub mod Plan

@@ -65,8 +65,8 @@ pub record Cut : Type 0 where
 
 -- a node behind the steps of its operands, where tensors stand before them: a step itself, by whose
 -- tensor it is then named, or a part of what is above it
-abbrev pub settled : ℕ → Bool → List Term → Term → Cut
-settled before is_step steps t =
+abbrev pub split_off : ℕ → Bool → List Term → Term → Cut
+split_off before is_step steps t =
     if is_step
     then record { steps = steps ++ t ∷ []; left = input (number_of (before + length steps)) }
     else record { steps = steps; left = t }
@@ -76,16 +76,16 @@ abbrev pub cut : ℕ → Bool → Term → Cut
 cut before whole (input n) = record { steps = []; left = input n }
 cut before whole (unary o a) =
     let x = cut before (combines o) a in
-    settled before (whole || combines o) x.steps (unary o x.left)
+    split_off before (whole || combines o) x.steps (unary o x.left)
 cut before whole (binary o a b) =
     let x = cut before (combines_two o) a in
     let y = cut (before + length x.steps) (combines_two o) b in
-    settled before (whole || combines_two o) (x.steps ++ y.steps) (binary o x.left y.left)
+    split_off before (whole || combines_two o) (x.steps ++ y.steps) (binary o x.left y.left)
 cut before whole (ternary o a b c) =
     let x = cut before false a in
     let y = cut (before + length x.steps) false b in
     let z = cut (before + length x.steps + length y.steps) false c in
-    settled before whole (x.steps ++ y.steps ++ z.steps) (ternary o x.left y.left z.left)
+    split_off before whole (x.steps ++ y.steps ++ z.steps) (ternary o x.left y.left z.left)
 
 -- the steps of an expression over so many inputs, as terms over these and the tensors of the steps
 -- before

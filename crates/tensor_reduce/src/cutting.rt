@@ -5,7 +5,7 @@ ghost use Rattle.tensor_ops.specs.Legal.{widest};
 ghost use Rattle.tensor_ops.specs.Result.{dims_of, operand_dims};
 ghost use Rattle.tensor_ops.specs.Term.{has_inputs};
 ghost use Rattle.tensor_ops.specs.Tree.{term_of, unary_at, binary_at};
-ghost use Rattle.tensor_reduce.specs.private.Cutting.{IsCut, IsSettled, AreStepsOf};
+ghost use Rattle.tensor_reduce.specs.private.Cutting.{IsCut, IsSplitOff, AreStepsOf};
 ghost use Rattle.tensor_reduce.specs.Steps.{combines, combines_two, is_input, number_of};
 
 use crate::step::Step;
@@ -54,7 +54,7 @@ fn cut(
             let (a, known) = cut(alloc, inputs, a, combining, steps)?.into_parts();
             let dims = dims_over(inputs, expr, &[known]);
             let node = Step::new(operation.over(alloc, a)?, dims);
-            settle(inputs, node, whole | combining, steps)
+            split_off(inputs, node, whole | combining, steps)
         }
         Node::Binary(operation, a, b) => {
             let combining = combines_two(operation);
@@ -62,7 +62,7 @@ fn cut(
             let (b, second) = cut(alloc, inputs, b, combining, steps)?.into_parts();
             let dims = dims_over(inputs, expr, &[first, second]);
             let node = Step::new(operation.over(alloc, a, b)?, dims);
-            settle(inputs, node, whole | combining, steps)
+            split_off(inputs, node, whole | combining, steps)
         }
         Node::Ternary(operation, a, b, c) => {
             let (a, first) = cut(alloc, inputs, a, false, steps)?.into_parts();
@@ -70,20 +70,20 @@ fn cut(
             let (c, third) = cut(alloc, inputs, c, false, steps)?.into_parts();
             let dims = dims_over(inputs, expr, &[first, second, third]);
             let node = Step::new(operation.over(alloc, a, b, c)?, dims);
-            settle(inputs, node, whole, steps)
+            split_off(inputs, node, whole, steps)
         }
     }
 }
 
 /// A node that is a step goes behind the others, and the number of its tensor is left of it.
-fn settle(
+fn split_off(
     inputs: &Inputs,
     node: Step,
     is_step: bool,
     steps: &mut Vec<Step>,
 ) -> Result<Step, AllocError>
     ensures { IfOk result (λ left.
-        IsSettled inputs.now.tensors is_step node steps.old.items steps.new.items left) }
+        IsSplitOff inputs.now.tensors is_step node steps.old.items steps.new.items left) }
 {
     if !is_step {
         return Ok(node);

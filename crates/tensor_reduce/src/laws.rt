@@ -9,7 +9,7 @@ ghost use Rattle.tensor_ops.specs.Contraction.{firsts, contracted};
 ghost use Rattle.tensor_ops.specs.Parts.{reduced_part, contracted_part};
 ghost use Rattle.tensor_ops.specs.Combining.{unit, combine, combination};
 ghost use Rattle.tensor_ops.specs.Reduction.{reduced};
-ghost use Rattle.tensor_ops.specs.Woven.{among, dims_at};
+ghost use Rattle.tensor_ops.specs.Merged.{among, dims_at};
 ghost use Rattle.tensor_ops.specs.Reducer.{Reducer};
 ghost use Rattle.tensor_ops.specs.Reducer.TheVariants.{Sum};
 ghost use Rattle.tensor_reduce.specs.Reducers.{alone};

@@ -12,7 +12,7 @@ use Rattle.tensor_shape.specs.Wrap.{wrap}
 use Rattle.tensor_terms.specs.Contraction.{firsts, seconds, contracted}
 use Rattle.tensor_values.specs.Combining.{combine, unit}
 use Rattle.tensor_terms.specs.Reduction.{reduced}
-use Rattle.tensor_terms.specs.Woven.{among, dims_at, other_dims, woven}
+use Rattle.tensor_terms.specs.Merged.{among, dims_at, other_dims, merged}
 use Rattle.tensor_values.specs.declared.reducer.Reducer.{Reducer}
 
 -- the first of the values that are left
@@ -47,7 +47,7 @@ wrap-next xs s x =
 -- the value that a reduction takes at a place of the dropped dims
 abbrev pub along_dropped : List ℕ → List ℕ → (List ℕ → ℤ) → List ℕ → ℕ → ℤ
 along_dropped axes ds a is k =
-    a (woven (among axes (length ds)) ds (index_of (dims_at (among axes (length ds)) ds) k) is)
+    a (merged (among axes (length ds)) ds (index_of (dims_at (among axes (length ds)) ds) k) is)
 
 pub reduced-fold : (r : Reducer) (axes ds : List ℕ) (a : List ℕ → ℤ) (is : List ℕ)
     → reduced r axes ds a is
@@ -55,7 +55,7 @@ pub reduced-fold : (r : Reducer) (axes ds : List ℕ) (a : List ℕ → ℤ) (is
     (dims_at (among axes (length ds)) ds))))
 reduced-fold r axes ds a is =
     ap (fold (combine r) (unit r))
-    (map-map (λ js. a (woven (among axes (length ds)) ds js is)) (index_of (dims_at (among axes
+    (map-map (λ js. a (merged (among axes (length ds)) ds js is)) (index_of (dims_at (among axes
     (length ds)) ds))
     (range_with_len 0 (size_of (dims_at (among axes (length ds)) ds))))
 
@@ -63,9 +63,9 @@ reduced-fold r axes ds a is =
 abbrev pub product_at : List (ℕ × ℕ) → List ℕ → List ℕ → (List ℕ → ℤ) → (List ℕ → ℤ) → List ℕ → ℕ
     → ℤ
 product_at pairs ds es a b is k =
-    a (woven (firsts pairs) ds (index_of (dims_at (firsts pairs) ds) k) (take (length (other_dims
+    a (merged (firsts pairs) ds (index_of (dims_at (firsts pairs) ds) k) (take (length (other_dims
     (firsts pairs) ds)) is))
-    *ℤ b (woven (seconds pairs) es (index_of (dims_at (firsts pairs) ds) k) (drop (length
+    *ℤ b (merged (seconds pairs) es (index_of (dims_at (firsts pairs) ds) k) (drop (length
     (other_dims (firsts pairs) ds)) is))
 
 pub contracted-fold : (pairs : List (ℕ × ℕ)) (ds es : List ℕ) (a b : List ℕ → ℤ) (is : List ℕ)
@@ -75,6 +75,6 @@ pub contracted-fold : (pairs : List (ℕ × ℕ)) (ds es : List ℕ) (a b : List
 contracted-fold pairs ds es a b is =
     ap (λ xs. wrap (fold ◌+ℤ◌ (pos 0) xs))
     (map-map (λ js.
-    a (woven (firsts pairs) ds js (take (length (other_dims (firsts pairs) ds)) is))
-    *ℤ b (woven (seconds pairs) es js (drop (length (other_dims (firsts pairs) ds)) is)))
+    a (merged (firsts pairs) ds js (take (length (other_dims (firsts pairs) ds)) is))
+    *ℤ b (merged (seconds pairs) es js (drop (length (other_dims (firsts pairs) ds)) is)))
     (index_of (dims_at (firsts pairs) ds)) (range_with_len 0 (size_of (dims_at (firsts pairs) ds))))

@@ -8,7 +8,7 @@ use Rattle.tensor_shape.specs.Index.{size_of}
 use Rattle.tensor_shape.specs.Legal.{bulk_of}
 use Rattle.tensor_shape.proofs.Sizes.{one-le-bulk_of, size_of-le-bulk_of}
 use Rattle.tensor_terms.specs.Reduction.{are_axes}
-use Rattle.tensor_terms.specs.Woven.{dims_at}
+use Rattle.tensor_terms.specs.Merged.{dims_at}
 use Rattle.tensor_terms.proofs.OtherAxes.{are_axes-first}
 use Rattle.tensor_values.proofs.Factors.{some_factor}
 use Rattle.tensor_values.proofs.Factors.{some_size}

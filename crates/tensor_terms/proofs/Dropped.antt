@@ -14,7 +14,7 @@ use Rattle.tensor_shape.proofs.Sizes.{one-le-bulk_of, bulk_of-take-le}
 use Rattle.tensor_terms.specs.Contraction.{firsts, contracted_dims}
 use Rattle.tensor_terms.specs.Movement.{is_among, has_all_below, shuffled_dims}
 use Rattle.tensor_terms.specs.Reduction.{are_axes}
-use Rattle.tensor_terms.specs.Woven.{among, others, dims_at, other_dims}
+use Rattle.tensor_terms.specs.Merged.{among, others, dims_at, other_dims}
 use Rattle.tensor_terms.proofs.Known.{contraction-known}
 use Rattle.tensor_terms.proofs.Legality.{are_legal-below}
 use Rattle.tensor_terms.proofs.OtherAxes.{filter-ext, others-among, is_among-all}

@@ -8,11 +8,11 @@ use Rattle.tensor_shape.specs.Index.{size_of}
 use Rattle.tensor_shape.specs.Legal.{highest_rank, widest, most_elements, bulk_of, IsLegal, are_legal}
 use Rattle.tensor_terms.specs.Movement.{moved_dims, repeated_dims, shuffled_dims, strided_dims, none_is_zero, fit_within, has_all_below}
 use Rattle.tensor_terms.specs.Contraction.{firsts, seconds, outer_dims, contracted_dims, few_products, most_products}
-use Rattle.tensor_terms.specs.Convolution.{convolved_dims, fit_along, slid_dims}
+use Rattle.tensor_terms.specs.Convolution.{convolved_dims, fit_along, window_dims}
 use Rattle.tensor_terms.specs.Reduction.{are_axes, reduced_dims}
 use Rattle.tensor_terms.specs.Shaped.{Shaped, legal_dims, with_one}
 use Rattle.tensor_terms.specs.Term.{Movement, broadcast, slice, shuffle, reshape, chip, reverse, stride}
-use Rattle.tensor_terms.specs.Woven.{dims_at, other_dims}
+use Rattle.tensor_terms.specs.Merged.{dims_at, other_dims}
 use Rattle.tensor_terms.specs.declared.fault.ExprFault.{ExprFault}
 use Rattle.tensor_terms.specs.declared.fault.ExprFault.TheVariants.{ShapeMismatch, OutOfRange, TooLarge}
 
@@ -177,14 +177,14 @@ pub record IsConvolution (axes ds ks : List ℕ) : Type 0 where
   pub legal : are_axes (length ds) axes ≡ true
   pub ranks : length ks ≡ length axes
   pub fits : fit_along axes ks ds ≡ true
-  pub dims : convolved_dims axes ds ks ≡ Ok (slid_dims axes ks ds)
+  pub dims : convolved_dims axes ds ks ≡ Ok (window_dims axes ks ds)
 
 pub convolution-known : (axes ds ks : List ℕ) → IsOk (convolved_dims axes ds ks) → IsConvolution axes ds ks
 convolution-known axes ds ks h =
     let legal = check-known (are_axes (length ds) axes) _ OutOfRange h in
     let ranks = check-known (nat_eq (length ks) (length axes)) _ ShapeMismatch legal.1 in
     let fits = check-known (fit_along axes ks ds) _ OutOfRange ranks.1 in
-    let few = check-known (nat_le (size_of (slid_dims axes ks ds) * size_of ks) most_products) (Ok (slid_dims axes ks ds)) TooLarge fits.1 in
+    let few = check-known (nat_le (size_of (window_dims axes ks ds) * size_of ks) most_products) (Ok (window_dims axes ks ds)) TooLarge fits.1 in
     record {
       legal = legal.0;
       ranks = eqb-true (length ks) (length axes) ranks.0;

@@ -13,9 +13,9 @@ pub mod Permutations
 pub mod Widening
 pub mod SameValues
 pub mod Shapes
-pub mod SlidIndex
-pub mod SplicedTerms
-pub mod Splices
+pub mod WindowIndex
+pub mod InterleavedTerms
+pub mod Interleavings
 pub mod Splits
 pub mod Terms
 pub mod TwoParts

@@ -11,7 +11,7 @@ use Rattle.std.proofs.lemmas.List.{append-nil}
 use Rattle.std.proofs.lemmas.List.Elements.{filter-append}
 use Rattle.tensor_terms.specs.Movement.{is_among}
 use Rattle.tensor_terms.specs.Reduction.{are_axes}
-use Rattle.tensor_terms.specs.Woven.{among, others}
+use Rattle.tensor_terms.specs.Merged.{among, others}
 use Rattle.tensor_terms.proofs.Permutations.{is_among-rest}
 
 -- the first of some axes, and the rest of them

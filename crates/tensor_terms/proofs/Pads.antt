@@ -8,7 +8,7 @@ use Rattle.tensor_shape.specs.Legal.{widest, bulk_of, IsLegal, are_legal}
 use Rattle.tensor_shape.specs.declared.bounds.Bounds.{Bounds}
 use Rattle.tensor_shape.proofs.Sizes.{one-le-bulk_of}
 use Rattle.tensor_terms.specs.Padding.{padded_dims, pad_dims, is_inside, moved_back, padded}
-use Rattle.tensor_values.specs.Splicing.{padded_along}
+use Rattle.tensor_values.specs.Interleaving.{padded_along}
 use Rattle.tensor_terms.specs.declared.fault.ExprFault.TheVariants.{ShapeMismatch, TooLarge}
 use Rattle.tensor_terms.proofs.Known.{check-known, IsLegal-are_legal}
 

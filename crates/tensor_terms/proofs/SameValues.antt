@@ -8,7 +8,7 @@ use Rattle.tensor_shape.proofs.Places.{index_of-place, place-below-size_of}
 use Rattle.tensor_terms.specs.Contraction.{firsts, seconds, outer_dims, contracted}
 use Rattle.tensor_values.specs.Combining.{combine, unit}
 use Rattle.tensor_terms.specs.Reduction.{reduced, are_axes}
-use Rattle.tensor_terms.specs.Woven.{among, dims_at, other_dims, woven}
+use Rattle.tensor_terms.specs.Merged.{among, dims_at, other_dims, merged}
 use Rattle.tensor_values.specs.declared.reducer.Reducer.{Reducer}
 use Rattle.tensor_terms.proofs.Combined.{along_dropped, product_at, reduced-fold, contracted-fold}
 use Rattle.tensor_terms.proofs.Dropped.{other_dims-among}
@@ -25,10 +25,10 @@ Agree ds f g = (js : List ℕ) → IsIndexOf ds js → f js ≡ g js
 agree-parts : (ds axes : List ℕ) (f g : List ℕ → ℤ) → Agree ds f g
     → are_axes (length ds) axes ≡ true
     → (j i : ℕ) → j < size_of (dims_at axes ds) → i < size_of (other_dims axes ds)
-    → f (woven axes ds (index_of (dims_at axes ds) j) (index_of (other_dims axes ds) i))
-    ≡ g (woven axes ds (index_of (dims_at axes ds) j) (index_of (other_dims axes ds) i))
+    → f (merged axes ds (index_of (dims_at axes ds) j) (index_of (other_dims axes ds) i))
+    ≡ g (merged axes ds (index_of (dims_at axes ds) j) (index_of (other_dims axes ds) i))
 agree-parts ds axes f g same legal j i inner outer =
-    same (woven axes ds (index_of (dims_at axes ds) j) (index_of (other_dims axes ds) i))
+    same (merged axes ds (index_of (dims_at axes ds) j) (index_of (other_dims axes ds) i))
     (IsIndexOf-parts axes ds legal j i inner outer)
 
 -- so do their reductions
@@ -46,9 +46,9 @@ reduced-other r axes ds f g same is index =
     let each : (q : ℕ) → q < size_of (dims_at dropped ds)
     → along_dropped axes ds f is q ≡ along_dropped axes ds g is q =
     λ q inner.
-    ap (λ ks. f (woven dropped ds (index_of (dims_at dropped ds) q) ks)) (sym whole)
+    ap (λ ks. f (merged dropped ds (index_of (dims_at dropped ds) q) ks)) (sym whole)
     ∙ agree-parts ds dropped f g same (are_axes-among axes (length ds)) q p inner outer
-    ∙ ap (λ ks. g (woven dropped ds (index_of (dims_at dropped ds) q) ks)) whole in
+    ∙ ap (λ ks. g (merged dropped ds (index_of (dims_at dropped ds) q) ks)) whole in
     reduced-fold r axes ds f is
     ∙ ap (fold (combine r) (unit r))
     (map-shifted (along_dropped axes ds f is) (along_dropped axes ds g is) 0 0 (size_of
@@ -72,26 +72,26 @@ contracted-other pairs ds es f g h k known same_f same_h is index =
     ≡ index_of ys (p / size_of xs) = ap (drop (length xs)) (sym back) ∙ parts.second in
     let paired : dims_at (firsts pairs) ds ≡ dims_at (seconds pairs) es = known.paired in
     let at_left : (q : ℕ) → q < size_of (dims_at (firsts pairs) ds)
-    → f (woven (firsts pairs) ds (index_of (dims_at (firsts pairs) ds) q) (take (length xs) is))
-    ≡ g (woven (firsts pairs) ds (index_of (dims_at (firsts pairs) ds) q) (take (length xs) is)) =
+    → f (merged (firsts pairs) ds (index_of (dims_at (firsts pairs) ds) q) (take (length xs) is))
+    ≡ g (merged (firsts pairs) ds (index_of (dims_at (firsts pairs) ds) q) (take (length xs) is)) =
     λ q inner.
-    ap (λ ks. f (woven (firsts pairs) ds (index_of (dims_at (firsts pairs) ds) q) ks)) left
+    ap (λ ks. f (merged (firsts pairs) ds (index_of (dims_at (firsts pairs) ds) q) ks)) left
     ∙ agree-parts ds (firsts pairs) f g same_f known.first q (p % size_of xs) inner parts.inner
-    ∙ ap (λ ks. g (woven (firsts pairs) ds (index_of (dims_at (firsts pairs) ds) q) ks))
+    ∙ ap (λ ks. g (merged (firsts pairs) ds (index_of (dims_at (firsts pairs) ds) q) ks))
     (sym left) in
     let at_right : (q : ℕ) → q < size_of (dims_at (firsts pairs) ds)
-    → h (woven (seconds pairs) es (index_of (dims_at (firsts pairs) ds) q) (drop (length xs) is))
-    ≡ k (woven (seconds pairs) es (index_of (dims_at (firsts pairs) ds) q) (drop (length xs) is)) =
+    → h (merged (seconds pairs) es (index_of (dims_at (firsts pairs) ds) q) (drop (length xs) is))
+    ≡ k (merged (seconds pairs) es (index_of (dims_at (firsts pairs) ds) q) (drop (length xs) is)) =
     λ q inner.
-    ap (λ cs. h (woven (seconds pairs) es (index_of cs q) (drop (length xs) is))) paired
-    ∙ ap (λ ks. h (woven (seconds pairs) es (index_of (dims_at (seconds pairs) es) q) ks)) right
+    ap (λ cs. h (merged (seconds pairs) es (index_of cs q) (drop (length xs) is))) paired
+    ∙ ap (λ ks. h (merged (seconds pairs) es (index_of (dims_at (seconds pairs) es) q) ks)) right
     ∙ agree-parts es (seconds pairs) h k same_h known.second q (p / size_of xs) (omega (
       arith,
       ap size_of paired,
     )) parts.outer
-    ∙ ap (λ ks. k (woven (seconds pairs) es (index_of (dims_at (seconds pairs) es) q) ks))
+    ∙ ap (λ ks. k (merged (seconds pairs) es (index_of (dims_at (seconds pairs) es) q) ks))
     (sym right)
-    ∙ ap (λ cs. k (woven (seconds pairs) es (index_of cs q) (drop (length xs) is))) (sym paired) in
+    ∙ ap (λ cs. k (merged (seconds pairs) es (index_of cs q) (drop (length xs) is))) (sym paired) in
     let each : (q : ℕ) → q < size_of (dims_at (firsts pairs) ds)
     → product_at pairs ds es f h is q ≡ product_at pairs ds es g k is q =
     λ q inner. let one = at_left q inner in let two = at_right q inner in cc in

@@ -11,7 +11,7 @@ use Rattle.tensor_shape.specs.Index.{size_of, index_of}
 use Rattle.tensor_shape.specs.Legal.{bulk_of}
 use Rattle.tensor_terms.specs.Movement.{is_among}
 use Rattle.tensor_terms.specs.Reduction.{are_axes}
-use Rattle.tensor_terms.specs.Woven.{among, others, dims_at}
+use Rattle.tensor_terms.specs.Merged.{among, others, dims_at}
 use Rattle.tensor_terms.proofs.OtherAxes.{are_axes-picked, filter-all, filter-none}
 use Rattle.tensor_terms.proofs.OtherAxes.{range_with_len-append}
 use Rattle.tensor_terms.proofs.DimsAt.{size_of-dims_at-le}

@@ -18,7 +18,7 @@ use Rattle.tensor_terms.specs.Reduction.{reduced, reduced_dims, are_axes}
 use Rattle.tensor_terms.specs.Result.{dims_of, shape_of}
 use Rattle.tensor_terms.specs.Term.{Term, unary, binary, reduce, contract}
 use Rattle.tensor_terms.specs.Value.{value, value_of_place}
-use Rattle.tensor_terms.specs.Woven.{among, dims_at, other_dims, woven}
+use Rattle.tensor_terms.specs.Merged.{among, dims_at, other_dims, merged}
 use Rattle.tensor_terms.specs.declared.cursor.Pairing.{Pairing}
 use Rattle.tensor_values.specs.declared.reducer.Reducer.{Reducer}
 use Rattle.tensor_terms.proofs.Dropped.{length-pairs, other_dims-among}
@@ -35,16 +35,16 @@ module _ (inputs : List Contents) where
       → are_axes (length (shape_of t inputs)) axes ≡ true
       → j < size_of (dims_at axes (shape_of t inputs))
       → i < size_of (other_dims axes (shape_of t inputs))
-      → read ≡ place (shape_of t inputs) (woven axes (shape_of t inputs)
+      → read ≡ place (shape_of t inputs) (merged axes (shape_of t inputs)
       (index_of (dims_at axes (shape_of t inputs)) j) (index_of (other_dims axes
       (shape_of t inputs)) i))
-      → value_of_place t inputs read ≡ value t inputs (woven axes (shape_of t inputs)
+      → value_of_place t inputs read ≡ value t inputs (merged axes (shape_of t inputs)
       (index_of (dims_at axes (shape_of t inputs)) j) (index_of (other_dims axes
       (shape_of t inputs)) i))
   value-parts t axes j i read legal inner outer at =
       let ds : List ℕ = shape_of t inputs in
       ap (value_of_place t inputs) at
-      ∙ ap (value t inputs) (index_of-place ds (woven axes ds (index_of (dims_at axes ds) j)
+      ∙ ap (value t inputs) (index_of-place ds (merged axes ds (index_of (dims_at axes ds) j)
       (index_of (other_dims axes ds) i))
       (IsIndexOf-parts axes ds legal j i inner outer))
 
@@ -81,7 +81,7 @@ module _ (inputs : List Contents) where
     pub reduced-step : (k p read : ℕ)
         → k < size_of (dims_at (among axes (length (shape_of a inputs))) (shape_of a inputs))
         → p < size_of (other_dims axes (shape_of a inputs))
-        → read ≡ place (shape_of a inputs) (woven (among axes (length (shape_of a inputs)))
+        → read ≡ place (shape_of a inputs) (merged (among axes (length (shape_of a inputs)))
         (shape_of a inputs)
         (index_of (dims_at (among axes (length (shape_of a inputs))) (shape_of a inputs)) k)
         (index_of (other_dims (among axes (length (shape_of a inputs))) (shape_of a inputs)) p))
@@ -93,7 +93,7 @@ module _ (inputs : List Contents) where
         let same = other_dims-among ds axes in
         let outside : p < size_of (other_dims dropped ds) = omega (arith, ap size_of same) in
         value-parts a dropped k p read (are_axes-among axes (length ds)) inner outside at
-        ∙ ap (λ es. value a inputs (woven dropped ds (index_of (dims_at dropped ds) k)
+        ∙ ap (λ es. value a inputs (merged dropped ds (index_of (dims_at dropped ds) k)
         (index_of es p))) same
 
     -- where the loop of a reduction stands: with the values from a place of the dropped dims on the
@@ -134,7 +134,7 @@ module _ (inputs : List Contents) where
         → (d xs : List ℕ) (v w x : ℤ) (k count p read : ℕ)
         → ReducedOver d xs count → k < count
         → p < size_of (shape_of (unary (reduce r axes) a) inputs)
-        → read ≡ place d (woven xs d (index_of (dims_at xs d) k) (index_of (other_dims xs d) p))
+        → read ≡ place d (merged xs d (index_of (dims_at xs d) k) (index_of (other_dims xs d) p))
         → x ≡ value_of_place a inputs read → w ≡ combine r v x → ReducedFrom v k count p
         → ReducedFrom w (k + 1) count p
     reduced-next has_dims d xs v w x k count p read over below inside at is_x is_w so_far =
@@ -142,7 +142,7 @@ module _ (inputs : List Contents) where
         let ds : List ℕ = shape_of a inputs in
         let g : ℕ → ℤ = along_dropped axes ds (value a inputs) (index_of (other_dims axes ds) p) in
         let place_at : List ℕ → List ℕ → ℕ =
-        λ ys e. place e (woven ys e (index_of (dims_at ys e) k) (index_of (other_dims ys e) p)) in
+        λ ys e. place e (merged ys e (index_of (dims_at ys e) k) (index_of (other_dims ys e) p)) in
         let there : read ≡ place_at (among axes (length ds)) ds =
         at ∙ ap (λ ys. place_at ys d) over.dropped
         ∙ ap (λ e. place_at (among axes (length e)) e) over.dims in
@@ -215,11 +215,11 @@ module _ (inputs : List Contents) where
     pub contracted-step : IsContracted → (k p left right : ℕ)
         → k < size_of (dims_at (firsts pairs) (shape_of a inputs))
         → p < size_of (shape_of (binary (contract pairs) a b) inputs)
-        → left ≡ place (shape_of a inputs) (woven (firsts pairs) (shape_of a inputs)
+        → left ≡ place (shape_of a inputs) (merged (firsts pairs) (shape_of a inputs)
         (index_of (dims_at (firsts pairs) (shape_of a inputs)) k)
         (index_of (other_dims (firsts pairs) (shape_of a inputs)) (p % size_of (other_dims
         (firsts pairs) (shape_of a inputs)))))
-        → right ≡ place (shape_of b inputs) (woven (seconds pairs) (shape_of b inputs)
+        → right ≡ place (shape_of b inputs) (merged (seconds pairs) (shape_of b inputs)
         (index_of (dims_at (seconds pairs) (shape_of b inputs)) k)
         (index_of (other_dims (seconds pairs) (shape_of b inputs)) (p / size_of (other_dims
         (firsts pairs) (shape_of a inputs)))))
@@ -237,15 +237,15 @@ module _ (inputs : List Contents) where
         let second = value-parts b (seconds pairs) k (p / size_of (other_dims
         (firsts pairs) ds)) right is.known.second inside outer.outer at_right in
         ap (λ v. v *ℤ value_of_place b inputs right)
-        (first ∙ ap (λ is. value a inputs (woven (firsts pairs) ds (index_of (dims_at
+        (first ∙ ap (λ is. value a inputs (merged (firsts pairs) ds (index_of (dims_at
         (firsts pairs) ds) k) is)) (sym outer.first))
-        ∙ ap (λ v. value a inputs (woven (firsts pairs) ds (index_of (dims_at (firsts pairs) ds) k)
+        ∙ ap (λ v. value a inputs (merged (firsts pairs) ds (index_of (dims_at (firsts pairs) ds) k)
         (take (length (other_dims (firsts pairs) ds)) (index_of (outer_dims pairs ds es) p))) *ℤ v)
         (second
-        ∙ ap (λ ks. value b inputs (woven (seconds pairs) es (index_of ks k) (index_of (other_dims
+        ∙ ap (λ ks. value b inputs (merged (seconds pairs) es (index_of ks k) (index_of (other_dims
         (seconds pairs) es)
         (p / size_of (other_dims (firsts pairs) ds))))) (sym paired)
-        ∙ ap (λ is. value b inputs (woven (seconds pairs) es (index_of (dims_at
+        ∙ ap (λ is. value b inputs (merged (seconds pairs) es (index_of (dims_at
         (firsts pairs) ds) k) is)) (sym outer.second))
 
     -- where the loop of a contraction stands
@@ -328,10 +328,10 @@ module _ (inputs : List Contents) where
     pub summed-next : IsOk (dims_of widest (binary (contract pairs) a b) inputs)
         → (q : Pairing) (v w x y : ℤ) (k p left right : ℕ) → IsPairing inputs pairs a b q
         → k < q.count → p < size_of (shape_of (binary (contract pairs) a b) inputs)
-        → left ≡ place q.first (woven q.firsts.items q.first
+        → left ≡ place q.first (merged q.firsts.items q.first
         (index_of (dims_at q.firsts.items q.first) k)
         (index_of (other_dims q.firsts.items q.first) (p % q.outer)))
-        → right ≡ place q.second (woven q.seconds.items q.second
+        → right ≡ place q.second (merged q.seconds.items q.second
         (index_of (dims_at q.seconds.items q.second) k)
         (index_of (other_dims q.seconds.items q.second) (p / q.outer)))
         → x ≡ value_of_place a inputs left → y ≡ value_of_place b inputs right
@@ -344,7 +344,7 @@ module _ (inputs : List Contents) where
         let g : ℕ → ℤ = product_at pairs ds es (value a inputs) (value b inputs) (index_of
         (outer_dims pairs ds es) p) in
         let place_at : List ℕ → List ℕ → ℕ
-        → ℕ = λ zs f i. place f (woven zs f (index_of (dims_at zs f) k) (index_of
+        → ℕ = λ zs f i. place f (merged zs f (index_of (dims_at zs f) k) (index_of
         (other_dims zs f) i)) in
         let at_outer = summed-outer q over in
         let there_left : left ≡ place_at (firsts pairs) ds (p % size_of (other_dims

@@ -17,7 +17,7 @@ use Rattle.tensor_shape.proofs.Sizes.{size_of-le-bulk_of}
 use Rattle.tensor_terms.specs.Movement.{moved, moved_dims, shuffled_dims, scattered}
 use Rattle.tensor_terms.specs.Reduction.{are_axes}
 use Rattle.tensor_terms.specs.Term.{shuffle}
-use Rattle.tensor_terms.specs.Woven.{others, dims_at, other_dims, woven}
+use Rattle.tensor_terms.specs.Merged.{others, dims_at, other_dims, merged}
 use Rattle.tensor_terms.proofs.Dropped.{axes_first, length-axes_first, has_all_below-axes_first}
 use Rattle.tensor_terms.proofs.Dropped.{bulk_of-axes}
 use Rattle.tensor_terms.proofs.Moved.{factor-above}
@@ -25,7 +25,7 @@ use Rattle.tensor_terms.proofs.OtherAxes.{are_axes-others}
 use Rattle.tensor_terms.proofs.Shapes.{place_read}
 use Rattle.tensor_terms.proofs.Splits.{size_of-append, index_of-append, length-index_of}
 use Rattle.tensor_values.proofs.Factors.{some_factor}
-use Rattle.tensor_terms.proofs.Weaving.{IsIndexOf-woven}
+use Rattle.tensor_terms.proofs.Weaving.{IsIndexOf-merged}
 
 -- the index list of a place, modulo the dims' size
 index_of-mod : (ds : List ℕ) (p : ℕ) → 0 < size_of ds
@@ -35,8 +35,8 @@ index_of-mod (d ∷ ds) p some =
     let s : ℕ = size_of ds in
     let some_d : 0 < d = factor-above d s 0 some in
     let some_s : 0 < s = some_factor d s 0 some in
-    let turned : d * s ≡ s * d = omega arith in
-    let split : p % (d * s) ≡ p / d % s * d + p % d = rw turned (mod-mul p some_s some_d) in
+    let swapped : d * s ≡ s * d = omega arith in
+    let split : p % (d * s) ≡ p / d % s * d + p % d = rw swapped (mod-mul p some_s some_d) in
     let low : p % d < d = mod-lt p some_d in
     let first : p % (d * s) % d ≡ p % d = rw split (mod-mul-add (p / d % s) d (p % d) low) in
     let rest : p % (d * s) / d ≡ p / d % s = rw split (div-mul-add (p / d % s) d (p % d) low) in
@@ -110,10 +110,10 @@ module _ (axes ds : List ℕ) (legal : are_axes (length ds) axes ≡ true) where
 
   module _ (j i : ℕ) (inner : j < size_of (dims_at axes ds)) where
     -- an index list in two parts is what a shuffle reads with these axes first
-    pub woven-moved : moved (shuffle order) ds (index_of (shuffled_dims ds order) (j + size_of
+    pub merged-moved : moved (shuffle order) ds (index_of (shuffled_dims ds order) (j + size_of
         (dims_at axes ds) * i))
-        ≡ woven axes ds (index_of (dims_at axes ds) j) (index_of (other_dims axes ds) i)
-    woven-moved =
+        ≡ merged axes ds (index_of (dims_at axes ds) j) (index_of (other_dims axes ds) i)
+    merged-moved =
         ap (λ js. scattered order js (map (λ d. 0) ds))
         (ap (λ es. index_of es (j + size_of (dims_at axes ds) * i)) dims-first
         ∙ index_of-joined (dims_at axes ds) (other_dims axes ds) j i inner)
@@ -130,18 +130,18 @@ module _ (axes ds : List ℕ) (legal : are_axes (length ds) axes ≡ true) where
 
       -- its place is the one that is read
       pub parts-read : place_read (shuffle order) ds (j + size_of (dims_at axes ds) * i)
-          ≡ place ds (woven axes ds (index_of (dims_at axes ds) j) (index_of
+          ≡ place ds (merged axes ds (index_of (dims_at axes ds) j) (index_of
           (other_dims axes ds) i))
       parts-read =
           ap (λ r. place ds (moved (shuffle order) ds (index_of (result_unwrap_or r [])
           (j + size_of (dims_at axes ds) * i)))) shuffle-first
-          ∙ ap (place ds) woven-moved
+          ∙ ap (place ds) merged-moved
 
       -- it is an index list of the whole
-      pub IsIndexOf-parts : IsIndexOf ds (woven axes ds (index_of (dims_at axes ds) j) (index_of
+      pub IsIndexOf-parts : IsIndexOf ds (merged axes ds (index_of (dims_at axes ds) j) (index_of
           (other_dims axes ds) i))
       IsIndexOf-parts =
-          IsIndexOf-woven axes ds legal (index_of (dims_at axes ds) j) (index_of
+          IsIndexOf-merged axes ds legal (index_of (dims_at axes ds) j) (index_of
           (other_dims axes ds) i)
           (IsIndexOf-index_of (dims_at axes ds) j inner) (IsIndexOf-index_of
           (other_dims axes ds) i outer)

@@ -1,4 +1,4 @@
--- Index lists woven from two parts: each index list has its two parts, and no other.
+-- Index lists merged from two parts: each index list has its two parts, and no other.
 use Rattle.std.proofs.Common.{◌≡◌, ℕ, ◌+◌, ◌<◌, List, [], ◌∷◌, ◌++◌, length, get_or, set, true}
 use Rattle.std.proofs.Common.{false, nat_eq}
 use Rattle.std.proofs.Common.{refl, ap, sym, ◌∙◌, arith, inl, inr, subst}
@@ -9,7 +9,7 @@ use Rattle.tensor_shape.specs.Index.{IsIndexOf}
 use Rattle.tensor_shape.proofs.Places.{length-IsIndexOf}
 use Rattle.tensor_terms.specs.Movement.{scattered, shuffled_dims, is_among}
 use Rattle.tensor_terms.specs.Reduction.{are_axes}
-use Rattle.tensor_terms.specs.Woven.{others, dims_at, other_dims, woven}
+use Rattle.tensor_terms.specs.Merged.{others, dims_at, other_dims, merged}
 use Rattle.tensor_terms.proofs.Moved.{IsIndexOf-by_each, scattered-below, length-scattered}
 use Rattle.tensor_terms.proofs.Moved.{get_or-IsIndexOf}
 use Rattle.tensor_terms.proofs.Moved.{zeros}
@@ -109,10 +109,10 @@ same_parts (x ∷ xs) (j ∷ js) ys is long same =
     record { first = cc; second = rest.second }
 
 module _ (axes ds : List ℕ) (legal : are_axes (length ds) axes ≡ true) where
-  -- an index list is woven from its own two parts
-  pub woven-parts : (ks : List ℕ) → IsIndexOf ds ks
-      → woven axes ds (dims_at axes ks) (dims_at (others axes (length ds)) ks) ≡ ks
-  woven-parts ks index =
+  -- an index list is merged from its own two parts
+  pub merged-parts : (ks : List ℕ) → IsIndexOf ds ks
+      → merged axes ds (dims_at axes ks) (dims_at (others axes (length ds)) ks) ≡ ks
+  merged-parts ks index =
       let all : List ℕ = axes ++ others axes (length ds) in
       let long = length-IsIndexOf ds ks index in
       let zero_long : length (zeros ds) ≡ length ks = length-zeros ds ∙ sym long in
@@ -132,25 +132,25 @@ module _ (axes ds : List ℕ) (legal : are_axes (length ds) axes ≡ true) where
     length-second = length-IsIndexOf (other_dims axes ds) is second
         ∙ length-dims_at (others axes (length ds)) ds
 
-    -- a woven index list is one of the dims
-    pub IsIndexOf-woven : IsIndexOf ds (woven axes ds js is)
-    IsIndexOf-woven =
+    -- a merged index list is one of the dims
+    pub IsIndexOf-merged : IsIndexOf ds (merged axes ds js is)
+    IsIndexOf-merged =
         let whole : IsIndexOf (dims_at (axes ++ others axes (length ds)) ds) (js ++ is) =
         subst (λ es. IsIndexOf es (js ++ is))
         (sym (dims_at-append axes (others axes (length ds)) ds))
         (IsIndexOf-append (dims_at axes ds) (other_dims axes ds) js is first second) in
-        IsIndexOf-by_each ds (woven axes ds js is)
+        IsIndexOf-by_each ds (merged axes ds js is)
         (length-scattered (axes ++ others axes (length ds)) (js ++ is) (zeros ds) ∙ length-zeros ds)
         (λ a below. scattered-below ds (axes ++ others axes (length ds)) (js ++ is)
         (zeros ds) a below (length-zeros ds) whole
         (is_among-all axes (length ds) a below))
 
     -- no other parts give it
-    pub parts-woven : SameParts (dims_at axes (woven axes ds js is)) js
-        (dims_at (others axes (length ds)) (woven axes ds js is)) is
-    parts-woven =
+    pub parts-merged : SameParts (dims_at axes (merged axes ds js is)) js
+        (dims_at (others axes (length ds)) (merged axes ds js is)) is
+    parts-merged =
         let all : List ℕ = axes ++ others axes (length ds) in
-        let made : List ℕ = woven axes ds js is in
+        let made : List ℕ = merged axes ds js is in
         let once : are_axes (length (zeros ds)) all ≡ true =
         rw (length-zeros ds) (are_axes-all axes (length ds) legal) in
         let long : length (js ++ is) ≡ length all =

@@ -15,7 +15,7 @@ use Rattle.tensor_terms.specs.Padding.{padded_dims}
 use Rattle.tensor_terms.specs.Reduction.{are_axes}
 use Rattle.tensor_terms.specs.Result.{shape_of, dims_of, unary_dims, binary_dims, ternary_dims}
 use Rattle.tensor_terms.specs.Shaped.{Shaped, legal_dims, with_one, with_two, with_three}
-use Rattle.tensor_terms.specs.Woven.{dims_at}
+use Rattle.tensor_terms.specs.Merged.{dims_at}
 use Rattle.tensor_terms.specs.Term.{Term, input, unary, binary, ternary, Unary, Binary}
 use Rattle.tensor_terms.specs.Term.{each, constant, movement, pad, reduce, pairwise, concat, contract, convolve}
 use Rattle.tensor_terms.specs.Term.{broadcast, slice, shuffle, reshape, chip, reverse, stride}

@@ -9,7 +9,7 @@ use Rattle.tensor_shape.specs.Wrap.{wrap}
 use Rattle.tensor_shape.specs.declared.bounds.Bounds.{Bounds}
 use Rattle.tensor_terms.specs.Reduction.{are_axes}
 use Rattle.tensor_terms.specs.Shaped.{Shaped, check, legal_dims, with_one}
-use Rattle.tensor_terms.specs.Woven.{dims_at, other_dims, woven, index_lists}
+use Rattle.tensor_terms.specs.Merged.{dims_at, other_dims, merged, index_lists}
 use Rattle.tensor_terms.specs.declared.fault.ExprFault.TheVariants.{ShapeMismatch, OutOfRange}
 use Rattle.tensor_terms.specs.declared.fault.ExprFault.TheVariants.{TooLarge}
 
@@ -48,6 +48,6 @@ abbrev pub contracted : List (ℕ × ℕ) → List ℕ → List ℕ → (List �
     → List ℕ → ℤ
 contracted pairs ds es a b is =
     wrap (fold ◌+ℤ◌ (pos 0) (map (λ js.
-    a (woven (firsts pairs) ds js (take (length (other_dims (firsts pairs) ds)) is))
-    *ℤ b (woven (seconds pairs) es js (drop (length (other_dims (firsts pairs) ds)) is)))
+    a (merged (firsts pairs) ds js (take (length (other_dims (firsts pairs) ds)) is))
+    *ℤ b (merged (seconds pairs) es js (drop (length (other_dims (firsts pairs) ds)) is)))
     (index_lists (dims_at (firsts pairs) ds))))

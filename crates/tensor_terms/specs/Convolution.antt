@@ -7,13 +7,13 @@ use Rattle.tensor_shape.specs.Wrap.{wrap}
 use Rattle.tensor_terms.specs.Contraction.{few_products}
 use Rattle.tensor_terms.specs.Reduction.{are_axes}
 use Rattle.tensor_terms.specs.Shaped.{Shaped, check, check_lengths}
-use Rattle.tensor_terms.specs.Woven.{index_lists}
+use Rattle.tensor_terms.specs.Merged.{index_lists}
 use Rattle.tensor_terms.specs.declared.fault.ExprFault.TheVariants.{OutOfRange}
 
 -- how many places a kernel has along each of its axes, where it stays within the dims
-abbrev pub slid_dims : List ℕ → List ℕ → List ℕ → List ℕ
-slid_dims (x ∷ xs) (k ∷ ks) ds = slice_set (slid_dims xs ks ds) x (slice_index ds x - k + 1)
-slid_dims axes ks ds = ds
+abbrev pub window_dims : List ℕ → List ℕ → List ℕ → List ℕ
+window_dims (x ∷ xs) (k ∷ ks) ds = slice_set (window_dims xs ks ds) x (slice_index ds x - k + 1)
+window_dims axes ks ds = ds
 
 -- whether each dimension of a kernel is from 1 to that of its axis
 abbrev pub fit_along : List ℕ → List ℕ → List ℕ → Bool
@@ -21,18 +21,18 @@ fit_along (x ∷ xs) (k ∷ ks) ds = (nat_le 1 k && nat_le k (slice_index ds x))
 fit_along axes ks ds = true
 
 -- an index list, with each number of another on top at its axis
-abbrev pub slid : List ℕ → List ℕ → List ℕ → List ℕ
-slid (x ∷ xs) (j ∷ js) is = slice_set (slid xs js is) x (slice_index is x + j)
-slid axes js is = is
+abbrev pub window_index : List ℕ → List ℕ → List ℕ → List ℕ
+window_index (x ∷ xs) (j ∷ js) is = slice_set (window_index xs js is) x (slice_index is x + j)
+window_index axes js is = is
 
 -- the result dims of a convolution, or the first of its own faults
 abbrev pub convolved_dims : List ℕ → List ℕ → List ℕ → Shaped
 convolved_dims axes ds ks =
     check (are_axes (length ds) axes) OutOfRange (check_lengths ks axes
-    (check (fit_along axes ks ds) OutOfRange (few_products (size_of ks) (slid_dims axes ks ds))))
+    (check (fit_along axes ks ds) OutOfRange (few_products (size_of ks) (window_dims axes ks ds))))
 
 -- the value of a convolution at an index list: the whole-number sum, modulo 2^64, of the products
 -- of the kernel's values and those of the operand that lie under them
 abbrev pub convolved : List ℕ → List ℕ → (List ℕ → ℤ) → (List ℕ → ℤ) → List ℕ → ℤ
 convolved axes ks a kernel is =
-    wrap (fold ◌+ℤ◌ (pos 0) (map (λ js. a (slid axes js is) *ℤ kernel js) (index_lists ks)))
+    wrap (fold ◌+ℤ◌ (pos 0) (map (λ js. a (window_index axes js is) *ℤ kernel js) (index_lists ks)))

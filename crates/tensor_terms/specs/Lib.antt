@@ -12,6 +12,6 @@ pub mod Tensors
 pub mod Term
 pub mod Tree
 pub mod Value
-pub mod Woven
+pub mod Merged
 pub mod Zipped
 pub mod private

@@ -4,7 +4,7 @@ use Rattle.std.specs.Prelude.{nat_lt, Bool, true, not, ◌&&◌, Ok}
 use Rattle.tensor_values.specs.Combining.{combination}
 use Rattle.tensor_terms.specs.Movement.{is_among}
 use Rattle.tensor_terms.specs.Shaped.{Shaped, check}
-use Rattle.tensor_terms.specs.Woven.{among, dims_at, other_dims, woven, index_lists}
+use Rattle.tensor_terms.specs.Merged.{among, dims_at, other_dims, merged, index_lists}
 use Rattle.tensor_terms.specs.declared.fault.ExprFault.TheVariants.{OutOfRange}
 use Rattle.tensor_values.specs.declared.reducer.Reducer.{Reducer}
 
@@ -21,5 +21,5 @@ reduced_dims axes ds = check (are_axes (length ds) axes) OutOfRange (Ok (other_d
 -- of the dropped axes, in order of their places
 abbrev pub reduced : Reducer → List ℕ → List ℕ → (List ℕ → ℤ) → List ℕ → ℤ
 reduced r axes ds a is =
-    combination r (map (λ js. a (woven (among axes (length ds)) ds js is))
+    combination r (map (λ js. a (merged (among axes (length ds)) ds js is))
     (index_lists (dims_at (among axes (length ds)) ds)))

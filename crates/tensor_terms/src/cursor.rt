@@ -14,10 +14,10 @@ use crate::dims::convolution_dims::convolved_dims;
 use crate::dims::result_dims::dims_within;
 use crate::expr::Expr;
 use crate::expr::node::{Binary, Node, Ternary, Unary};
-use crate::index::index_parts::{all_among, dims_at, other_dims, woven_place};
+use crate::index::index_parts::{all_among, dims_at, merged_place, other_dims};
+use crate::index::interleaved_index::{padded_place, turns_along};
 use crate::index::moved_index::moved_place;
-use crate::index::sliding::slid_place;
-use crate::index::spliced_index::{padded_place, turns_along};
+use crate::index::windows::window_place;
 use crate::tensor::inputs::Inputs;
 use tensor_shape::{Dims, PerAxis, WIDEST};
 use tensor_values::{BinaryScalar, Reducer, applied, combined, is_true};
@@ -113,7 +113,7 @@ fn reduced_at(reducer: Reducer, axes: &[u64], a: &Expr, inputs: &Inputs, place: 
     let count = dims_at(dropped.as_slice(), &dims).size();
     let mut value = reducer.unit();
     for inner in 0..count {
-        let read = woven_place(dropped.as_slice(), &dims, inner, place);
+        let read = merged_place(dropped.as_slice(), &dims, inner, place);
         value = reducer.combine(value, value_at(a, inputs, read));
     }
     value
@@ -136,8 +136,8 @@ fn contracted_at(pairs: &[(u64, u64)], a: &Expr, b: &Expr, inputs: &Inputs, plac
     let seconds = pairing.seconds.as_slice();
     let mut value = 0;
     for inner in 0..pairing.count {
-        let left = woven_place(firsts, &pairing.first, inner, place % pairing.outer);
-        let right = woven_place(seconds, &pairing.second, inner, place / pairing.outer);
+        let left = merged_place(firsts, &pairing.first, inner, place % pairing.outer);
+        let right = merged_place(seconds, &pairing.second, inner, place / pairing.outer);
         let x = value_at(a, inputs, left);
         let y = value_at(b, inputs, right);
         value = combined(BinaryScalar::Add, value, combined(BinaryScalar::Mul, x, y));
@@ -197,10 +197,10 @@ fn convolved_at(axes: &[u64], a: &Expr, b: &Expr, inputs: &Inputs, place: u64) -
 {
     let dims = known_dims(a, inputs);
     let kernel = known_dims(b, inputs);
-    let slid = convolved_dims(axes, &dims, &kernel).unwrap();
+    let window_index = convolved_dims(axes, &dims, &kernel).unwrap();
     let mut value = 0;
     for inner in 0..kernel.size() {
-        let read = slid_place(axes, &dims, &kernel, &slid, inner, place);
+        let read = window_place(axes, &dims, &kernel, &window_index, inner, place);
         let x = value_at(a, inputs, read);
         let y = value_at(b, inputs, inner);
         value = combined(BinaryScalar::Add, value, combined(BinaryScalar::Mul, x, y));

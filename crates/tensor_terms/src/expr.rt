@@ -81,7 +81,7 @@ pub enum Expr {
     Reshape(Box<Expr>, Vec<u64>),
     /// What stands at this offset along this axis, which is gone then.
     Chip(Box<Expr>, u64, u64),
-    /// The operand, turned round along the axes that are flagged.
+    /// The operand, reversed along the axes that are flagged.
     Reverse(Box<Expr>, Vec<bool>),
     /// What stands at the multiples of these steps, an axis each, from 0 on.
     Stride(Box<Expr>, Vec<u64>),

@@ -114,7 +114,7 @@ fn steps_of_nested_operations(rt: HostRuntime) -> Result<(), Fail> {
     let product = Binary::Pairwise(BinaryScalar::Mul).over(alloc, greatest, Expr::Input(2))?;
     has_steps(&rt, alloc, &product, 5)?;
     let negation = Unary::Each(UnaryScalar::Neg).over(alloc, Expr::Input(0))?;
-    let slid = Binary::Convolve(&[0]).over(alloc, negation, Expr::Input(2))?;
-    let framed = Unary::Pad(&[(1, 0), (0, 1)]).over(alloc, slid)?;
+    let window_index = Binary::Convolve(&[0]).over(alloc, negation, Expr::Input(2))?;
+    let framed = Unary::Pad(&[(1, 0), (0, 1)]).over(alloc, window_index)?;
     has_steps(&rt, alloc, &framed, 3)
 }

@@ -6,7 +6,7 @@ use Rattle.std.proofs.lemmas.Bool.{cases_Bool, cases_lt, ltb-true, ltb-false, lt
 use Rattle.std.proofs.lemmas.Nat.{div-mul-add, mod-mul-add}
 use Rattle.std.proofs.Math.Nat.{mod-lt, mul-le-mul_right}
 use Rattle.std.proofs.lemmas.Nat.{div-add-mod'}
-use Rattle.tensor_values.specs.Splicing.{is_of_first, firsts_before, seconds_before, spliced, HaveTurns, first_places, second_places}
+use Rattle.tensor_values.specs.Interleaving.{is_of_first, firsts_before, seconds_before, interleaved, HaveTurns, first_places, second_places}
 use Rattle.tensor_values.proofs.Runs.{map-shifted}
 
 -- a later place
@@ -37,11 +37,11 @@ module _ (v w : ℕ) where
   firsts_before-turn t r below = rw (div-mul-add t (v + w) r below, mod-mul-add t (v + w) r below) refl
 
   -- the value at a place
-  pub spliced-first : (f g : ℕ → ℤ) (p : ℕ) → is_of_first v w p ≡ true → f (firsts_before v w p) ≡ spliced v w f g p
-  spliced-first f g p first = rw first refl
+  pub interleaved-first : (f g : ℕ → ℤ) (p : ℕ) → is_of_first v w p ≡ true → f (firsts_before v w p) ≡ interleaved v w f g p
+  interleaved-first f g p first = rw first refl
 
-  pub spliced-second : (f g : ℕ → ℤ) (p : ℕ) → is_of_first v w p ≡ false → g (seconds_before v w p) ≡ spliced v w f g p
-  spliced-second f g p second = rw second refl
+  pub interleaved-second : (f g : ℕ → ℤ) (p : ℕ) → is_of_first v w p ≡ false → g (seconds_before v w p) ≡ interleaved v w f g p
+  interleaved-second f g p second = rw second refl
 
   -- each place before another one is one of the first or of the second
   pub firsts-seconds : (p : ℕ) → firsts_before v w p + seconds_before v w p ≡ p
@@ -112,11 +112,11 @@ module _ (v w : ℕ) where
     -- a run with places of one operand alone
     pub map-first_alone : (f g : ℕ → ℤ) (p q : ℕ) → p ≤ q → seconds_before v w q ≡ seconds_before v w p
         → map f (range_with_len (firsts_before v w p) (firsts_before v w q - firsts_before v w p))
-        ≡ map (spliced v w f g) (range_with_len p (q - p))
+        ≡ map (interleaved v w f g) (range_with_len p (q - p))
     map-first_alone f g p q le none =
         let long : firsts_before v w q - firsts_before v w p ≡ q - p = omega (arith, firsts-seconds p, firsts-seconds q, firsts-le p q le) in
         ap (λ n. map f (range_with_len (firsts_before v w p) n)) long
-        ∙ map-shifted f (spliced v w f g) (firsts_before v w p) p (q - p)
+        ∙ map-shifted f (interleaved v w f g) (firsts_before v w p) p (q - p)
         (λ k below.
         elim (cases_Bool (is_of_first v w (p + k))) [
           | inl first ↦
@@ -128,11 +128,11 @@ module _ (v w : ℕ) where
 
     pub map-second_alone : (f g : ℕ → ℤ) (p q : ℕ) → p ≤ q → firsts_before v w q ≡ firsts_before v w p
         → map g (range_with_len (seconds_before v w p) (seconds_before v w q - seconds_before v w p))
-        ≡ map (spliced v w f g) (range_with_len p (q - p))
+        ≡ map (interleaved v w f g) (range_with_len p (q - p))
     map-second_alone f g p q le none =
         let long : seconds_before v w q - seconds_before v w p ≡ q - p = omega (arith, firsts-seconds p, firsts-seconds q, seconds-le p q le) in
         ap (λ n. map g (range_with_len (seconds_before v w p) n)) long
-        ∙ map-shifted g (spliced v w f g) (seconds_before v w p) p (q - p)
+        ∙ map-shifted g (interleaved v w f g) (seconds_before v w p) p (q - p)
         (λ k below.
         elim (cases_Bool (is_of_first v w (p + k))) [
           | inl first ↦ absurd (omega (arith, first-below (p + k) q (omega arith) first, firsts-le p (p + k) (omega arith)))
@@ -229,9 +229,9 @@ module _ (v w : ℕ) where
         omega (arith, second-below some (get_or ps k 0) (m + n) (below k within) (not-true (is_of_first v w (get_or ps k 0)) other), seconds_before-all))
 
     -- values of operands that agree with others
-    pub spliced-other : (f g h k : ℕ → ℤ) → ((q : ℕ) → q < m → f q ≡ h q) → ((q : ℕ) → q < n → g q ≡ k q)
-        → (p : ℕ) → p < m + n → spliced v w f g p ≡ spliced v w h k p
-    spliced-other f g h k same_first same_second p below =
+    pub interleaved-other : (f g h k : ℕ → ℤ) → ((q : ℕ) → q < m → f q ≡ h q) → ((q : ℕ) → q < n → g q ≡ k q)
+        → (p : ℕ) → p < m + n → interleaved v w f g p ≡ interleaved v w h k p
+    interleaved-other f g h k same_first same_second p below =
         let some : 0 < v + w = omega (arith, turns.0.0) in
         elim (cases_Bool (is_of_first v w p)) [
           | inl first ↦

@@ -29,10 +29,10 @@ rest_above : (x : ℤ) (n : ℕ)
     × (negsuc n <ℤ (x -ℤ floor_over (neg_ℤ x) (suc n) *ℤ negsuc n))
 rest_above x n =
     let other = rest_below (neg_ℤ x) n in
-    let turned : floor_over (neg_ℤ x) (suc n) *ℤ negsuc n
+    let swapped : floor_over (neg_ℤ x) (suc n) *ℤ negsuc n
     ≡ neg_ℤ (floor_over (neg_ℤ x) (suc n) *ℤ pos (suc n)) =
     *ℤ-negsuc (floor_over (neg_ℤ x) (suc n)) n in
-    (omega (arith, ints, other.0, other.1, turned), omega (arith, ints, other.0, other.1, turned))
+    (omega (arith, ints, other.0, other.1, swapped), omega (arith, ints, other.0, other.1, swapped))
 
 pub divided : (x y : ℤ) → y ≢ pos 0 → AreDivided x y (floor_quotient x y) (remainder x y)
 divided x (pos zero) some = absurd (some refl)

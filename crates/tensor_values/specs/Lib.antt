@@ -1,6 +1,6 @@
 pub mod Combining
 pub mod Division
 pub mod Scalars
-pub mod Splicing
+pub mod Interleaving
 pub mod Values
 pub mod private

@@ -14,8 +14,8 @@ pub struct Turns {
 }
 
 impl Turns {
-    ghost use Rattle.tensor_values.specs.Splicing.{is_of_first, firsts_before, seconds_before};
-    ghost use Rattle.tensor_values.specs.Splicing.{end_of_turn};
+    ghost use Rattle.tensor_values.specs.Interleaving.{is_of_first, firsts_before, seconds_before};
+    ghost use Rattle.tensor_values.specs.Interleaving.{end_of_turn};
 
     /// Whether a place is one of the first operand.
     pub fn is_of_first(self, place: usize) -> bool

@@ -1,10 +1,10 @@
--- Places that can be added up before they are led along a view.
+-- Places that can be added up before they are mapped along a view.
 use Rattle.std.proofs.Common.{◌≡◌, ℕ, ◌+◌, ◌*◌, ◌/◌, ◌%◌, ◌<◌, ◌≤◌, List, [], ◌∷◌, length, slice_index, false}
 use Rattle.std.proofs.Common.{refl, ap, sym, subst, ◌∙◌, arith}
 use Rattle.std.proofs.Math.Arith.{mod-mul}
 use Rattle.std.proofs.Math.Nat.{mod-add-div, mod-le, div-div-eq-div-mul, mul_comm}
 use Rattle.std.proofs.Math.Nat.{mul-le-mul_left, lt_of_not-le}
-use Rattle.tensor_views.specs.View.{walk_size, reached, AreApart, AreAllApart}
+use Rattle.tensor_views.specs.View.{view_size, reached, AreApart, AreAllApart}
 use Rattle.tensor_views.specs.declared.axis.Axis.{Axis}
 use Rattle.tensor_values.proofs.Factors.{some_factor}
 use Rattle.tensor_views.proofs.Views.{index-of_row, row-of_row}
@@ -61,7 +61,7 @@ index-within before size a b some small =
     lt_of_not-le over
 
 -- an axis more
-apart-cons : (x : Axis) (rest : List Axis) (before a b : ℕ) → x.falls ≡ false
+apart-cons : (x : Axis) (rest : List Axis) (before a b : ℕ) → x.reversed ≡ false
     → a / before % x.size + b / before % x.size < x.size
     → AreApart rest (a / (before * x.size)) (b / (before * x.size))
     → AreApart (x ∷ rest) (a / before) (b / before)
@@ -80,7 +80,7 @@ none-of [] none = refl
 none-of (a ∷ axes) none = absurd (omega arith)
 
 module _ (x : Axis) (rest : List Axis) (before : ℕ) (starts offsets : List ℕ)
-    (rises : x.falls ≡ false) where
+    (rises : x.reversed ≡ false) where
   -- within which what is left of any two places stays
   pub apart-more : (i j : ℕ) → 0 < before → i + j < before * x.size
       → ((k : ℕ) → k < length starts → slice_index starts k % (before * x.size) ≤ i)
@@ -103,11 +103,11 @@ module _ (x : Axis) (rest : List Axis) (before : ℕ) (starts offsets : List ℕ
   -- the last one, where the sums are places
   pub apart-last : 0 < before → length rest ≡ 0
       → ((k q : ℕ) → k < length starts → q < length offsets
-      → slice_index starts k + slice_index offsets q < before * walk_size (x ∷ rest))
+      → slice_index starts k + slice_index offsets q < before * view_size (x ∷ rest))
       → AreAllApart (x ∷ rest) before starts offsets
   apart-last some last inside k q row value =
       let none : rest ≡ [] = none-of rest last in
-      let size : before * walk_size (x ∷ rest) ≡ before * x.size =
+      let size : before * view_size (x ∷ rest) ≡ before * x.size =
       rw none (ap (λ n. before * n) (omega arith)) in
       let a : ℕ = slice_index starts k in
       let b : ℕ = slice_index offsets q in
@@ -122,20 +122,20 @@ module _ (x : Axis) (rest : List Axis) (before : ℕ) (starts offsets : List ℕ
       )))
       (rw none tt)
 
--- a table led along a view
-pub record IsLed (start : ℕ) (axes : List Axis) (places led : List ℕ) : Type 0 where
-  pub len : length led ≡ length places
+-- a table mapped along a view
+pub record IsMapped (start : ℕ) (axes : List Axis) (places mapped : List ℕ) : Type 0 where
+  pub len : length mapped ≡ length places
   pub each : (k : ℕ) → k < length places
-      → slice_index led k ≡ reached start axes (slice_index places k)
+      → slice_index mapped k ≡ reached start axes (slice_index places k)
 
 -- so are the sums of the places of two tables
-pub led-sum : (start : ℕ) (axes : List Axis) (starts offsets first second : List ℕ)
+pub mapped-sum : (start : ℕ) (axes : List Axis) (starts offsets first second : List ℕ)
     → AreAllApart axes 1 starts offsets
-    → IsLed start axes starts first → IsLed 0 axes offsets second
+    → IsMapped start axes starts first → IsMapped 0 axes offsets second
     → (x q : ℕ) → x < length first → q < length second
     → slice_index first x + slice_index second q
     ≡ reached start axes (slice_index starts x + slice_index offsets q)
-led-sum start axes starts offsets first second apart is_first is_second x q row value =
+mapped-sum start axes starts offsets first second apart is_first is_second x q row value =
     let below : x < length starts = omega (arith, is_first.len) in
     let within : q < length offsets = omega (arith, is_second.len) in
     let alone : (n : ℕ) → n / 1 ≡ n = λ n. omega arith in

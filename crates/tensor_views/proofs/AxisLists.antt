@@ -8,14 +8,14 @@ use Rattle.std.specs.Int.{div_ceil}
 use Rattle.tensor_shape.specs.Index.{size_of, place_by, index_of}
 use Rattle.tensor_shape.specs.Legal.{bulk_of}
 use Rattle.tensor_shape.proofs.Sizes.{one-le-bulk_of}
-use Rattle.tensor_views.specs.Rising.{rising, no_axis}
-use Rattle.tensor_views.specs.Axes.{axes_from, are_along, by_steps, repeated_axes, cut_axes, turned_axes, strided_axes}
-use Rattle.tensor_views.specs.View.{reached, walk_size}
+use Rattle.tensor_views.specs.Forward.{forward, no_axis}
+use Rattle.tensor_views.specs.Axes.{axes_from, are_along, by_steps, repeated_axes, cut_axes, reversed_axes, strided_axes}
+use Rattle.tensor_views.specs.View.{reached, view_size}
 use Rattle.tensor_views.specs.declared.axis.Axis.{Axis}
 
 -- one axis of whole dims
 pub axes_from-at : (t : ℕ) (ds : List ℕ) (i : ℕ) → i < length ds
-    → axes_from t (drop i ds) ≡ rising (get_or ds i 0) t ∷ axes_from (t * get_or ds i 0) (drop (i + 1) ds)
+    → axes_from t (drop i ds) ≡ forward (get_or ds i 0) t ∷ axes_from (t * get_or ds i 0) (drop (i + 1) ds)
 axes_from-at t ds i within = rw (add-one, drop-cons ds i 0 within) refl
 
 -- one axis of a list of them
@@ -26,23 +26,23 @@ by_steps-at axes is i in_axes in_is = rw (add-one, drop-cons axes i no_axis in_a
 
 pub repeated_axes-at : (axes : List Axis) (cs : List ℕ) (i : ℕ) → i < length axes → i < length cs
     → repeated_axes (drop i axes) (drop i cs)
-    ≡ get_or axes i no_axis ∷ rising (get_or cs i 0) 0 ∷ repeated_axes (drop (i + 1) axes) (drop (i + 1) cs)
+    ≡ get_or axes i no_axis ∷ forward (get_or cs i 0) 0 ∷ repeated_axes (drop (i + 1) axes) (drop (i + 1) cs)
 repeated_axes-at axes cs i in_axes in_cs = rw (add-one, drop-cons axes i no_axis in_axes, drop-cons cs i 0 in_cs) refl
 
 pub cut_axes-at : (axes : List Axis) (es : List ℕ) (i : ℕ) → i < length axes → i < length es
     → cut_axes (drop i axes) (drop i es)
-    ≡ rising (get_or es i 0) (get_or axes i no_axis).step ∷ cut_axes (drop (i + 1) axes) (drop (i + 1) es)
+    ≡ forward (get_or es i 0) (get_or axes i no_axis).step ∷ cut_axes (drop (i + 1) axes) (drop (i + 1) es)
 cut_axes-at axes es i in_axes in_es = rw (add-one, drop-cons axes i no_axis in_axes, drop-cons es i 0 in_es) refl
 
-pub turned_axes-at : (axes : List Axis) (fs : List Bool) (i : ℕ) → i < length axes → i < length fs
-    → turned_axes (drop i axes) (drop i fs)
-    ≡ record { size = (get_or axes i no_axis).size; step = (get_or axes i no_axis).step; falls = get_or fs i false }
-    ∷ turned_axes (drop (i + 1) axes) (drop (i + 1) fs)
-turned_axes-at axes fs i in_axes in_fs = rw (add-one, drop-cons axes i no_axis in_axes, drop-cons fs i false in_fs) refl
+pub reversed_axes-at : (axes : List Axis) (fs : List Bool) (i : ℕ) → i < length axes → i < length fs
+    → reversed_axes (drop i axes) (drop i fs)
+    ≡ record { size = (get_or axes i no_axis).size; step = (get_or axes i no_axis).step; reversed = get_or fs i false }
+    ∷ reversed_axes (drop (i + 1) axes) (drop (i + 1) fs)
+reversed_axes-at axes fs i in_axes in_fs = rw (add-one, drop-cons axes i no_axis in_axes, drop-cons fs i false in_fs) refl
 
 pub strided_axes-at : (axes : List Axis) (ss : List ℕ) (i : ℕ) → i < length axes → i < length ss
     → strided_axes (drop i axes) (drop i ss)
-    ≡ rising (div_ceil (get_or axes i no_axis).size (get_or ss i 0))
+    ≡ forward (div_ceil (get_or axes i no_axis).size (get_or ss i 0))
     ((get_or axes i no_axis).step * min (get_or ss i 0) (get_or axes i no_axis).size)
     ∷ strided_axes (drop (i + 1) axes) (drop (i + 1) ss)
 strided_axes-at axes ss i in_axes in_ss = rw (add-one, drop-cons axes i no_axis in_axes, drop-cons ss i 0 in_ss) refl
@@ -80,14 +80,14 @@ by_steps-from t (d ∷ ds) (i ∷ is) = ap (λ n. i * t + n) (by_steps-from (t *
 -- an axis that goes along a dimension
 pub record IsAlong (a : Axis) (d : ℕ) : Type 0 where
   pub size : a.size ≡ d
-  pub rises : a.falls ≡ false
+  pub rises : a.reversed ≡ false
 
 pub along-first : (a : Axis) (axes : List Axis) (d : ℕ) (ds : List ℕ) → are_along (a ∷ axes) (d ∷ ds) ≡ true
     → IsAlong a d × (are_along axes ds ≡ true)
 along-first a axes d ds along =
-    let parts = and_parts (nat_eq a.size d && not a.falls) (are_along axes ds) along in
-    let first = and_parts (nat_eq a.size d) (not a.falls) parts.0 in
-    (record { size = eqb-true a.size d first.0; rises = not-true a.falls first.1 }, parts.1)
+    let parts = and_parts (nat_eq a.size d && not a.reversed) (are_along axes ds) along in
+    let first = and_parts (nat_eq a.size d) (not a.reversed) parts.0 in
+    (record { size = eqb-true a.size d first.0; rises = not-true a.reversed first.1 }, parts.1)
 
 pub length-along : (axes : List Axis) (ds : List ℕ) → are_along axes ds ≡ true → length axes ≡ length ds
 length-along [] [] along = refl
@@ -104,18 +104,18 @@ along-at (a ∷ axes) (d ∷ ds) zero along within = (along-first a axes d ds al
 along-at (a ∷ axes) (d ∷ ds) (suc k) along within = along-at axes ds k (along-first a axes d ds along).1 (omega arith)
 
 -- a view along dims has their places, and reaches each by the steps of its index list
-pub walk_size-along : (axes : List Axis) (ds : List ℕ) → are_along axes ds ≡ true → walk_size axes ≡ size_of ds
-walk_size-along [] [] along = refl
-walk_size-along [] (d ∷ ds) along = (cc)
-walk_size-along (a ∷ axes) [] along = (cc)
-walk_size-along (a ∷ axes) (d ∷ ds) along =
+pub view_size-along : (axes : List Axis) (ds : List ℕ) → are_along axes ds ≡ true → view_size axes ≡ size_of ds
+view_size-along [] [] along = refl
+view_size-along [] (d ∷ ds) along = (cc)
+view_size-along (a ∷ axes) [] along = (cc)
+view_size-along (a ∷ axes) (d ∷ ds) along =
     let parts = along-first a axes d ds along in
-    rw (parts.0.size, walk_size-along axes ds parts.1) refl
+    rw (parts.0.size, view_size-along axes ds parts.1) refl
 
 -- the steps of an index along an axis that rises
-pub reached-rising : (a : Axis) (axes : List Axis) (d p : ℕ) → IsAlong a d
+pub reached-forward : (a : Axis) (axes : List Axis) (d p : ℕ) → IsAlong a d
     → reached 0 (a ∷ axes) p ≡ reached 0 axes (p / d) + p % d * a.step
-reached-rising a axes d p along = rw (along.size, along.rises) refl
+reached-forward a axes d p along = rw (along.size, along.rises) refl
 
 pub reached-along : (axes : List Axis) (ds : List ℕ) (p : ℕ) → are_along axes ds ≡ true
     → reached 0 axes p ≡ by_steps axes (index_of ds p)
@@ -124,4 +124,4 @@ reached-along [] (d ∷ ds) p along = (cc)
 reached-along (a ∷ axes) [] p along = (cc)
 reached-along (a ∷ axes) (d ∷ ds) p along =
     let parts = along-first a axes d ds along in
-    omega (arith, reached-rising a axes d p parts.0, reached-along axes ds (p / d) parts.1)
+    omega (arith, reached-forward a axes d p parts.0, reached-along axes ds (p / d) parts.1)

@@ -1,14 +1,14 @@
 pub mod Apart
 pub mod AxisLists
-pub mod Joints
+pub mod Compositions
 pub mod Mapped
 pub mod Moves
 pub mod OffsetRanges
 pub mod OffsetTables
-pub mod Parting
+pub mod SplitAxes
 pub mod Soundness
 pub mod Stepping
 pub mod Steps
 pub mod ViewRows
 pub mod Views
-pub mod WovenPlaces
+pub mod MergedPlaces

@@ -9,14 +9,14 @@ use Rattle.std.specs.Int.{div_ceil}
 use Rattle.tensor_shape.specs.Legal.{widest}
 use Rattle.tensor_shape.specs.Index.{size_of, IsIndexOf, index_of, place}
 use Rattle.tensor_shape.proofs.Places.{place-index_of, IsIndexOf-index_of, div-below}
-use Rattle.tensor_views.specs.Rising.{no_axis}
-use Rattle.tensor_views.specs.Axes.{are_along, by_steps, HasRank, repeated_axes, cut_axes, turned_axes, shuffled_axes, strided_axes, moved_axes, moved_start}
+use Rattle.tensor_views.specs.Forward.{no_axis}
+use Rattle.tensor_views.specs.Axes.{are_along, by_steps, HasRank, repeated_axes, cut_axes, reversed_axes, shuffled_axes, strided_axes, moved_axes, moved_start}
 use Rattle.tensor_terms.specs.Movement.{wrapped, offset_by, scattered, mirrored, scaled, moved, moved_dims, repeated_dims, shuffled_dims, strided_dims, none_is_zero, is_among}
 use Rattle.tensor_terms.specs.Shaped.{Shaped}
 use Rattle.tensor_terms.specs.Term.{Movement, broadcast, slice, shuffle, reshape, chip, reverse, stride}
-use Rattle.tensor_views.specs.View.{reached, walk_size}
+use Rattle.tensor_views.specs.View.{reached, view_size}
 use Rattle.tensor_views.specs.declared.axis.Axis.{Axis}
-use Rattle.tensor_views.proofs.AxisLists.{along-first, along-at, length-along, walk_size-along, reached-along, reached-rising}
+use Rattle.tensor_views.proofs.AxisLists.{along-first, along-at, length-along, view_size-along, reached-along, reached-forward}
 use Rattle.tensor_terms.proofs.Known.{broadcast-known, slice-known, shuffle-known, reshape-known, chip-known, reverse-known, stride-known, get_or-none_is_zero}
 use Rattle.tensor_terms.proofs.Moved.{length-scattered, IsIndexOf-moved, mul-below-div_ceil}
 use Rattle.tensor_terms.proofs.Permutations.{are_below, are_distinct, are_below-permutation, are_distinct-permutation, get_or-permutation}
@@ -56,27 +56,27 @@ module _ (axes : List Axis) (ds : List ℕ) (along : are_along axes ds ≡ true)
       scattered-other s ss (index_of (shuffled_dims ds ss) q) (zeros ds) (not-true (is_among s ss) alone.0) ∙ get_or-zeros ds s in
       let more = by_steps-set axes js s (p % get_or ds s 0) (omega arith) (omega arith) none in
       let rest = reached-shuffle ss q below.1 alone.1 in
-      reached-rising (get_or axes s no_axis) (shuffled_axes axes ss) (get_or ds s 0) p at
+      reached-forward (get_or axes s no_axis) (shuffled_axes axes ss) (get_or ds s 0) p at
       ∙ omega (arith, more, rest)
 
-  walk_size-shuffle : (order : List ℕ) → are_below order (length ds) ≡ true
-      → walk_size (shuffled_axes axes order) ≡ size_of (shuffled_dims ds order)
-  walk_size-shuffle [] within = refl
-  walk_size-shuffle (s ∷ ss) within =
+  view_size-shuffle : (order : List ℕ) → are_below order (length ds) ≡ true
+      → view_size (shuffled_axes axes order) ≡ size_of (shuffled_dims ds order)
+  view_size-shuffle [] within = refl
+  view_size-shuffle (s ∷ ss) within =
       let below = and_parts (nat_lt s (length ds)) (are_below ss (length ds)) within in
       let at = along-at axes ds s along (ltb-true s (length ds) below.0) in
-      rw (at.size, walk_size-shuffle ss below.1) refl
+      rw (at.size, view_size-shuffle ss below.1) refl
 
 -- a broadcast's view
-walk_size-broadcast : (axes : List Axis) (ds cs : List ℕ) → are_along axes ds ≡ true
-    → walk_size (repeated_axes axes cs) ≡ size_of (repeated_dims ds cs)
-walk_size-broadcast [] [] cs along = refl
-walk_size-broadcast [] (d ∷ ds) cs along = (cc)
-walk_size-broadcast (a ∷ axes) [] cs along = (cc)
-walk_size-broadcast (a ∷ axes) (d ∷ ds) [] along = refl
-walk_size-broadcast (a ∷ axes) (d ∷ ds) (c ∷ cs) along =
+view_size-broadcast : (axes : List Axis) (ds cs : List ℕ) → are_along axes ds ≡ true
+    → view_size (repeated_axes axes cs) ≡ size_of (repeated_dims ds cs)
+view_size-broadcast [] [] cs along = refl
+view_size-broadcast [] (d ∷ ds) cs along = (cc)
+view_size-broadcast (a ∷ axes) [] cs along = (cc)
+view_size-broadcast (a ∷ axes) (d ∷ ds) [] along = refl
+view_size-broadcast (a ∷ axes) (d ∷ ds) (c ∷ cs) along =
     let parts = along-first a axes d ds along in
-    rw (parts.0.size, walk_size-broadcast axes ds cs parts.1) (grind arith)
+    rw (parts.0.size, view_size-broadcast axes ds cs parts.1) (grind arith)
 
 reached-broadcast : (axes : List Axis) (ds cs : List ℕ) (p : ℕ) → are_along axes ds ≡ true → length cs ≡ length ds
     → reached 0 (repeated_axes axes cs) p ≡ by_steps axes (wrapped ds (index_of (repeated_dims ds cs) p))
@@ -92,11 +92,11 @@ reached-broadcast (a ∷ axes) (d ∷ ds) (c ∷ cs) p along same =
     rw (parts.0.size, parts.0.rises, remainder, ← quotient) (omega (arith, rest))
 
 -- a slice's view
-walk_size-slice : (axes : List Axis) (es : List ℕ) → length es ≡ length axes → walk_size (cut_axes axes es) ≡ size_of es
-walk_size-slice [] [] same = refl
-walk_size-slice [] (e ∷ es) same = absurd (omega arith)
-walk_size-slice (a ∷ axes) [] same = absurd (omega arith)
-walk_size-slice (a ∷ axes) (e ∷ es) same = ap (λ n. e * n) (walk_size-slice axes es (omega arith))
+view_size-slice : (axes : List Axis) (es : List ℕ) → length es ≡ length axes → view_size (cut_axes axes es) ≡ size_of es
+view_size-slice [] [] same = refl
+view_size-slice [] (e ∷ es) same = absurd (omega arith)
+view_size-slice (a ∷ axes) [] same = absurd (omega arith)
+view_size-slice (a ∷ axes) (e ∷ es) same = ap (λ n. e * n) (view_size-slice axes es (omega arith))
 
 mul-offset : (i o s : ℕ) → (i + o) * s ≡ i * s + o * s
 mul-offset i o s = grind arith
@@ -111,16 +111,16 @@ reached-slice (a ∷ axes) (o ∷ os) (e ∷ es) p long_os long_es =
     omega (arith, rest, mul-offset (p % e) o a.step)
 
 -- a chip's view
-walk_size-chip : (axes : List Axis) (ds : List ℕ) (k : ℕ) → are_along axes ds ≡ true
-    → walk_size (remove axes k) ≡ size_of (remove ds k)
-walk_size-chip [] [] zero along = refl
-walk_size-chip [] [] (suc k) along = refl
-walk_size-chip [] (d ∷ ds) k along = (cc)
-walk_size-chip (a ∷ axes) [] k along = (cc)
-walk_size-chip (a ∷ axes) (d ∷ ds) zero along = walk_size-along axes ds (along-first a axes d ds along).1
-walk_size-chip (a ∷ axes) (d ∷ ds) (suc k) along =
+view_size-chip : (axes : List Axis) (ds : List ℕ) (k : ℕ) → are_along axes ds ≡ true
+    → view_size (remove axes k) ≡ size_of (remove ds k)
+view_size-chip [] [] zero along = refl
+view_size-chip [] [] (suc k) along = refl
+view_size-chip [] (d ∷ ds) k along = (cc)
+view_size-chip (a ∷ axes) [] k along = (cc)
+view_size-chip (a ∷ axes) (d ∷ ds) zero along = view_size-along axes ds (along-first a axes d ds along).1
+view_size-chip (a ∷ axes) (d ∷ ds) (suc k) along =
     let parts = along-first a axes d ds along in
-    rw (parts.0.size, walk_size-chip axes ds k parts.1) refl
+    rw (parts.0.size, view_size-chip axes ds k parts.1) refl
 
 reached-chip : (axes : List Axis) (ds : List ℕ) (o k p : ℕ) → are_along axes ds ≡ true → k < length ds
     → o * (get_or axes k no_axis).step + reached 0 (remove axes k) p ≡ by_steps axes (insert (index_of (remove ds k) p) k o)
@@ -132,21 +132,21 @@ reached-chip (a ∷ axes) (d ∷ ds) o zero p along within =
 reached-chip (a ∷ axes) (d ∷ ds) o (suc k) p along within =
     let parts = along-first a axes d ds along in
     let rest = reached-chip axes ds o k (p / d) parts.1 (omega arith) in
-    omega (arith, rest, reached-rising a (remove axes k) d p parts.0)
+    omega (arith, rest, reached-forward a (remove axes k) d p parts.0)
 
 -- a reverse's view
-walk_size-reverse : (axes : List Axis) (ds : List ℕ) (fs : List Bool) → are_along axes ds ≡ true → length fs ≡ length ds
-    → walk_size (turned_axes axes fs) ≡ size_of ds
-walk_size-reverse [] [] fs along same = refl
-walk_size-reverse [] (d ∷ ds) fs along same = (cc)
-walk_size-reverse (a ∷ axes) [] fs along same = (cc)
-walk_size-reverse (a ∷ axes) (d ∷ ds) [] along same = absurd (omega arith)
-walk_size-reverse (a ∷ axes) (d ∷ ds) (f ∷ fs) along same =
+view_size-reverse : (axes : List Axis) (ds : List ℕ) (fs : List Bool) → are_along axes ds ≡ true → length fs ≡ length ds
+    → view_size (reversed_axes axes fs) ≡ size_of ds
+view_size-reverse [] [] fs along same = refl
+view_size-reverse [] (d ∷ ds) fs along same = (cc)
+view_size-reverse (a ∷ axes) [] fs along same = (cc)
+view_size-reverse (a ∷ axes) (d ∷ ds) [] along same = absurd (omega arith)
+view_size-reverse (a ∷ axes) (d ∷ ds) (f ∷ fs) along same =
     let parts = along-first a axes d ds along in
-    rw (parts.0.size, walk_size-reverse axes ds fs parts.1 (omega arith)) refl
+    rw (parts.0.size, view_size-reverse axes ds fs parts.1 (omega arith)) refl
 
 reached-reverse : (axes : List Axis) (ds : List ℕ) (fs : List Bool) (p : ℕ) → are_along axes ds ≡ true → length fs ≡ length ds
-    → reached 0 (turned_axes axes fs) p ≡ by_steps axes (mirrored fs ds (index_of ds p))
+    → reached 0 (reversed_axes axes fs) p ≡ by_steps axes (mirrored fs ds (index_of ds p))
 reached-reverse [] [] [] p along same = refl
 reached-reverse [] [] (f ∷ fs) p along same = refl
 reached-reverse [] (d ∷ ds) fs p along same = (cc)
@@ -158,15 +158,15 @@ reached-reverse (a ∷ axes) (d ∷ ds) (f ∷ fs) p along same =
     rw (parts.0.size) (omega (arith, rest))
 
 -- a stride's view
-walk_size-stride : (axes : List Axis) (ds ss : List ℕ) → are_along axes ds ≡ true → length ss ≡ length ds
-    → walk_size (strided_axes axes ss) ≡ size_of (strided_dims ds ss)
-walk_size-stride [] [] ss along same = refl
-walk_size-stride [] (d ∷ ds) ss along same = (cc)
-walk_size-stride (a ∷ axes) [] ss along same = (cc)
-walk_size-stride (a ∷ axes) (d ∷ ds) [] along same = absurd (omega arith)
-walk_size-stride (a ∷ axes) (d ∷ ds) (s ∷ ss) along same =
+view_size-stride : (axes : List Axis) (ds ss : List ℕ) → are_along axes ds ≡ true → length ss ≡ length ds
+    → view_size (strided_axes axes ss) ≡ size_of (strided_dims ds ss)
+view_size-stride [] [] ss along same = refl
+view_size-stride [] (d ∷ ds) ss along same = (cc)
+view_size-stride (a ∷ axes) [] ss along same = (cc)
+view_size-stride (a ∷ axes) (d ∷ ds) [] along same = absurd (omega arith)
+view_size-stride (a ∷ axes) (d ∷ ds) (s ∷ ss) along same =
     let parts = along-first a axes d ds along in
-    rw (parts.0.size, walk_size-stride axes ds ss parts.1 (omega arith)) refl
+    rw (parts.0.size, view_size-stride axes ds ss parts.1 (omega arith)) refl
 
 -- a step past the axis is never taken
 step-past : (d s i : ℕ) → d < s → i * s < d → i ≡ 0
@@ -211,31 +211,31 @@ one_result r known rs first second = (cc)
 
 -- any movement's view
 module _ (axes : List Axis) (ds rs : List ℕ) (along : are_along axes ds ≡ true) where
-  pub walk_size-moved : (m : Movement) → moved_dims widest m ds ≡ Ok rs → walk_size (moved_axes m axes) ≡ size_of rs
-  walk_size-moved (broadcast counts) h =
+  pub view_size-moved : (m : Movement) → moved_dims widest m ds ≡ Ok rs → view_size (moved_axes m axes) ≡ size_of rs
+  view_size-moved (broadcast counts) h =
       let known = broadcast-known counts ds (has_result (moved_dims widest (broadcast counts) ds) rs h) in
-      walk_size-broadcast axes ds counts along ∙ ap size_of (one_result (moved_dims widest (broadcast counts) ds) _ rs known.dims h)
-  walk_size-moved (slice offsets extents) h =
+      view_size-broadcast axes ds counts along ∙ ap size_of (one_result (moved_dims widest (broadcast counts) ds) _ rs known.dims h)
+  view_size-moved (slice offsets extents) h =
       let known = slice-known offsets extents ds (has_result (moved_dims widest (slice offsets extents) ds) rs h) in
       let long = length-along axes ds along in
-      walk_size-slice axes extents (known.extents_long ∙ sym long)
+      view_size-slice axes extents (known.extents_long ∙ sym long)
       ∙ ap size_of (one_result (moved_dims widest (slice offsets extents) ds) _ rs known.dims h)
-  walk_size-moved (shuffle order) h =
+  view_size-moved (shuffle order) h =
       let known = shuffle-known order ds (has_result (moved_dims widest (shuffle order) ds) rs h) in
-      walk_size-shuffle axes ds along order (are_below-permutation (length ds) order known.long known.all)
+      view_size-shuffle axes ds along order (are_below-permutation (length ds) order known.long known.all)
       ∙ ap size_of (one_result (moved_dims widest (shuffle order) ds) _ rs known.dims h)
-  walk_size-moved (reshape sizes) h =
+  view_size-moved (reshape sizes) h =
       let known = reshape-known sizes ds (has_result (moved_dims widest (reshape sizes) ds) rs h) in
-      walk_size-along axes ds along ∙ sym known.same ∙ ap size_of (one_result (moved_dims widest (reshape sizes) ds) _ rs known.dims h)
-  walk_size-moved (chip offset axis) h =
+      view_size-along axes ds along ∙ sym known.same ∙ ap size_of (one_result (moved_dims widest (reshape sizes) ds) _ rs known.dims h)
+  view_size-moved (chip offset axis) h =
       let known = chip-known offset axis ds (has_result (moved_dims widest (chip offset axis) ds) rs h) in
-      walk_size-chip axes ds axis along ∙ ap size_of (one_result (moved_dims widest (chip offset axis) ds) _ rs known.dims h)
-  walk_size-moved (reverse flags) h =
+      view_size-chip axes ds axis along ∙ ap size_of (one_result (moved_dims widest (chip offset axis) ds) _ rs known.dims h)
+  view_size-moved (reverse flags) h =
       let known = reverse-known flags ds (has_result (moved_dims widest (reverse flags) ds) rs h) in
-      walk_size-reverse axes ds flags along known.long ∙ ap size_of (one_result (moved_dims widest (reverse flags) ds) _ rs known.dims h)
-  walk_size-moved (stride steps) h =
+      view_size-reverse axes ds flags along known.long ∙ ap size_of (one_result (moved_dims widest (reverse flags) ds) _ rs known.dims h)
+  view_size-moved (stride steps) h =
       let known = stride-known steps ds (has_result (moved_dims widest (stride steps) ds) rs h) in
-      walk_size-stride axes ds steps along known.long ∙ ap size_of (one_result (moved_dims widest (stride steps) ds) _ rs known.dims h)
+      view_size-stride axes ds steps along known.long ∙ ap size_of (one_result (moved_dims widest (stride steps) ds) _ rs known.dims h)
 
   pub reached-moved : (m : Movement) (start p : ℕ) → moved_dims widest m ds ≡ Ok rs → p < size_of rs
       → reached (moved_start m start axes) (moved_axes m axes) p ≡ start + by_steps axes (moved m ds (index_of rs p))
@@ -249,9 +249,9 @@ module _ (axes : List Axis) (ds rs : List ℕ) (along : are_along axes ds ≡ tr
       let long = length-along axes ds along in
       let whole = reached-slice axes offsets extents p (known.offsets_long ∙ sym long) (known.extents_long ∙ sym long) in
       let from = reached-start (start + by_steps axes offsets) (cut_axes axes extents) p in
-      let joined : reached (start + by_steps axes offsets) (cut_axes axes extents) p
+      let composed : reached (start + by_steps axes offsets) (cut_axes axes extents) p
       ≡ start + by_steps axes (offset_by offsets (index_of extents p)) = omega (arith, whole, from) in
-      joined ∙ ap (λ r. start + by_steps axes (offset_by offsets (index_of r p))) (one_result (moved_dims widest (slice offsets extents) ds) _ rs known.dims h)
+      composed ∙ ap (λ r. start + by_steps axes (offset_by offsets (index_of r p))) (one_result (moved_dims widest (slice offsets extents) ds) _ rs known.dims h)
   reached-moved (shuffle order) start p h below =
       let known = shuffle-known order ds (has_result (moved_dims widest (shuffle order) ds) rs h) in
       reached-start start (shuffled_axes axes order) p
@@ -271,12 +271,12 @@ module _ (axes : List Axis) (ds rs : List ℕ) (along : are_along axes ds ≡ tr
       let known = chip-known offset axis ds (has_result (moved_dims widest (chip offset axis) ds) rs h) in
       let whole = reached-chip axes ds offset axis p along known.in_rank in
       let from = reached-start (start + offset * (get_or axes axis no_axis).step) (remove axes axis) p in
-      let joined : reached (start + offset * (get_or axes axis no_axis).step) (remove axes axis) p
+      let composed : reached (start + offset * (get_or axes axis no_axis).step) (remove axes axis) p
       ≡ start + by_steps axes (insert (index_of (remove ds axis) p) axis offset) = omega (arith, whole, from) in
-      joined ∙ ap (λ r. start + by_steps axes (insert (index_of r p) axis offset)) (one_result (moved_dims widest (chip offset axis) ds) _ rs known.dims h)
+      composed ∙ ap (λ r. start + by_steps axes (insert (index_of r p) axis offset)) (one_result (moved_dims widest (chip offset axis) ds) _ rs known.dims h)
   reached-moved (reverse flags) start p h below =
       let known = reverse-known flags ds (has_result (moved_dims widest (reverse flags) ds) rs h) in
-      reached-start start (turned_axes axes flags) p
+      reached-start start (reversed_axes axes flags) p
       ∙ ap (λ n. start + n) (reached-reverse axes ds flags p along known.long)
       ∙ ap (λ r. start + by_steps axes (mirrored flags ds (index_of r p))) (one_result (moved_dims widest (reverse flags) ds) _ rs known.dims h)
   reached-moved (stride steps) start p h below =

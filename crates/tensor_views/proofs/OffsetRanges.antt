@@ -10,16 +10,16 @@ use Rattle.std.proofs.Math.Nat.{add-mul-mod_self_left}
 use Rattle.std.proofs.Math.Seq.{take-suc}
 use Rattle.tensor_shape.specs.Index.{size_of, place, place_by, index_of}
 use Rattle.tensor_shape.proofs.Places.{place-cons, place_by-scaled}
-use Rattle.tensor_views.specs.Rising.{rising, no_axis}
+use Rattle.tensor_views.specs.Forward.{forward, no_axis}
 use Rattle.tensor_views.specs.Axes.{axes_from, by_steps, shuffled_axes}
 use Rattle.tensor_views.specs.Offsets.{offset_of}
 use Rattle.tensor_terms.specs.Reduction.{are_axes}
-use Rattle.tensor_terms.specs.Woven.{dims_at}
+use Rattle.tensor_terms.specs.Merged.{dims_at}
 use Rattle.tensor_views.proofs.AxisLists.{by_steps-from}
 use Rattle.tensor_terms.proofs.OtherAxes.{are_axes-first}
 use Rattle.tensor_views.proofs.Steps.{get_or-axes_from}
 use Rattle.tensor_values.proofs.Factors.{some_size}
-use Rattle.tensor_views.proofs.WovenPlaces.{place-scattered, by_steps-append}
+use Rattle.tensor_views.proofs.MergedPlaces.{place-scattered, by_steps-append}
 use Rattle.tensor_terms.proofs.Splits.{are_axes-range, size_of-append, index_of-append, length-index_of}
 
 -- the first of axes after axes
@@ -51,8 +51,8 @@ offset_of-append xs ys ds p once first =
     let two = place-scattered ds ys is (are_axes-before (length ds) xs ys once) in
     omega (arith, whole, steps, one, two)
 
-turned : (m n : ℕ) → m * n ≡ n * m
-turned m n = grind arith
+swapped : (m n : ℕ) → m * n ≡ n * m
+swapped m n = grind arith
 
 -- a remainder by a product: that by the first factor, and that of the quotient by the second
 mod-mul : (p d n : ℕ) → 0 < d → 0 < n → p % d + d * (p / d % n) ≡ p % (d * n)
@@ -61,7 +61,7 @@ mod-mul p d n some_d some_n =
     let t : ℕ = p / d / n in
     let small : r * d + p % d < d * n =
     mul-add-lt r d (p % d) n (mod-lt (p / d) some_n) (mod-lt p some_d) in
-    let rest : p % d + d * r < d * n = omega (arith, turned r d) in
+    let rest : p % d + d * r < d * n = omega (arith, swapped r d) in
     let quotient : d * (r + n * t) ≡ d * (p / d) = ap (λ q. d * q) (mod-add-div (p / d) n) in
     let at : p ≡ p % d + d * r + d * n * t =
     omega (arith, mod-add-div p d, quotient, regroup r t) in
@@ -81,7 +81,7 @@ place-index_of-mod [] p some = mod-one p
 place-index_of-mod (d ∷ ds) p some =
     let some_d : 0 < d = some_size d (size_of ds) 0 some in
     let some_n : 0 < size_of ds =
-    some_size (size_of ds) d 0 (omega (arith, turned d (size_of ds))) in
+    some_size (size_of ds) d 0 (omega (arith, swapped d (size_of ds))) in
     place-cons d (p % d) ds (index_of ds (p / d))
     ∙ ap (λ q. p % d + d * q) (place-index_of-mod ds (p / d) some_n)
     ∙ mod-mul p d (size_of ds) some_d some_n
@@ -92,8 +92,8 @@ shuffled_axes-range : (ds : List ℕ) (a n : ℕ) → a + n ≤ length ds
     (dims_at (range_with_len a n) ds)
 shuffled_axes-range ds a zero within = refl
 shuffled_axes-range ds a (suc n) within =
-    let here : get_or (axes_from 1 ds) a no_axis ≡ rising (get_or ds a 0) (size_of (take a ds)) =
-    get_or-axes_from 1 ds a (omega arith) ∙ ap (rising (get_or ds a 0)) (omega arith) in
+    let here : get_or (axes_from 1 ds) a no_axis ≡ forward (get_or ds a 0) (size_of (take a ds)) =
+    get_or-axes_from 1 ds a (omega arith) ∙ ap (forward (get_or ds a 0)) (omega arith) in
     let more : size_of (take (a + 1) ds) ≡ size_of (take a ds) * get_or ds a 0 =
     ap size_of (rw add-one (take-suc ds a 0 (omega arith)))
     ∙ size_of-append (take a ds) (get_or ds a 0 ∷ []) ∙ omega arith in
@@ -117,4 +117,4 @@ offset_of-range ds a n p within some =
     ∙ ap (λ s. place_by s es (index_of es p)) (omega arith)
     ∙ place_by-scaled t 1 es (index_of es p)
     ∙ ap (λ q. t * q) (place-index_of-mod es p some)
-    ∙ turned t (p % size_of es)
+    ∙ swapped t (p % size_of es)

@@ -7,32 +7,32 @@ use Rattle.tensor_shape.proofs.Places.{IsIndexOf-index_of, place-below-size_of}
 use Rattle.tensor_terms.specs.Movement.{is_among}
 use Rattle.tensor_views.specs.Offsets.{offset_of, HasOffsets, HasTables}
 use Rattle.tensor_terms.specs.Reduction.{are_axes}
-use Rattle.tensor_terms.specs.Woven.{dims_at, other_dims, others, woven}
-use Rattle.tensor_terms.proofs.Weaving.{IsIndexOf-woven}
-use Rattle.tensor_views.proofs.WovenPlaces.{place-woven}
+use Rattle.tensor_terms.specs.Merged.{dims_at, other_dims, others, merged}
+use Rattle.tensor_terms.proofs.Weaving.{IsIndexOf-merged}
+use Rattle.tensor_views.proofs.MergedPlaces.{place-merged}
 
 module _ (ds axes : List ℕ) (legal : are_axes (length ds) axes ≡ true) (x q : ℕ)
     (row : x < size_of (other_dims axes ds)) (value : q < size_of (dims_at axes ds)) where
   -- a value's place is that of its row and its offset, added up
-  pub offset_of-woven : offset_of (others axes (length ds)) ds x + offset_of axes ds q
-      ≡ place ds (woven axes ds (index_of (dims_at axes ds) q) (index_of (other_dims axes ds) x))
-  offset_of-woven =
-      let both = place-woven axes ds legal (index_of (dims_at axes ds) q) (index_of
+  pub offset_of-merged : offset_of (others axes (length ds)) ds x + offset_of axes ds q
+      ≡ place ds (merged axes ds (index_of (dims_at axes ds) q) (index_of (other_dims axes ds) x))
+  offset_of-merged =
+      let both = place-merged axes ds legal (index_of (dims_at axes ds) q) (index_of
       (other_dims axes ds) x)
       (IsIndexOf-index_of (dims_at axes ds) q value) in
       omega (arith, both)
 
   -- and one of the operand's
-  pub woven-below :
-      place ds (woven axes ds (index_of (dims_at axes ds) q) (index_of (other_dims axes ds) x))
+  pub merged-below :
+      place ds (merged axes ds (index_of (dims_at axes ds) q) (index_of (other_dims axes ds) x))
       < size_of ds
-  woven-below =
-      place-below-size_of ds _ (IsIndexOf-woven axes ds legal (index_of (dims_at axes ds) q)
+  merged-below =
+      place-below-size_of ds _ (IsIndexOf-merged axes ds legal (index_of (dims_at axes ds) q)
       (index_of (other_dims axes ds) x) (IsIndexOf-index_of (dims_at axes ds) q value)
       (IsIndexOf-index_of (other_dims axes ds) x row))
 
   pub offset_of-below : offset_of (others axes (length ds)) ds x + offset_of axes ds q < size_of ds
-  offset_of-below = omega (arith, offset_of-woven, woven-below)
+  offset_of-below = omega (arith, offset_of-merged, merged-below)
 
 -- the kept axes, from those that were found
 pub kept-others : (axes ds sizes found kept : List ℕ) → sizes ≡ ds → kept ≡ found
@@ -66,10 +66,10 @@ module _ (starts offsets axes ds : List ℕ) (tables : HasTables starts offsets 
       let right = tables.values.each q (omega (arith, tables.values.len)) in
       cc (left, right)
 
-  pub sum_of_tables-woven : slice_index starts x + slice_index offsets q
-      ≡ place ds (woven axes ds (index_of (dims_at axes ds) q) (index_of (other_dims axes ds) x))
-  sum_of_tables-woven =
-      sum_of_tables ∙ offset_of-woven ds axes tables.legal x q (omega (arith, tables.rows.len))
+  pub sum_of_tables-merged : slice_index starts x + slice_index offsets q
+      ≡ place ds (merged axes ds (index_of (dims_at axes ds) q) (index_of (other_dims axes ds) x))
+  sum_of_tables-merged =
+      sum_of_tables ∙ offset_of-merged ds axes tables.legal x q (omega (arith, tables.rows.len))
       (omega (arith, tables.values.len))
 
   pub sum_of_tables-below : slice_index starts x + slice_index offsets q < size_of ds

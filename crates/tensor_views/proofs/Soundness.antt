@@ -17,6 +17,6 @@ places-within (Listed places) n k below h = below k h
 -- so are those that a view reaches
 pub reached-within : (m : ℕ → ℕ) (places : Places) (n limit k : ℕ) → AreBelow places n → ((p : ℕ) → p < n → m p < limit)
     → k < length (map m (places_of places)) → get_or (map m (places_of places)) k 0 < limit
-reached-within m places n limit k below walk h =
+reached-within m places n limit k below view h =
     let inside : k < length (places_of places) = omega (arith, length-map (places_of places) m) in
-    rw (get_or-map m (places_of places) k 0 0 inside) (walk (get_or (places_of places) k 0) (places-within places n k below inside))
+    rw (get_or-map m (places_of places) k 0 0 inside) (view (get_or (places_of places) k 0) (places-within places n k below inside))

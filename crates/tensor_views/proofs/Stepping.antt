@@ -5,19 +5,19 @@ use Rattle.std.proofs.Math.Nat.{mul-le-mul_right}
 use Rattle.tensor_shape.specs.Index.{size_of, IsIndexOf, strides_from, place_by, place, index_of}
 use Rattle.tensor_shape.specs.Legal.{bulk_of}
 use Rattle.tensor_shape.proofs.Places.{IsIndexOf-index_of}
-use Rattle.tensor_views.specs.Rising.{no_axis}
+use Rattle.tensor_views.specs.Forward.{no_axis}
 use Rattle.tensor_views.specs.Axes.{axes_from, by_steps, shuffled_axes}
-use Rattle.tensor_terms.specs.Convolution.{slid}
+use Rattle.tensor_terms.specs.Convolution.{window_index}
 use Rattle.tensor_terms.specs.Movement.{shuffled_dims}
 use Rattle.tensor_views.specs.Offsets.{offset_of}
 use Rattle.tensor_terms.specs.Reduction.{are_axes}
 use Rattle.tensor_views.specs.Stepped.{stepped}
-use Rattle.tensor_terms.specs.Woven.{dims_at}
+use Rattle.tensor_terms.specs.Merged.{dims_at}
 use Rattle.tensor_views.proofs.AxisLists.{axes_from-short, are_along-from, along-at}
 use Rattle.tensor_terms.proofs.OtherAxes.{are_axes-first}
-use Rattle.tensor_terms.proofs.UnderKernel.{length-slid, get_or-slid}
+use Rattle.tensor_terms.proofs.UnderKernel.{length-window_index, get_or-window_index}
 use Rattle.tensor_views.proofs.Steps.{drop-before}
-use Rattle.tensor_views.proofs.WovenPlaces.{place-scattered}
+use Rattle.tensor_views.proofs.MergedPlaces.{place-scattered}
 
 pub length-strides_from : (t : ℕ) (ds : List ℕ) → length (strides_from t ds) ≡ length ds
 length-strides_from t [] = refl
@@ -60,9 +60,9 @@ strides_from-short ds k within =
     let size = (along-at (axes_from 1 ds) ds k (are_along-from 1 ds) within).size in
     let span : (get_or (axes_from 1 ds) k no_axis).step * (get_or (axes_from 1 ds) k no_axis).size
     ≡ get_or (strides_from 1 ds) k 0 * get_or ds k 0 = rw (step-axes_from 1 ds k, size) refl in
-    let turned : get_or ds k 0 * get_or (strides_from 1 ds) k 0
+    let swapped : get_or ds k 0 * get_or (strides_from 1 ds) k 0
     ≡ get_or (strides_from 1 ds) k 0 * get_or ds k 0 = grind arith in
-    omega (arith, short, span, turned)
+    omega (arith, short, span, swapped)
 
 -- so many short axes
 pub stepped-le : (ts ds is : List ℕ) (limit : ℕ) → IsIndexOf ds is
@@ -103,10 +103,10 @@ stepped-drop-le (t ∷ ts) (d ∷ ds) (suc k) p limit long below short =
 module _ (ts ds : List ℕ) (k : ℕ) (some : 0 < k) (within : k ≤ length ds)
     (long : length ts ≡ length ds) where
   pub size_of-before : size_of (drop (k - 1) ds) ≡ size_of (drop k ds) * get_or ds (k - 1) 0
-  size_of-before = rw (drop-before ds k some within) turned
+  size_of-before = rw (drop-before ds k some within) swapped
     where
-      turned : get_or ds (k - 1) 0 * size_of (drop k ds) ≡ size_of (drop k ds) * get_or ds (k - 1) 0
-      turned = grind arith
+      swapped : get_or ds (k - 1) 0 * size_of (drop k ds) ≡ size_of (drop k ds) * get_or ds (k - 1) 0
+      swapped = grind arith
 
   pub stepped-before : (p : ℕ) → stepped (drop (k - 1) ts) (index_of (drop (k - 1) ds) p)
       ≡ stepped (drop k ts) (index_of (drop k ds) (p / get_or ds (k - 1) 0))
@@ -127,23 +127,23 @@ stepped-set (t ∷ ts) (n ∷ js) (suc x) i j within long here =
     omega (arith, stepped-set ts js x i j (omega arith) (omega arith) here)
 
 -- the steps of an index list with another one on top are those of both
-pub stepped-slid : (axes ts js is : List ℕ) → are_axes (length is) axes ≡ true
+pub stepped-window_index : (axes ts js is : List ℕ) → are_axes (length is) axes ≡ true
     → length ts ≡ length is
-    → stepped ts (slid axes js is) ≡ stepped ts is + stepped (shuffled_dims ts axes) js
-stepped-slid [] ts js is once long = omega arith
-stepped-slid (x ∷ xs) ts [] is once long = omega arith
-stepped-slid (x ∷ xs) ts (j ∷ js) is once long =
+    → stepped ts (window_index axes js is) ≡ stepped ts is + stepped (shuffled_dims ts axes) js
+stepped-window_index [] ts js is once long = omega arith
+stepped-window_index (x ∷ xs) ts [] is once long = omega arith
+stepped-window_index (x ∷ xs) ts (j ∷ js) is once long =
     let axis = are_axes-first (length is) x xs once in
-    let full : length (slid xs js is) ≡ length is = length-slid xs js is in
-    let more = stepped-set ts (slid xs js is) x (get_or is x 0) j (omega (arith, axis.below))
-    (omega arith) (get_or-slid xs js is x axis.alone) in
-    omega (arith, more, stepped-slid xs ts js is axis.rest long)
+    let full : length (window_index xs js is) ≡ length is = length-window_index xs js is in
+    let more = stepped-set ts (window_index xs js is) x (get_or is x 0) j (omega (arith, axis.below))
+    (omega arith) (get_or-window_index xs js is x axis.alone) in
+    omega (arith, more, stepped-window_index xs ts js is axis.rest long)
 
 -- and so is its place
-pub place-slid : (axes ds js is : List ℕ) → are_axes (length is) axes ≡ true
+pub place-window_index : (axes ds js is : List ℕ) → are_axes (length is) axes ≡ true
     → length ds ≡ length is
-    → place ds (slid axes js is)
+    → place ds (window_index axes js is)
     ≡ stepped (strides_from 1 ds) is + stepped (shuffled_dims (strides_from 1 ds) axes) js
-place-slid axes ds js is once long =
-    sym (stepped-strides_from 1 ds (slid axes js is))
-    ∙ stepped-slid axes (strides_from 1 ds) js is once (length-strides_from 1 ds ∙ long)
+place-window_index axes ds js is once long =
+    sym (stepped-strides_from 1 ds (window_index axes js is))
+    ∙ stepped-window_index axes (strides_from 1 ds) js is once (length-strides_from 1 ds ∙ long)

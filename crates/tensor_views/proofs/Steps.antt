@@ -9,27 +9,27 @@ use Rattle.std.proofs.Math.Seq.{drop-cons}
 use Rattle.tensor_shape.specs.Index.{size_of, place, index_of}
 use Rattle.tensor_shape.specs.Legal.{bulk_of}
 use Rattle.tensor_shape.proofs.Places.{place-cons, IsIndexOf-index_of}
-use Rattle.tensor_views.specs.Rising.{rising, no_axis}
+use Rattle.tensor_views.specs.Forward.{forward, no_axis}
 use Rattle.tensor_views.specs.Axes.{axes_from}
 use Rattle.tensor_terms.specs.Movement.{scattered, is_among}
 use Rattle.tensor_views.specs.Offsets.{offset_of}
 use Rattle.tensor_terms.specs.Reduction.{are_axes}
-use Rattle.tensor_terms.specs.Woven.{dims_at}
+use Rattle.tensor_terms.specs.Merged.{dims_at}
 use Rattle.tensor_terms.proofs.Moved.{scattered-below, length-scattered}
 use Rattle.tensor_terms.proofs.Moved.{zeros, get_or-zeros, scattered-other}
 use Rattle.tensor_terms.proofs.OtherAxes.{are_axes-first}
 use Rattle.tensor_values.proofs.Factors.{some_size}
-use Rattle.tensor_views.proofs.WovenPlaces.{place-scattered}
+use Rattle.tensor_views.proofs.MergedPlaces.{place-scattered}
 use Rattle.tensor_terms.proofs.Weaving.{length-zeros}
 
 -- one axis of whole dims: its step is the size of the dims before it
 pub get_or-axes_from : (t : ℕ) (ds : List ℕ) (k : ℕ) → k < length ds
-    → get_or (axes_from t ds) k no_axis ≡ rising (get_or ds k 0) (t * size_of (take k ds))
+    → get_or (axes_from t ds) k no_axis ≡ forward (get_or ds k 0) (t * size_of (take k ds))
 get_or-axes_from t [] k within = absurd (omega arith)
-get_or-axes_from t (d ∷ ds) zero within = ap (rising d) (omega arith)
+get_or-axes_from t (d ∷ ds) zero within = ap (forward d) (omega arith)
 get_or-axes_from t (d ∷ ds) (suc k) within =
     get_or-axes_from (t * d) ds k (omega arith)
-    ∙ ap (rising (get_or ds k 0)) (regroup (size_of (take k ds)))
+    ∙ ap (forward (get_or ds k 0)) (regroup (size_of (take k ds)))
   where
     regroup : (n : ℕ) → t * d * n ≡ t * (d * n)
     regroup n = grind arith
@@ -117,7 +117,7 @@ pub offset_of-more : (s : ℕ) (ss ds places moved : List ℕ) → are_axes (len
 offset_of-more s ss ds places moved once long before step p below =
     let d : ℕ = get_or ds s 0 in
     let some : 0 < d = some_size d (size_of (dims_at ss ds)) p below in
-    let turned : size_of (dims_at ss ds) * d ≡ d * size_of (dims_at ss ds) = grind arith in
+    let swapped : size_of (dims_at ss ds) * d ≡ d * size_of (dims_at ss ds) = grind arith in
     let room : length places * d ≡ size_of (dims_at ss ds) * d = ap (λ n. n * d) long in
     let row : p / d < size_of (dims_at ss ds) =
     div_below p d (size_of (dims_at ss ds)) some (omega arith) in

@@ -3,7 +3,7 @@
 use Rattle.std.proofs.Common.{◌≡◌, ◌<◌, ◌/◌, ◌%◌, ◌*◌, ◌+◌, ◌-◌, ◌^◌, List, [], ◌∷◌, ℕ, length}
 use Rattle.std.proofs.Common.{Some, slice_index, ap, ◌∙◌, arith}
 use Rattle.std.specs.List.{slice_get}
-use Rattle.tensor_views.specs.View.{reached, steps_to, walk_size}
+use Rattle.tensor_views.specs.View.{reached, steps_to, view_size}
 use Rattle.tensor_views.specs.declared.axis.Axis.{Axis}
 use Rattle.tensor_views.proofs.Views.{index-from-first, row-within, slower-below}
 
@@ -14,19 +14,19 @@ first-below [] n p is within = (cc)
 first-below (q ∷ ps) n p is within = let same : p ≡ q = (cc) in rw same (within 0 (omega arith))
 
 module _ (start : ℕ) (axes : List Axis) (axis : Axis) (slower : List Axis) (p : ℕ)
-    (size : walk_size (axis ∷ slower) ≡ walk_size axes)
+    (size : view_size (axis ∷ slower) ≡ view_size axes)
     (same : (s q : ℕ) → reached s (axis ∷ slower) q ≡ reached s axes q)
-    (below : p < walk_size axes) where
-  pub row-inside : (0 < axis.size) × (p / axis.size < walk_size slower)
+    (below : p < view_size axes) where
+  pub row-inside : (0 < axis.size) × (p / axis.size < view_size slower)
   row-inside = row-within start axis slower p (rw size below)
 
-  pub rows-fit : ((q : ℕ) → q < walk_size axes → reached start axes q < 2 ^ 32)
-      → (q : ℕ) → q < walk_size slower → reached start slower q < 2 ^ 32
+  pub rows-fit : ((q : ℕ) → q < view_size axes → reached start axes q < 2 ^ 32)
+      → (q : ℕ) → q < view_size slower → reached start slower q < 2 ^ 32
   rows-fit fits q inside =
       slower-below start axis slower (2 ^ 32)
       (λ q inside. rw same (fits q (rw (← size) inside))) row-inside.0 q inside
 
-  pub row-fits : ((q : ℕ) → q < walk_size axes → reached start axes q < 2 ^ 32)
+  pub row-fits : ((q : ℕ) → q < view_size axes → reached start axes q < 2 ^ 32)
       → reached start slower (p / axis.size) < 2 ^ 32
   row-fits fits = rows-fit fits (p / axis.size) row-inside.1
 

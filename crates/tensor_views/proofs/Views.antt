@@ -9,7 +9,7 @@ use Rattle.std.proofs.Math.Nat.{mod-eq_of_lt, div-eq_of_lt, add-mul-mod_self_lef
 use Rattle.std.proofs.lemmas.Nat.{le-div}
 use Rattle.std.proofs.lemmas.List.FromFn.{get_or-map-range_with_len}
 use Rattle.tensor_values.proofs.Factors.{some_size}
-use Rattle.tensor_views.specs.View.{along, reached, walk_size, steps_to}
+use Rattle.tensor_views.specs.View.{along, reached, view_size, steps_to}
 use Rattle.tensor_views.specs.declared.axis.Axis.{Axis}
 
 -- the parts of a place: its index along the first axis, and its row
@@ -82,8 +82,8 @@ reached-drop axes i rest d within = rw (add-one, drop-cons axes i d within) refl
 -- an axis of size 1 has no steps
 pub steps-alone : (a : Axis) → a.size ≡ 1 → steps_to a 0 ≡ 0
 steps-alone a alone =
-    elim (cases_Bool a.falls) [
-      | inl falls ↦ rw (falls, alone) (omega arith)
+    elim (cases_Bool a.reversed) [
+      | inl reversed ↦ rw (reversed, alone) (omega arith)
       | inr rises ↦ rw rises refl
     ]
 
@@ -93,23 +93,23 @@ module _ (start : ℕ) (a : Axis) (rest : List Axis) where
   reached-row q i below = rw (row-of_row a.size q i below, index-of_row a.size q i below) refl
 
   -- a place in the view has its row in the slower axes
-  pub row-within : (p : ℕ) → p < walk_size (a ∷ rest) → (0 < a.size) × (p / a.size < walk_size rest)
+  pub row-within : (p : ℕ) → p < view_size (a ∷ rest) → (0 < a.size) × (p / a.size < view_size rest)
   row-within p below =
-      let some : 0 < a.size = some_size a.size (walk_size rest) p below in
-      (some, (div-lt_iff_lt-mul {k = a.size} {x = p} {y = walk_size rest} some).1 (omega arith))
+      let some : 0 < a.size = some_size a.size (view_size rest) p below in
+      (some, (div-lt_iff_lt-mul {k = a.size} {x = p} {y = view_size rest} some).1 (omega arith))
 
   -- a row of the slower axes begins in the view
-  pub row-begins : (q : ℕ) → 0 < a.size → q < walk_size rest → a.size * q < walk_size (a ∷ rest)
-  row-begins q some below = omega (arith, mul-lt q (walk_size rest) a.size some below)
+  pub row-begins : (q : ℕ) → 0 < a.size → q < view_size rest → a.size * q < view_size (a ∷ rest)
+  row-begins q some below = omega (arith, mul-lt q (view_size rest) a.size some below)
 
   -- so what holds of all places that are reached holds of those of the slower axes
-  pub slower-below : (limit : ℕ) → ((p : ℕ) → p < walk_size (a ∷ rest) → reached start (a ∷ rest) p < limit)
-      → 0 < a.size → (q : ℕ) → q < walk_size rest → reached start rest q < limit
+  pub slower-below : (limit : ℕ) → ((p : ℕ) → p < view_size (a ∷ rest) → reached start (a ∷ rest) p < limit)
+      → 0 < a.size → (q : ℕ) → q < view_size rest → reached start rest q < limit
   slower-below limit fits some q below =
       omega (arith, reached-row q 0 some, fits (0 + a.size * q) (omega (arith, row-begins q some below)))
 
   module _ (alone : a.size ≡ 1) where
-    pub alone-size : walk_size (a ∷ rest) ≡ walk_size rest
+    pub alone-size : view_size (a ∷ rest) ≡ view_size rest
     alone-size = rw alone (omega arith)
 
     pub alone-reached : (p : ℕ) → reached start (a ∷ rest) p ≡ reached start rest p
@@ -118,13 +118,13 @@ module _ (start : ℕ) (a : Axis) (rest : List Axis) where
         let none : steps_to a 0 * a.step ≡ 0 * a.step = ap (λ n. n * a.step) (steps-alone a alone) in
         ap (reached start (a ∷ rest)) at ∙ reached-row p 0 (omega arith) ∙ omega (arith, none)
 
-  module _ (first last : ℕ) (order : first < last) (within : last ≤ walk_size (a ∷ rest)) where
+  module _ (first last : ℕ) (order : first < last) (within : last ≤ view_size (a ∷ rest)) where
     pub rows-order : first / a.size < (last - 1) / a.size + 1
     rows-order =
         let some = (row-within (last - 1) (omega arith)).0 in
         omega (arith, div-mono first (last - 1) a.size some (omega arith))
 
-    pub rows-within : (last - 1) / a.size + 1 ≤ walk_size rest
+    pub rows-within : (last - 1) / a.size + 1 ≤ view_size rest
     rows-within = omega (arith, (row-within (last - 1) (omega arith)).1)
 
     -- the rows reach to the last place

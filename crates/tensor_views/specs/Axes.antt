@@ -5,20 +5,20 @@ use Rattle.std.specs.Int.{div_ceil}
 use Rattle.std.specs.Prelude.{Bool, true, false, not, ◌&&◌, nat_eq}
 use Rattle.tensor_terms.specs.Term.{Movement, broadcast, slice, shuffle, reshape, chip, reverse}
 use Rattle.tensor_terms.specs.Term.{stride}
-use Rattle.tensor_views.specs.Rising.{rising, no_axis}
+use Rattle.tensor_views.specs.Forward.{forward, no_axis}
 use Rattle.tensor_views.specs.declared.axis.Axis.{Axis}
 
 -- the axes of dims, where the first has a step
 abbrev pub axes_from : ℕ → List ℕ → List Axis
 axes_from step [] = []
-axes_from step (d ∷ ds) = rising d step ∷ axes_from (step * d) ds
+axes_from step (d ∷ ds) = forward d step ∷ axes_from (step * d) ds
 
 -- each has the size of its dimension, and goes up
 abbrev pub are_along : List Axis → List ℕ → Bool
 are_along [] [] = true
 are_along [] (d ∷ ds) = false
 are_along (a ∷ rest) [] = false
-are_along (a ∷ rest) (d ∷ ds) = (nat_eq a.size d && not a.falls) && are_along rest ds
+are_along (a ∷ rest) (d ∷ ds) = (nat_eq a.size d && not a.reversed) && are_along rest ds
 
 -- the steps of an index list, added up
 abbrev pub by_steps : List Axis → List ℕ → ℕ
@@ -30,27 +30,27 @@ by_steps (a ∷ rest) (i ∷ is) = i * a.step + by_steps rest is
 abbrev pub repeated_axes : List Axis → List ℕ → List Axis
 repeated_axes [] cs = []
 repeated_axes (a ∷ rest) [] = []
-repeated_axes (a ∷ rest) (c ∷ cs) = a ∷ rising c 0 ∷ repeated_axes rest cs
+repeated_axes (a ∷ rest) (c ∷ cs) = a ∷ forward c 0 ∷ repeated_axes rest cs
 
 -- the axes, cut to sizes
 abbrev pub cut_axes : List Axis → List ℕ → List Axis
 cut_axes [] es = []
 cut_axes (a ∷ rest) [] = []
-cut_axes (a ∷ rest) (e ∷ es) = rising e a.step ∷ cut_axes rest es
+cut_axes (a ∷ rest) (e ∷ es) = forward e a.step ∷ cut_axes rest es
 
--- the axes, turned round where they are flagged
-abbrev pub turned_axes : List Axis → List Bool → List Axis
-turned_axes [] fs = []
-turned_axes (a ∷ rest) [] = []
-turned_axes (a ∷ rest) (f ∷ fs) =
-    record { size = a.size; step = a.step; falls = f } ∷ turned_axes rest fs
+-- the axes, reversed where they are flagged
+abbrev pub reversed_axes : List Axis → List Bool → List Axis
+reversed_axes [] fs = []
+reversed_axes (a ∷ rest) [] = []
+reversed_axes (a ∷ rest) (f ∷ fs) =
+    record { size = a.size; step = a.step; reversed = f } ∷ reversed_axes rest fs
 
 -- the axes, of which only each so many-th place is reached, of one that ends before that the first
 abbrev pub strided_axes : List Axis → List ℕ → List Axis
 strided_axes [] ss = []
 strided_axes (a ∷ rest) [] = []
 strided_axes (a ∷ rest) (s ∷ ss) =
-    rising (div_ceil a.size s) (a.step * min s a.size) ∷ strided_axes rest ss
+    forward (div_ceil a.size s) (a.step * min s a.size) ∷ strided_axes rest ss
 
 -- the axes in another order
 abbrev pub shuffled_axes : List Axis → List ℕ → List Axis
@@ -78,7 +78,7 @@ moved_axes (slice offsets extents) axes = cut_axes axes extents
 moved_axes (shuffle order) axes = shuffled_axes axes order
 moved_axes (reshape sizes) axes = axes
 moved_axes (chip offset axis) axes = remove axes axis
-moved_axes (reverse flags) axes = turned_axes axes flags
+moved_axes (reverse flags) axes = reversed_axes axes flags
 moved_axes (stride steps) axes = strided_axes axes steps
 
 -- where the view of a movement starts, from where that of its operand does

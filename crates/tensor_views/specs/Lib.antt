@@ -1,8 +1,8 @@
 pub mod Axes
-pub mod Joining
+pub mod Composing
 pub mod Offsets
 pub mod Places
 pub mod Reading
-pub mod Rising
+pub mod Forward
 pub mod Stepped
 pub mod View

@@ -3,7 +3,7 @@ use Rattle.std.specs.Prelude.{◌≡◌, ℕ, ◌<◌, List, length, map, slice_
 use Rattle.tensor_shape.specs.Index.{size_of, place, index_of}
 use Rattle.tensor_terms.specs.Movement.{scattered}
 use Rattle.tensor_terms.specs.Reduction.{are_axes}
-use Rattle.tensor_terms.specs.Woven.{dims_at, others}
+use Rattle.tensor_terms.specs.Merged.{dims_at, others}
 
 -- the place of the index list that has the indices of a place of some axes' dims at these axes, and
 -- 0 at the others

@@ -5,13 +5,13 @@ use Rattle.tensor_views.specs.declared.axis.Axis.{Axis}
 use Rattle.tensor_views.specs.declared.row.Row.{Row}
 
 -- how many places the axes have, the fastest first
-abbrev pub walk_size : List Axis → ℕ
-walk_size [] = 1
-walk_size (a ∷ rest) = a.size * walk_size rest
+abbrev pub view_size : List Axis → ℕ
+view_size [] = 1
+view_size (a ∷ rest) = a.size * view_size rest
 
--- how many steps an index is: itself, or where the axis falls what is left above it
+-- how many steps an index is: itself, or where the axis is reversed what is left above it
 abbrev pub steps_to : Axis → ℕ → ℕ
-steps_to a i = if a.falls then a.size - 1 - i else i
+steps_to a i = if a.reversed then a.size - 1 - i else i
 
 -- the place that is reached at a place of the result: from a start, the steps of its index list
 abbrev pub reached : ℕ → List Axis → ℕ → ℕ
@@ -32,11 +32,11 @@ pub record IsRowIn (row : Row) (count : ℕ) : Type 0 where
   pub whole : row.from + row.count ≤ row.axis.size
   pub inside : (k : ℕ) → k < row.count → place_in row k < count
 
--- along each axis the indices of two places, added up, stay within it, and no axis falls
+-- along each axis the indices of two places, added up, stay within it, and no axis is reversed
 abbrev pub AreApart : List Axis → ℕ → ℕ → Type 0
 AreApart [] a b = Unit {0}
 AreApart (x ∷ rest) a b =
-    (x.falls ≡ false)
+    (x.reversed ≡ false)
     × ((a % x.size + b % x.size < x.size) × AreApart rest (a / x.size) (b / x.size))
 
 -- the same of each two places of two lists, by so many each

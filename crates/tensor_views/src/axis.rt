@@ -9,28 +9,28 @@ pub struct Axis {
     pub size: usize,
     pub step: usize,
     /// Whether the places go down along it.
-    pub falls: bool,
+    pub reversed: bool,
 }
 
 /// An axis of one place.
 pub(crate) const ALONE: Axis = Axis {
     size: 1,
     step: 0,
-    falls: false,
+    reversed: false,
 };
 
 impl Axis {
     /// The same axis, with its step and its way as the compiler knows them where they are constants.
     #[inline(always)]
-    pub fn known(self, step: usize, falls: bool) -> Self
+    pub fn known(self, step: usize, reversed: bool) -> Self
         requires step { self.step ≡ step }
-        requires way { self.falls ≡ falls }
+        requires way { self.reversed ≡ reversed }
         ensures { result ≡ self }
     {
         Axis {
             size: self.size,
             step,
-            falls,
+            reversed,
         }
     }
 }
@@ -51,7 +51,7 @@ pub fn steps_to(axis: Axis, index: usize) -> usize
     requires { index < axis.size }
     ensures { result ≡ steps_to axis index }
 {
-    if axis.falls {
+    if axis.reversed {
         axis.size - 1 - index
     } else {
         index

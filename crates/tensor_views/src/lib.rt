@@ -11,9 +11,9 @@
 #![tactic(auto)]
 
 mod axis;
-mod joining;
-mod led;
+mod composing;
 mod listed_places;
+mod mapping;
 mod movements;
 mod offset_tables;
 mod places;
@@ -22,8 +22,8 @@ mod run_places;
 mod view;
 
 pub use axis::{Axis, steps_to};
-pub use led::{are_apart, lead};
 pub use listed_places::looked_up;
+pub use mapping::{are_apart, map_through};
 pub use offset_tables::{offsets, stepped_places, tables};
 pub use places::Places;
 pub use row::Row;

@@ -3,7 +3,7 @@
 
 ghost use Rattle.std.specs.Prelude.{◌≡◌, ◌<◌, ◌*◌, ◌/◌, ◌^◌, ◌∷◌, ℕ, length, map};
 ghost use Rattle.std.specs.Prelude.{IfOk, slice_index};
-ghost use Rattle.tensor_views.specs.View.{walk_size, reached};
+ghost use Rattle.tensor_views.specs.View.{view_size, reached};
 
 use crate::axis::{ALONE, Axis, steps_to};
 use crate::view::ViewRef;
@@ -11,7 +11,7 @@ use std::alloc::{AllocError, Global};
 
 /// A row of a view: its first place, and where it starts in the operand.
 #[derive(Clone, Copy, Drop)]
-pub(crate) struct WalkRow {
+pub(crate) struct ViewRow {
     pub(crate) first: usize,
     pub(crate) start: usize,
 }
@@ -20,8 +20,8 @@ pub(crate) struct WalkRow {
 /// of it that follow one another.
 pub fn looked_up(alloc: Global, view: ViewRef<'_>, places: &[u32]) -> Result<Vec<u32>, AllocError>
     requires within { (k : ℕ) → k < length places.now
-        → slice_index places.now k < walk_size view.axes.now }
-    requires fits { (p : ℕ) → p < walk_size view.axes.now
+        → slice_index places.now k < view_size view.axes.now }
+    requires fits { (p : ℕ) → p < view_size view.axes.now
         → reached view.start view.axes.now p < 2 ^ 32 }
     ensures { IfOk result (λ v. v.items ≡ map (reached view.entry.start view.entry.axes.now) places.now) }
 {
@@ -46,7 +46,7 @@ pub fn looked_up(alloc: Global, view: ViewRef<'_>, places: &[u32]) -> Result<Vec
 
 /// The first axis and the slower ones. Where there is none, one place is an axis.
 pub(crate) fn first_axis(axes: &[Axis]) -> (Axis, &[Axis])
-    ensures size { walk_size (result.0 ∷ result.1.now) ≡ walk_size axes.now }
+    ensures size { view_size (result.0 ∷ result.1.now) ≡ view_size axes.now }
     ensures reached { (start : ℕ) → (p : ℕ)
         → reached start (result.0 ∷ result.1.now) p ≡ reached start axes.now p }
 {
@@ -58,9 +58,9 @@ pub(crate) fn first_axis(axes: &[Axis]) -> (Axis, &[Axis])
 
 /// The row of a place: this one where it lies in it, and else another.
 #[inline(always)]
-pub(crate) fn row_with(row: WalkRow, axis: Axis, slower: ViewRef<'_>, place: usize) -> WalkRow
+pub(crate) fn row_with(row: ViewRow, axis: Axis, slower: ViewRef<'_>, place: usize) -> ViewRow
     requires size { 0 < axis.size }
-    requires within { place / axis.size < walk_size slower.axes.now }
+    requires within { place / axis.size < view_size slower.axes.now }
     requires fits { reached slower.start slower.axes.now (place / axis.size) < 2 ^ 32 }
     requires row_first { row.first ≡ axis.size * (row.first / axis.size) }
     requires row_start { row.start ≡ reached slower.start slower.axes.now (row.first / axis.size) }
@@ -74,15 +74,15 @@ pub(crate) fn row_with(row: WalkRow, axis: Axis, slower: ViewRef<'_>, place: usi
 }
 
 /// The row of a place, by a division an axis.
-pub(crate) fn row_of(axis: Axis, slower: ViewRef<'_>, place: usize) -> WalkRow
+pub(crate) fn row_of(axis: Axis, slower: ViewRef<'_>, place: usize) -> ViewRow
     requires size { 0 < axis.size }
-    requires within { place / axis.size < walk_size slower.axes.now }
+    requires within { place / axis.size < view_size slower.axes.now }
     requires fits { reached slower.start slower.axes.now (place / axis.size) < 2 ^ 32 }
     ensures first { result.first ≡ axis.size * (place / axis.size) }
     ensures start { result.start ≡ reached slower.entry.start slower.entry.axes.now (place / axis.size) }
 {
     let row = place / axis.size;
-    WalkRow {
+    ViewRow {
         first: row * axis.size,
         start: slower.at(row),
     }

@@ -4,10 +4,10 @@ ghost use Rattle.std.specs.Prelude.{◌≡◌, ◌<◌, ◌≤◌, ◌+◌, ◌^
 ghost use Rattle.std.specs.Prelude.{IfOk, OnOk};
 ghost use Rattle.tensor_shape.specs.Index.{size_of};
 ghost use Rattle.tensor_shape.specs.Legal.{most_elements};
-ghost use Rattle.tensor_views.specs.Rising.{rising};
+ghost use Rattle.tensor_views.specs.Forward.{forward};
 ghost use Rattle.tensor_views.specs.Axes.{axes_from, by_steps};
 ghost use Rattle.tensor_views.specs.Axes.{HasRank, AreShort, moved_axes, moved_start};
-ghost use Rattle.tensor_views.specs.Axes.{repeated_axes, cut_axes, shuffled_axes, turned_axes};
+ghost use Rattle.tensor_views.specs.Axes.{repeated_axes, cut_axes, shuffled_axes, reversed_axes};
 ghost use Rattle.tensor_views.specs.Axes.{strided_axes};
 ghost use Rattle.tensor_terms.specs.Tree.{movement_at};
 
@@ -60,7 +60,7 @@ fn whole_axes(alloc: Global, dims: &Dims) -> Result<Vec<Axis>, AllocError>
     let mut step = 1;
     for size in sizes {
         let size = *size as usize;
-        axes.push(rising(size, step))?;
+        axes.push(forward(size, step))?;
         step *= size;
     }
     Ok(axes)
@@ -105,19 +105,19 @@ fn moved_axes(
             axes.remove(axis as usize);
             Ok(axes)
         }
-        Movement::Reverse(flags) => turned_axes(alloc, &axes, flags),
+        Movement::Reverse(flags) => reversed_axes(alloc, &axes, flags),
         Movement::Stride(steps) => strided_axes(alloc, &axes, steps),
     }
 }
 
 /// An axis along which the places go up.
-fn rising(size: usize, step: usize) -> Axis
-    ensures { result ≡ rising size step }
+fn forward(size: usize, step: usize) -> Axis
+    ensures { result ≡ forward size step }
 {
     Axis {
         size,
         step,
-        falls: false,
+        reversed: false,
     }
 }
 
@@ -142,7 +142,7 @@ fn repeated_axes(alloc: Global, axes: &[Axis], counts: &[u64]) -> Result<Vec<Axi
     let mut repeated = Vec::new(alloc);
     for k in 0..counts.len() {
         repeated.push(axes[k])?;
-        repeated.push(rising(counts[k] as usize, 0))?;
+        repeated.push(forward(counts[k] as usize, 0))?;
     }
     Ok(repeated)
 }
@@ -154,7 +154,7 @@ fn cut_axes(alloc: Global, axes: &[Axis], sizes: &[u64]) -> Result<Vec<Axis>, Al
 {
     let mut cut = Vec::new(alloc);
     for k in 0..sizes.len() {
-        cut.push(rising(sizes[k] as usize, axes[k].step))?;
+        cut.push(forward(sizes[k] as usize, axes[k].step))?;
     }
     Ok(cut)
 }
@@ -171,21 +171,21 @@ fn shuffled_axes(alloc: Global, axes: &[Axis], order: &[u64]) -> Result<Vec<Axis
     Ok(shuffled)
 }
 
-/// The axes, turned round where they are flagged.
-fn turned_axes(alloc: Global, axes: &[Axis], flags: &[bool]) -> Result<Vec<Axis>, AllocError>
+/// The axes, reversed where they are flagged.
+fn reversed_axes(alloc: Global, axes: &[Axis], flags: &[bool]) -> Result<Vec<Axis>, AllocError>
     requires { length flags.now ≡ length axes.now }
-    ensures { IfOk result (λ v. v.items ≡ turned_axes axes.now flags.now) }
+    ensures { IfOk result (λ v. v.items ≡ reversed_axes axes.now flags.now) }
 {
-    let mut turned = Vec::new(alloc);
+    let mut swapped = Vec::new(alloc);
     for k in 0..flags.len() {
         let axis = axes[k];
-        turned.push(Axis {
+        swapped.push(Axis {
             size: axis.size,
             step: axis.step,
-            falls: flags[k],
+            reversed: flags[k],
         })?;
     }
-    Ok(turned)
+    Ok(swapped)
 }
 
 /// The axes, of which only each so many-th place is reached. A step past the axis reaches its first
@@ -200,7 +200,7 @@ fn strided_axes(alloc: Global, axes: &[Axis], steps: &[u64]) -> Result<Vec<Axis>
     for k in 0..steps.len() {
         let axis = axes[k];
         let step = steps[k] as usize;
-        strided.push(rising(axis.size.div_ceil(step), axis.step * step.min(axis.size)))?;
+        strided.push(forward(axis.size.div_ceil(step), axis.step * step.min(axis.size)))?;
     }
     Ok(strided)
 }

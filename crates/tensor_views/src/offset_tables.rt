@@ -7,7 +7,7 @@ ghost use Rattle.tensor_shape.specs.Legal.{most_elements, IsLegal};
 ghost use Rattle.tensor_views.specs.Offsets.{offset_of, HasTables};
 ghost use Rattle.tensor_terms.specs.Reduction.{are_axes};
 ghost use Rattle.tensor_views.specs.Stepped.{stepped};
-ghost use Rattle.tensor_terms.specs.Woven.{dims_at};
+ghost use Rattle.tensor_terms.specs.Merged.{dims_at};
 
 use std::alloc::{AllocError, Global};
 use tensor_shape::Dims;

@@ -26,7 +26,7 @@ impl Row {
             axis: Axis {
                 size: count,
                 step: 0,
-                falls: false,
+                reversed: false,
             },
             from: 0,
             count,
@@ -44,7 +44,7 @@ impl Row {
             axis: Axis {
                 size: count,
                 step: 1,
-                falls: false,
+                reversed: false,
             },
             from: 0,
             count,
@@ -53,14 +53,14 @@ impl Row {
 
     /// The same part of a row, with the step and the way of its axis as the compiler knows them.
     #[inline(always)]
-    pub fn known(self, step: usize, falls: bool) -> Self
+    pub fn known(self, step: usize, reversed: bool) -> Self
         requires step { self.axis.step ≡ step }
-        requires way { self.axis.falls ≡ falls }
+        requires way { self.axis.reversed ≡ reversed }
         ensures { result ≡ self }
     {
         Row {
             start: self.start,
-            axis: self.axis.known(step, falls),
+            axis: self.axis.known(step, reversed),
             from: self.from,
             count: self.count,
         }

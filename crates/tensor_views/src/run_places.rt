@@ -3,22 +3,22 @@
 ghost use Rattle.std.specs.Prelude.{◌≡◌, ◌<◌, ◌≤◌, ◌-◌, ◌+◌, ◌*◌, ◌/◌, ◌^◌, ◌++◌, ℕ, length, map};
 ghost use Rattle.std.specs.Prelude.{IfOk, vec_len, vec_capacity};
 ghost use Rattle.std.specs.List.{range_with_len};
-ghost use Rattle.tensor_views.specs.View.{walk_size, reached, along, steps_to};
+ghost use Rattle.tensor_views.specs.View.{view_size, reached, along, steps_to};
 
 use crate::axis::{ALONE, Axis, steps_to};
 use crate::view::ViewRef;
 use std::alloc::{AllocError, Global};
 
 /// The operand's places for a run.
-pub(crate) fn walked(
+pub(crate) fn places_in_run(
     alloc: Global,
     view: ViewRef<'_>,
     first: usize,
     last: usize,
 ) -> Result<Vec<u32>, AllocError>
     requires order { first ≤ last }
-    requires within { last ≤ walk_size view.axes.now }
-    requires fits { (p : ℕ) → p < walk_size view.axes.now → reached view.start view.axes.now p < 2 ^ 32 }
+    requires within { last ≤ view_size view.axes.now }
+    requires fits { (p : ℕ) → p < view_size view.axes.now → reached view.start view.axes.now p < 2 ^ 32 }
     ensures { IfOk result (λ v. v.items
         ≡ map (reached view.entry.start view.entry.axes.now) (range_with_len first (last - first))) }
 {
@@ -38,8 +38,8 @@ pub fn rows_of(
     last: usize,
 ) -> Result<(Axis, Vec<u32>), AllocError>
     requires some { first < last }
-    requires within { last ≤ walk_size view.axes.now }
-    requires fits { (p : ℕ) → p < walk_size view.axes.now → reached view.start view.axes.now p < 2 ^ 32 }
+    requires within { last ≤ view_size view.axes.now }
+    requires fits { (p : ℕ) → p < view_size view.axes.now → reached view.start view.axes.now p < 2 ^ 32 }
     ensures size { IfOk result (λ r. 0 < r.0.size) }
     ensures cover { IfOk result (λ r. last ≤ r.0.size * (first / r.0.size + length r.1.items)) }
     ensures along { IfOk result (λ r. (p : ℕ) → first ≤ p → p < last

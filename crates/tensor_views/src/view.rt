@@ -2,12 +2,12 @@
 
 ghost use Rattle.std.specs.Prelude.{◌≡◌, ◌<◌, ◌^◌, ℕ, map, IfOk};
 ghost use Rattle.tensor_views.specs.Places.{places_of, AreBelow};
-ghost use Rattle.tensor_views.specs.View.{walk_size, reached};
+ghost use Rattle.tensor_views.specs.View.{view_size, reached};
 
 use crate::axis::{Axis, steps_to};
 use crate::listed_places::looked_up;
 use crate::places::Places;
-use crate::run_places::walked;
+use crate::run_places::places_in_run;
 use std::alloc::{AllocError, Global};
 
 /// The places that axes reach from a start.
@@ -61,9 +61,9 @@ impl ViewRef<'_> {
 
     /// How many places it has.
     pub fn size(self) -> usize
-        requires some { 0 < walk_size self.axes.now }
-        requires fits { walk_size self.axes.now < 2 ^ 32 }
-        ensures { result ≡ walk_size self.entry.axes.now }
+        requires some { 0 < view_size self.axes.now }
+        requires fits { view_size self.axes.now < 2 ^ 32 }
+        ensures { result ≡ view_size self.entry.axes.now }
     {
         let mut places = 1;
         for axis in self.axes {
@@ -75,7 +75,7 @@ impl ViewRef<'_> {
     /// The operand's place for one place.
     #[inline(always)]
     pub(crate) fn at(self, place: usize) -> usize
-        requires within { place < walk_size self.axes.now }
+        requires within { place < view_size self.axes.now }
         requires fits { reached self.start self.axes.now place < 2 ^ 32 }
         ensures { result ≡ reached self.entry.start self.entry.axes.now place }
     {
@@ -90,14 +90,14 @@ impl ViewRef<'_> {
 
     /// The operand's places for places of the result.
     pub fn places(self, alloc: Global, places: &Places<'_>) -> Result<Vec<u32>, AllocError>
-        requires within { AreBelow places.now (walk_size self.axes.now) }
-        requires fits { (p : ℕ) → p < walk_size self.axes.now
+        requires within { AreBelow places.now (view_size self.axes.now) }
+        requires fits { (p : ℕ) → p < view_size self.axes.now
             → reached self.start self.axes.now p < 2 ^ 32 }
         ensures { IfOk result (λ v. v.items
             ≡ map (reached self.entry.start self.entry.axes.now) (places_of places.now)) }
     {
         match places {
-            Places::Run(first, last) => walked(alloc, self, *first, *last),
+            Places::Run(first, last) => places_in_run(alloc, self, *first, *last),
             Places::Listed(places) => looked_up(alloc, self, places),
         }
     }

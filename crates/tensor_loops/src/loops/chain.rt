@@ -12,11 +12,11 @@ use tensor_views::{Axis, Reading};
 /// list saves less, and to compare it takes longer.
 const MOST_COMPARED: usize = 4096;
 
-/// An operation of a chain. The operand's value comes first where it is turned.
+/// An operation of a chain. The operand's value comes first where it is swapped.
 #[derive(Clone, Copy, Drop)]
 pub struct Link {
     pub operation: BinaryScalar,
-    pub turned: bool,
+    pub swapped: bool,
 }
 
 /// The values become those of the operations, one after the other, with the operand's values.
@@ -65,5 +65,5 @@ fn are_same_axes(first: &[Axis], second: &[Axis]) -> bool
 fn is_same_axis(axis: Axis, other: Axis) -> bool
     ensures { IsTrue result → axis ≡ other }
 {
-    axis.size == other.size && axis.step == other.step && axis.falls == other.falls
+    axis.size == other.size && axis.step == other.step && axis.reversed == other.reversed
 }

@@ -6,7 +6,7 @@ ghost use Rattle.std.specs.Prelude.{OnOk, slice_index_or};
 ghost use Rattle.tensor_loops.specs.Loops.{either_way, has_long_rows};
 ghost use Rattle.tensor_values.specs.Values.{value_in};
 ghost use Rattle.tensor_views.specs.Reading.{read_at};
-ghost use Rattle.tensor_views.specs.View.{walk_size, reached, along};
+ghost use Rattle.tensor_views.specs.View.{view_size, reached, along};
 
 use crate::loops::chain::Link;
 use crate::loops::combine_row;
@@ -29,7 +29,7 @@ pub fn has_long_rows(axes: &[Axis]) -> bool
 }
 
 /// The values become the operation's of them and the list's for a run of the view's places, of
-/// which the second comes first where they are turned.
+/// which the second comes first where they are swapped.
 pub fn combine_along(
     alloc: Global,
     link: Link,
@@ -39,15 +39,15 @@ pub fn combine_along(
     last: usize,
 ) -> Result<(), AllocError>
     requires order { first ≤ last }
-    requires within { last ≤ walk_size reading.view.axes.now }
+    requires within { last ≤ view_size reading.view.axes.now }
     requires same { length values.old ≡ last - first }
-    requires inside { (p : ℕ) → p < walk_size reading.view.axes.now
+    requires inside { (p : ℕ) → p < view_size reading.view.axes.now
         → reached reading.view.start reading.view.axes.now p < length reading.list.now }
     requires few { length reading.list.now < 2 ^ 32 }
     ensures len { OnOk result (length values.new ≡ length values.old) }
     ensures each { OnOk result ((k : ℕ) → k < last - first
         → slice_index_or values.new k (pos 0)
-        ≡ either_way link.operation link.turned (slice_index_or values.old k (pos 0))
+        ≡ either_way link.operation link.swapped (slice_index_or values.old k (pos 0))
         (read_at reading.entry (first + k))) }
 {
     if first == last {
@@ -77,7 +77,7 @@ fn combine_rows(
         → along rows.now axis first p < length list.now }
     ensures len { length values.new ≡ length values.old }
     ensures each { (k : ℕ) → k < last - first → slice_index_or values.new k (pos 0)
-        ≡ either_way link.operation link.turned (slice_index_or values.old k (pos 0))
+        ≡ either_way link.operation link.swapped (slice_index_or values.old k (pos 0))
         (value_in list.now (along rows.now axis first (first + k))) }
 {
     let mut place = first;

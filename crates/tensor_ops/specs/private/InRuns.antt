@@ -12,7 +12,7 @@ use Rattle.tensor_kernels.specs.Products.{sum_to}
 use Rattle.tensor_values.specs.Combining.{unit}
 use Rattle.tensor_terms.specs.Result.{shape_of}
 use Rattle.tensor_terms.specs.Term.{Term}
-use Rattle.tensor_terms.specs.Woven.{among, dims_at, other_dims}
+use Rattle.tensor_terms.specs.Merged.{among, dims_at, other_dims}
 use Rattle.tensor_ops.specs.private.ValueRuns.{run_value}
 use Rattle.tensor_values.specs.declared.reducer.Reducer.{Reducer}
 use Rattle.tensor_ops.specs.declared.part_evaluator.in_runs.InRuns.{InRuns}

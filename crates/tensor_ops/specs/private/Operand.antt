@@ -2,14 +2,14 @@
 use Rattle.std.specs.Prelude.{ℕ, ℤ, length}
 use Rattle.std.specs.Cow.{cow_slice_items}
 use Rattle.tensor_values.specs.Values.{value_in}
-use Rattle.tensor_views.specs.View.{walk_size, reached}
+use Rattle.tensor_views.specs.View.{view_size, reached}
 use Rattle.tensor_ops.specs.declared.operands.operand.Operand.{Operand}
 use Rattle.tensor_ops.specs.declared.operands.operand.Operand.TheVariants.{InOrder, Along}
 use Rattle.tensor_ops.specs.declared.operands.operand.Viewed.{Viewed}
 
 -- how many places a list has along its view
 abbrev pub viewed_count : Viewed → ℕ
-viewed_count v = walk_size v.view.axes.items
+viewed_count v = view_size v.view.axes.items
 
 -- the value at a place of it
 abbrev pub viewed_value : Viewed → ℕ → ℤ

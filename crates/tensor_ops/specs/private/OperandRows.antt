@@ -1,13 +1,13 @@
 -- The rows of an operand, by its dims and the axes that are paired.
 use Rattle.std.specs.Prelude.{◌≡◌, ℕ, ℤ, ◌<◌, List}
 use Rattle.tensor_shape.specs.Index.{size_of, place, index_of}
-use Rattle.tensor_terms.specs.Woven.{dims_at, other_dims, woven}
+use Rattle.tensor_terms.specs.Merged.{dims_at, other_dims, merged}
 
 -- the value of an operand at paired index list q and kept index list x, both by their places; from
 -- its values at places
 abbrev pub operand_value : (ℕ → ℤ) → List ℕ → List ℕ → ℕ → ℕ → ℤ
 operand_value at ds axes x q =
-    at (place ds (woven axes ds (index_of (dims_at axes ds) q) (index_of (other_dims axes ds) x)))
+    at (place ds (merged axes ds (index_of (dims_at axes ds) q) (index_of (other_dims axes ds) x)))
 
 -- so many rows of so many values are those of an operand: a row for each kept index list, in it a
 -- value for each paired one

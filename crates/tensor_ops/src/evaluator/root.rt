@@ -4,7 +4,7 @@ ghost use Rattle.std.specs.Prelude.{◌≡◌, ◌<◌, ◌≤◌, ◌+◌, ◌-
 ghost use Rattle.std.specs.Prelude.{OnOk};
 ghost use Rattle.std.specs.List.{range_with_len};
 ghost use Rattle.tensor_shape.specs.Legal.{widest};
-ghost use Rattle.tensor_ops.specs.private.Placing.{Gives, HasValues};
+ghost use Rattle.tensor_ops.specs.private.Lowering.{Gives, HasValues};
 ghost use Rattle.tensor_values.specs.Values.{value_in};
 ghost use Rattle.tensor_terms.specs.Result.{dims_of, shape_of};
 ghost use Rattle.tensor_terms.specs.Tensors.{tensors_in};
@@ -12,26 +12,26 @@ ghost use Rattle.tensor_terms.specs.Term.{has_inputs};
 ghost use Rattle.tensor_terms.specs.Tree.{term_of};
 ghost use Rattle.tensor_terms.specs.Value.{value};
 
+use crate::lowered::Lowered;
+use crate::lowered::sinking::sunk_over;
+use crate::lowering::convolution::convolution_of;
+use crate::lowering::part::Part;
+use crate::lowering::ready::{contraction_of, reduction_of};
+use crate::lowering::{lower, lower_two};
 use crate::operands::reduction::Reduction;
-use crate::placed::Placed;
-use crate::placed::settling::settled_over;
-use crate::placing::convolution::convolution_of;
-use crate::placing::part::Part;
-use crate::placing::ready::{contraction_of, reduction_of};
-use crate::placing::{place, place_two};
 use std::alloc::{AllocError, Allocator, Global};
 use tensor_kernels::Contraction;
 use tensor_shape::Dims;
 use tensor_terms::{Binary, Expr, Node, Tensors, Unary};
 
-/// How many places of operands are worked out, all together, when an expression is placed: 256 KiB
+/// How many places of operands are worked out, all together, when an expression is lowered: 256 KiB
 /// of values.
-pub(crate) const KEPT: usize = 32_768;
+pub(crate) const MOST_STORED: usize = 32_768;
 
 /// What the values of an expression are asked of: a reduction or a contraction where that is its
 /// last operation.
 pub(crate) enum Root<'a> {
-    Placed(Placed<'a>),
+    Lowered(Lowered<'a>),
     Reduction(Reduction<'a>),
     Contraction(Contraction<'a>),
 }
@@ -40,7 +40,7 @@ pub(crate) enum Root<'a> {
 impl Drop for Root<'_> {
     fn drop(self) {
         match self {
-            Root::Placed(_) | Root::Reduction(_) | Root::Contraction(_) => {}
+            Root::Lowered(_) | Root::Reduction(_) | Root::Contraction(_) => {}
         }
     }
 }
@@ -62,26 +62,26 @@ impl<'a> Root<'a> {
         ensures dims { IfOk result (λ r.
             r.1 ≡ shape_of (term_of expr.now) (tensors_in tensors.entry)) }
     {
-        let mut room = KEPT;
+        let mut room = MOST_STORED;
         match expr.node() {
             Node::Unary(Unary::Reduce(reducer, axes), operand) => {
-                let operand = place(alloc, operand, tensors, &mut room)?;
+                let operand = lower(alloc, operand, tensors, &mut room)?;
                 let (reduction, dims) = reduction_of(alloc, reducer, axes, operand)?;
                 Ok((Root::Reduction(reduction), dims))
             }
             Node::Binary(Binary::Contract(pairs), first, second) => {
-                let (first, second) = place_two(alloc, first, second, tensors, &mut room)?;
+                let (first, second) = lower_two(alloc, first, second, tensors, &mut room)?;
                 let (contraction, dims) = contraction_of(alloc, pairs, first, second)?;
                 Ok((Root::Contraction(contraction), dims))
             }
             Node::Binary(Binary::Convolve(axes), operand, kernel) => {
-                let (operand, kernel) = place_two(alloc, operand, kernel, tensors, &mut room)?;
+                let (operand, kernel) = lower_two(alloc, operand, kernel, tensors, &mut room)?;
                 let (contraction, dims) = convolution_of(alloc, axes, operand, kernel)?;
                 Ok((Root::Contraction(contraction), dims))
             }
             _ => {
-                let part = place_settled(alloc, expr, tensors, &mut room)?;
-                Ok((Root::Placed(part.placed), part.dims))
+                let part = lower_and_sink(alloc, expr, tensors, &mut room)?;
+                Ok((Root::Lowered(part.lowered), part.dims))
             }
         }
     }
@@ -102,7 +102,7 @@ impl<'a> Root<'a> {
             ≡ map (root_value self.now) (range_with_len first (last - first))) }
     {
         match self {
-            Root::Placed(placed) => placed.values(alloc, target, first, last),
+            Root::Lowered(lowered) => lowered.values(alloc, target, first, last),
             Root::Reduction(reduction) => reduction.values(target, first, last),
             Root::Contraction(contraction) => contraction.values(target, first, last),
         }
@@ -125,7 +125,7 @@ impl<'a> Root<'a> {
             → value_in out.new k ≡ root_value self.now (first + k)) }
     {
         match self {
-            Root::Placed(placed) => placed.fill(alloc, first, last, out)?,
+            Root::Lowered(lowered) => lowered.fill(alloc, first, last, out)?,
             Root::Reduction(reduction) => reduction.fill(first, out),
             Root::Contraction(contraction) => contraction.fill(first, out)?,
         }
@@ -133,8 +133,8 @@ impl<'a> Root<'a> {
     }
 }
 
-/// An expression, placed and settled.
-fn place_settled<'a>(
+/// An expression, lowered and sunk.
+fn lower_and_sink<'a>(
     alloc: Global,
     expr: &Expr,
     tensors: Tensors<'a>,
@@ -142,17 +142,17 @@ fn place_settled<'a>(
 ) -> Result<Part<'a>, AllocError>
     requires inputs { IsTrue (has_inputs (term_of expr.now) (length (tensors_in tensors))) }
     requires dims { IsOk (dims_of widest (term_of expr.now) (tensors_in tensors)) }
-    ensures placed { IfOk result (λ r.
-        Gives r.placed r.dims (value (term_of expr.now) (tensors_in tensors.entry))) }
+    ensures lowered { IfOk result (λ r.
+        Gives r.lowered r.dims (value (term_of expr.now) (tensors_in tensors.entry))) }
     ensures dims { IfOk result (λ r.
         r.dims ≡ shape_of (term_of expr.now) (tensors_in tensors.entry)) }
 {
-    let part = place(alloc, expr, tensors, room)?;
+    let part = lower(alloc, expr, tensors, room)?;
     let dims = part.dims;
     let pieces = part.pieces;
-    let placed = settled_over(alloc, part.placed, &dims)?;
+    let lowered = sunk_over(alloc, part.lowered, &dims)?;
     Ok(Part {
-        placed,
+        lowered,
         dims,
         pieces,
     })

@@ -5,7 +5,7 @@ ghost use Rattle.std.specs.Prelude.{◌≡◌, ◌<◌, ◌≤◌, ℕ, length, 
 ghost use Rattle.std.specs.Cow.{cow_slice_items};
 ghost use Rattle.tensor_shape.specs.Legal.{most_elements};
 ghost use Rattle.tensor_values.specs.Values.{value_in};
-ghost use Rattle.tensor_views.specs.View.{walk_size, reached};
+ghost use Rattle.tensor_views.specs.View.{view_size, reached};
 
 use std::alloc::{AllocError, Global};
 use std::borrow::CowSlice;
@@ -17,7 +17,7 @@ use tensor_views::{Places, Reading, View};
 pub(crate) struct Viewed<'a> {
     pub(crate) list: CowSlice<'a, i64, Global>,
     pub(crate) view: View,
-    ghost inside: { (p : ℕ) → p < walk_size view.axes.items
+    ghost inside: { (p : ℕ) → p < view_size view.axes.items
         → reached view.start view.axes.items p < length (cow_slice_items list) },
     ghost few: { length (cow_slice_items list) ≤ most_elements },
 }

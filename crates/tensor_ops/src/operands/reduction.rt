@@ -50,7 +50,7 @@ pub(crate) struct Reduction<'a> {
 impl<'a> Reduction<'a> {
     ghost use Rattle.tensor_ops.specs.private.Reduced.{places_of_result, combined_at, reduction_at};
     ghost use Rattle.tensor_terms.specs.Reduction.{reduced};
-    ghost use Rattle.tensor_terms.specs.Woven.{other_dims};
+    ghost use Rattle.tensor_terms.specs.Merged.{other_dims};
 
     /// A reduction of the values of a tensor over axes. Those past its rank are left out.
     /// Takes eight bytes for each index list of the kept axes after the first run, and for each of

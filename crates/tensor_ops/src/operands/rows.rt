@@ -11,14 +11,14 @@ ghost use Rattle.tensor_ops.specs.private.Operand.{operand_at, operand_count, vi
 ghost use Rattle.tensor_ops.specs.private.Operand.{viewed_value};
 ghost use Rattle.tensor_ops.specs.private.OperandRows.{IsOperand};
 ghost use Rattle.tensor_kernels.specs.Rows.{row_count, row_length, row_value};
-ghost use Rattle.tensor_ops.specs.private.Slid.{IsOneRow};
+ghost use Rattle.tensor_ops.specs.private.Windows.{IsOneRow};
 
 use crate::operands::operand::{Operand, Viewed};
 use std::alloc::{AllocError, Global};
 use std::borrow::CowSlice;
 use tensor_kernels::Rows;
 use tensor_shape::Dims;
-use tensor_views::{ViewRef, are_apart, lead, tables};
+use tensor_views::{ViewRef, are_apart, map_through, tables};
 
 /// An operand of these dims, whose paired axes are these, in their order. Takes a number for
 /// each of its rows, and one for each value of a row. A list along a view is not stored once
@@ -58,7 +58,7 @@ fn rows_in_order<'a>(
     Ok(Rows::new(values, starts, offsets))
 }
 
-/// An operand whose values lie in a list along a view, which both tables are led along: the
+/// An operand whose values lie in a list along a view, which both tables are mapped along: the
 /// offsets from no start, since each is added to a row's.
 fn rows_along<'a>(
     alloc: Global,
@@ -83,8 +83,8 @@ fn rows_along<'a>(
         start: 0,
         axes: view.axes,
     };
-    lead(&mut starts, view);
-    lead(&mut offsets, from_none);
+    map_through(&mut starts, view);
+    map_through(&mut offsets, from_none);
     Ok(Rows::new(viewed.list, starts, offsets))
 }
 

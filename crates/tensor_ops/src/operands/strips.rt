@@ -9,7 +9,7 @@ ghost use Rattle.tensor_shape.specs.Index.{size_of};
 ghost use Rattle.tensor_shape.specs.Legal.{most_elements};
 ghost use Rattle.tensor_values.specs.Values.{value_in};
 ghost use Rattle.tensor_terms.specs.Reduction.{are_axes};
-ghost use Rattle.tensor_terms.specs.Woven.{dims_at};
+ghost use Rattle.tensor_terms.specs.Merged.{dims_at};
 ghost use Rattle.tensor_ops.specs.private.OperandRows.{IsOperand};
 ghost use Rattle.tensor_kernels.specs.Strips.{strip_count, strip_length, strip_value};
 

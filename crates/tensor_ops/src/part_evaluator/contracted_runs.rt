@@ -9,10 +9,10 @@ ghost use Rattle.tensor_shape.specs.Index.{size_of};
 ghost use Rattle.tensor_shape.specs.Legal.{most_elements};
 ghost use Rattle.tensor_kernels.specs.Contracting.{contraction_count, contraction_value};
 ghost use Rattle.tensor_loops.specs.Folds.{folded};
-ghost use Rattle.tensor_ops.specs.private.Placing.{contraction_at};
+ghost use Rattle.tensor_ops.specs.private.Lowering.{contraction_at};
 ghost use Rattle.tensor_ops.specs.private.Runs.{LieInRuns};
 ghost use Rattle.tensor_terms.specs.Reduction.{are_axes};
-ghost use Rattle.tensor_terms.specs.Woven.{others};
+ghost use Rattle.tensor_terms.specs.Merged.{others};
 ghost use Rattle.tensor_values.specs.Combining.{unit};
 
 use std::alloc::{AllocError, Allocator, Global};

@@ -8,19 +8,19 @@ ghost use Rattle.tensor_shape.specs.Legal.{widest};
 ghost use Rattle.tensor_kernels.specs.Contracting.{contraction_count};
 ghost use Rattle.tensor_ops.specs.private.Meaning.{count_of, IsSound};
 ghost use Rattle.tensor_ops.specs.Parts.{has_parts};
-ghost use Rattle.tensor_ops.specs.private.Placing.{contraction_at, meaning_at};
+ghost use Rattle.tensor_ops.specs.private.Lowering.{contraction_at, meaning_at};
 ghost use Rattle.tensor_terms.specs.Result.{dims_of};
 ghost use Rattle.tensor_terms.specs.Tensors.{tensors_in};
 ghost use Rattle.tensor_terms.specs.Term.{has_inputs, unary, reduce};
 ghost use Rattle.tensor_terms.specs.Tree.{term_of};
 
-use crate::evaluator::root::KEPT;
+use crate::evaluator::root::MOST_STORED;
+use crate::lowered::PIECE;
+use crate::lowering::part::Part;
+use crate::lowering::ready::{contraction_of, worked_out};
+use crate::lowering::{lower, lower_two};
 use crate::part_evaluator::contracted_runs::ContractedRuns;
 use crate::part_evaluator::value_runs::{ValueRuns, come_first};
-use crate::placed::PIECE;
-use crate::placing::part::Part;
-use crate::placing::ready::{contraction_of, worked_out};
-use crate::placing::{place, place_two};
 use std::alloc::{AllocError, Allocator, Global};
 use tensor_kernels::Contraction;
 use tensor_shape::Dims;
@@ -59,8 +59,8 @@ impl<'a> InRuns<'a> {
                 InRuns::of_reduction(alloc, reducer, axes, operand, tensors)
             }
             Node::Binary(Binary::Contract(pairs), first, second) => {
-                let mut room = KEPT;
-                let (first, second) = place_two(alloc, first, second, tensors, &mut room)?;
+                let mut room = MOST_STORED;
+                let (first, second) = lower_two(alloc, first, second, tensors, &mut room)?;
                 let (firsts, seconds) = paired_axes(pairs, &first.dims).unwrap();
                 let left = ValueRuns::along(alloc, firsts.as_slice(), first, &mut room)?;
                 let right = ValueRuns::along(alloc, seconds.as_slice(), second, &mut room)?;
@@ -84,15 +84,15 @@ impl<'a> InRuns<'a> {
         ensures { IfOk result (λ r. GivesParts r
             (unary (reduce reducer axes.now) (term_of operand.now)) (tensors_in tensors.entry)) }
     {
-        let mut room = KEPT;
+        let mut room = MOST_STORED;
         match operand.node() {
             Node::Binary(Binary::Contract(pairs), first, second) => {
-                let (first, second) = place_two(alloc, first, second, tensors, &mut room)?;
+                let (first, second) = lower_two(alloc, first, second, tensors, &mut room)?;
                 let (contraction, dims) = contraction_of(alloc, pairs, first, second)?;
                 InRuns::of_contraction(alloc, reducer, axes, contraction, dims)
             }
             _ => {
-                let operand = place(alloc, operand, tensors, &mut room)?;
+                let operand = lower(alloc, operand, tensors, &mut room)?;
                 InRuns::of_values(alloc, reducer, axes, operand, &mut room)
             }
         }
@@ -124,7 +124,7 @@ impl<'a> InRuns<'a> {
         InRuns::of_values(alloc, reducer, axes, operand, &mut room)
     }
 
-    /// The runs of a reduction of placed values.
+    /// The runs of a reduction of lowered values.
     fn of_values(
         alloc: Global,
         reducer: Reducer,
@@ -132,10 +132,10 @@ impl<'a> InRuns<'a> {
         operand: Part<'a>,
         room: &mut usize,
     ) -> Result<InRuns<'a>, AllocError>
-        requires sound { IsSound operand.placed }
-        requires count { count_of operand.placed ≡ size_of operand.dims }
+        requires sound { IsSound operand.lowered }
+        requires count { count_of operand.lowered ≡ size_of operand.dims }
         ensures { IfOk result (λ r. GivesReduced r reducer axes.now operand.entry.dims
-            (meaning_at operand.entry.placed operand.entry.dims)) }
+            (meaning_at operand.entry.lowered operand.entry.dims)) }
     {
         let dropped = all_among(axes, operand.dims.rank());
         let runs = ValueRuns::along(alloc, dropped.as_slice(), operand, room)?;

@@ -11,18 +11,18 @@ ghost use Rattle.tensor_shape.specs.Wrap.{wrap};
 ghost use Rattle.tensor_loops.specs.Folds.{folded};
 ghost use Rattle.tensor_ops.specs.private.Meaning.{meaning, count_of, IsSound, IsSound-prop};
 ghost use Rattle.tensor_terms.specs.Movement.{moved, moved_dims};
-ghost use Rattle.tensor_ops.specs.private.Placing.{Gives, meaning_at};
+ghost use Rattle.tensor_ops.specs.private.Lowering.{Gives, meaning_at};
 ghost use Rattle.tensor_ops.specs.private.Runs.{LieInRuns};
 ghost use Rattle.tensor_kernels.specs.Products.{sum_to};
 ghost use Rattle.tensor_terms.specs.Reduction.{are_axes};
 ghost use Rattle.tensor_values.specs.Combining.{unit};
 ghost use Rattle.tensor_terms.specs.Term.{shuffle};
-ghost use Rattle.tensor_terms.specs.Woven.{others};
+ghost use Rattle.tensor_terms.specs.Merged.{others};
 
-use crate::placed::settling::settled_over;
-use crate::placed::{PIECE, Placed, values_at};
-use crate::placing::part::Part;
-use crate::placing::place_movement;
+use crate::lowered::sinking::sunk_over;
+use crate::lowered::{Lowered, PIECE, values_at};
+use crate::lowering::lower_movement;
+use crate::lowering::part::Part;
 use std::alloc::{AllocError, Allocator, Global};
 use std::borrow::CowSlice;
 use tensor_kernels::sum_with_products;
@@ -31,17 +31,17 @@ use tensor_terms::{Movement, axes_first, dims_at, other_dims};
 use tensor_values::Reducer;
 use tensor_views::Places;
 
-/// Runs of values, one after the other. Nothing of them is held but what the placed expression
+/// Runs of values, one after the other. Nothing of them is held but what the lowered expression
 /// reads.
 #[derive(Drop)]
 pub(crate) struct ValueRuns<'a> {
-    placed: Placed<'a>,
+    lowered: Lowered<'a>,
     /// How many values a run has.
     pub(crate) length: usize,
     /// How many runs there are.
     pub(crate) count: usize,
-    ghost sound: { IsSound placed } by { IsSound-prop placed },
-    ghost whole: { count_of placed ≡ length * count },
+    ghost sound: { IsSound lowered } by { IsSound-prop lowered },
+    ghost whole: { count_of lowered ≡ length * count },
     ghost few: { length * count ≤ most_elements },
 }
 
@@ -55,21 +55,21 @@ impl<'a> ValueRuns<'a> {
         operand: Part<'a>,
         room: &mut usize,
     ) -> Result<ValueRuns<'a>, AllocError>
-        requires sound { IsSound operand.placed }
-        requires count { count_of operand.placed ≡ size_of operand.dims }
+        requires sound { IsSound operand.lowered }
+        requires count { count_of operand.lowered ≡ size_of operand.dims }
         requires axes { are_axes (length operand.dims) axes.now ≡ true }
-        ensures { IfOk result (λ r. LieInRuns (meaning r.placed) r.length r.count
+        ensures { IfOk result (λ r. LieInRuns (meaning r.lowered) r.length r.count
             operand.entry.dims axes.now
-            (meaning_at operand.entry.placed operand.entry.dims)) }
+            (meaning_at operand.entry.lowered operand.entry.dims)) }
     {
         let length = dims_at(axes, &operand.dims).size() as usize;
         let count = other_dims(axes, &operand.dims).size() as usize;
         let fronted = with_axes_first(alloc, axes, operand, room)?;
         // Says that there are no more values than dims can have.
         let _values = fronted.dims.size();
-        let placed = settled_over(alloc, fronted.placed, &fronted.dims)?;
+        let lowered = sunk_over(alloc, fronted.lowered, &fronted.dims)?;
         Ok(ValueRuns {
-            placed,
+            lowered,
             length,
             count,
         })
@@ -92,7 +92,7 @@ impl<'a> ValueRuns<'a> {
         let start = self.length * run;
         values_at(
             alloc,
-            &self.placed,
+            &self.lowered,
             &Places::Run(first + start, last + start),
         )
     }
@@ -167,7 +167,7 @@ impl<'a> ValueRuns<'a> {
         ensures capacity { OnOk result (vec_capacity values.new ≡ vec_capacity values.old) }
     {
         let (from, to) = (self.length * first, self.length * last);
-        let piece = values_at(alloc, &self.placed, &Places::Run(from, to))?;
+        let piece = values_at(alloc, &self.lowered, &Places::Run(from, to))?;
         add_combined(reducer, piece.as_slice(), self.length, last - first, values);
         Ok(())
     }
@@ -211,21 +211,21 @@ fn with_axes_first<'a>(
     operand: Part<'a>,
     room: &mut usize,
 ) -> Result<Part<'a>, AllocError>
-    requires sound { IsSound operand.placed }
-    requires count { count_of operand.placed ≡ size_of operand.dims }
+    requires sound { IsSound operand.lowered }
+    requires count { count_of operand.lowered ≡ size_of operand.dims }
     requires axes { are_axes (length operand.dims) axes.now ≡ true }
     ensures dims { IfOk result (λ r. moved_dims widest
         (shuffle (axes.now ++ others axes.now (length operand.entry.dims))) operand.entry.dims
         ≡ Ok r.dims) }
-    ensures placed { IfOk result (λ r. Gives r.placed r.dims (λ index.
-        meaning_at operand.entry.placed operand.entry.dims (moved
+    ensures lowered { IfOk result (λ r. Gives r.lowered r.dims (λ index.
+        meaning_at operand.entry.lowered operand.entry.dims (moved
         (shuffle (axes.now ++ others axes.now (length operand.entry.dims))) operand.entry.dims index))) }
 {
     if come_first(axes, operand.dims.rank()) {
         return Ok(operand);
     }
     let order = axes_first(axes, operand.dims.rank());
-    place_movement(alloc, Movement::Shuffle(order.as_slice()), operand, room)
+    lower_movement(alloc, Movement::Shuffle(order.as_slice()), operand, room)
 }
 
 /// Whether these axes, in this order, are the first ones of so many.

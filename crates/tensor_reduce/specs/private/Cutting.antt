@@ -18,7 +18,7 @@ pub record IsCut (inputs : List Contents) (whole : Bool) (t : Term) (old new : L
   pub dims : dims_of widest t inputs ≡ Ok (dims_of_step left)
 
 -- steps to which a node was added where it is one, and what is left of it
-pub record IsSettled (inputs : List Contents) (is_step : Bool) (node : Step)
+pub record IsSplitOff (inputs : List Contents) (is_step : Bool) (node : Step)
     (old new : List Step) (rest : Step) : Type 0 where
   pub steps : new ≡ (if is_step then old ++ node ∷ [] else old)
   pub term : term_of_step rest

@@ -5,7 +5,7 @@ use Rattle.tensor_terms.specs.Contents.{Contents}
 use Rattle.tensor_terms.specs.Contraction.{firsts, seconds}
 use Rattle.tensor_terms.specs.Result.{shape_of}
 use Rattle.tensor_terms.specs.Term.{Term}
-use Rattle.tensor_terms.specs.Woven.{dims_at, other_dims}
+use Rattle.tensor_terms.specs.Merged.{dims_at, other_dims}
 use Rattle.tensor_terms.specs.declared.cursor.Pairing.{Pairing}
 
 -- both terms' dims, the paired axes of each, and the sizes of the first's paired and other dims

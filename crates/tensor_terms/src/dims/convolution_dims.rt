@@ -1,7 +1,7 @@
 //! The result dims of convolutions.
 
 ghost use Rattle.std.specs.Prelude.{◌≡◌, length, true};
-ghost use Rattle.tensor_terms.specs.Convolution.{convolved_dims, fit_along, slid_dims};
+ghost use Rattle.tensor_terms.specs.Convolution.{convolved_dims, fit_along, window_dims};
 ghost use Rattle.tensor_terms.specs.Reduction.{are_axes};
 
 use crate::dims::contraction_dims::MOST_PRODUCTS;
@@ -24,11 +24,11 @@ pub fn convolved_dims(axes: &[u64], dims: &Dims, kernel: &Dims) -> Result<Dims, 
     if !fit_along(axes, kernel.as_slice(), dims.as_slice()) {
         return Err(ExprFault::OutOfRange);
     }
-    let slid = slid_dims(axes, kernel.as_slice(), dims);
-    if slid.size() * kernel.size() > MOST_PRODUCTS {
+    let window_index = window_dims(axes, kernel.as_slice(), dims);
+    if window_index.size() * kernel.size() > MOST_PRODUCTS {
         return Err(ExprFault::TooLarge);
     }
-    Ok(slid)
+    Ok(window_index)
 }
 
 /// Whether each dimension of a kernel is from 1 to that of its axis.
@@ -47,18 +47,18 @@ fn fit_along(axes: &[u64], kernel: &[u64], sizes: &[u64]) -> bool
 
 /// How many places a kernel has along each of its axes, where it stays within the dims. They are
 /// legal, since no dimension grows.
-fn slid_dims(axes: &[u64], kernel: &[u64], dims: &Dims) -> Dims
+fn window_dims(axes: &[u64], kernel: &[u64], dims: &Dims) -> Dims
     requires axes { are_axes (length dims.now) axes.now ≡ true }
     requires kernel { length kernel.now ≡ length axes.now }
     requires fits { fit_along axes.now kernel.now dims.now ≡ true }
-    ensures { result ≡ slid_dims axes.now kernel.now dims.now }
+    ensures { result ≡ window_dims axes.now kernel.now dims.now }
 {
     let sizes = dims.as_slice();
-    let mut slid = PerAxis::new();
-    extend(&mut slid, sizes);
+    let mut window_index = PerAxis::new();
+    extend(&mut window_index, sizes);
     for k in (0..axes.len()).rev() {
         let axis = axes[k] as usize;
-        slid[axis] = sizes[axis] - kernel[k] + 1;
+        window_index[axis] = sizes[axis] - kernel[k] + 1;
     }
-    legal_dims(WIDEST, slid.as_slice()).unwrap()
+    legal_dims(WIDEST, window_index.as_slice()).unwrap()
 }

@@ -4,12 +4,12 @@ ghost use Rattle.std.specs.Prelude.{◌≡◌, ◌≤◌, ◌<◌, ◌++◌, len
 ghost use Rattle.tensor_shape.specs.Index.{size_of, place, index_of};
 ghost use Rattle.tensor_shape.specs.Legal.{highest_rank};
 ghost use Rattle.tensor_terms.specs.Reduction.{are_axes};
-ghost use Rattle.tensor_terms.specs.Woven.{among, others, dims_at, other_dims, woven};
+ghost use Rattle.tensor_terms.specs.Merged.{among, others, dims_at, other_dims, merged};
 
 use crate::dims::movement_dims::{extend, shuffled_dims};
 use crate::expr::node::Movement;
+use crate::index::merged::{among, others};
 use crate::index::moved_index::moved_place;
-use crate::index::woven::{among, others};
 use tensor_shape::{Dims, PerAxis};
 
 /// Which axes of so many are among these, in order.
@@ -45,11 +45,11 @@ pub fn other_dims(axes: &[u64], dims: &Dims) -> Dims
 
 /// The place in dims of an index list in two parts, from the place of its numbers at some axes and
 /// that of those at the others: what a shuffle reads that has these axes first.
-pub(crate) fn woven_place(axes: &[u64], dims: &Dims, inner: u64, outer: u64) -> u64
+pub(crate) fn merged_place(axes: &[u64], dims: &Dims, inner: u64, outer: u64) -> u64
     requires axes { are_axes (length dims.now) axes.now ≡ true }
     requires inner { inner < size_of (dims_at axes.now dims.now) }
     requires outer { outer < size_of (other_dims axes.now dims.now) }
-    ensures value { result ≡ place dims.now (woven axes.now dims.now
+    ensures value { result ≡ place dims.now (merged axes.now dims.now
         (index_of (dims_at axes.now dims.now) inner)
         (index_of (other_dims axes.now dims.now) outer)) }
     ensures below { result < size_of dims.now }

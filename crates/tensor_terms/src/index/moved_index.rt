@@ -128,13 +128,13 @@ fn mirrored(flags: &[bool], sizes: &[u64], index: &[u64]) -> PerAxis
 {
     let mut read = PerAxis::new();
     for axis in 0..sizes.len() {
-        read.push(turned(flags[axis], sizes[axis], index[axis]));
+        read.push(swapped(flags[axis], sizes[axis], index[axis]));
     }
     read
 }
 
 /// An index, or where the axis is flagged what is left above it.
-fn turned(flag: bool, size: u64, index: u64) -> u64
+fn swapped(flag: bool, size: u64, index: u64) -> u64
     requires { index < size }
     ensures { result ≡ (if flag then size - 1 - index else index) }
 {

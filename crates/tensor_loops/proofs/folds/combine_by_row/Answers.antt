@@ -14,12 +14,12 @@ loop-t-preserved c =
     let from : ℕ = c.args.start + t * c.args.step in
     let to : ℕ = from + length c.args.row.now in
     record {
-      len = omega (arith, c.combine_row.ensures.len, c.loop-t.invariant.len);
+      len = omega (arith, c.fold_row.ensures.len, c.loop-t.invariant.len);
       each = λ i below.
           let x = value_in c.args.row.now i in
           let f : ℕ → ℤ = λ s. value_in values (c.args.start + i + s * c.args.step) in
           let here : from + i ≡ c.args.start + i + t * c.args.step = omega arith in
-          c.combine_row.ensures.each i (omega (arith, c.loop-t.invariant.len))
+          c.fold_row.ensures.each i (omega (arith, c.loop-t.invariant.len))
           ∙ ap (λ y. combine c.args.reducer y (value_in (between from to values) i))
           (c.loop-t.invariant.each i below)
           ∙ ap (combine c.args.reducer (folded c.args.reducer x f t))

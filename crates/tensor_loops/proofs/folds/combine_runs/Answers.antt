@@ -8,8 +8,8 @@ use Rattle.tensor_loops.proofs.folds.combine_runs.Goals as goal
 next : (k n : ℕ) → (k + 1) * n ≡ k * n + n
 next k n = grind arith
 
-turned : (m n : ℕ) → m * n ≡ n * m
-turned m n = grind arith
+swapped : (m n : ℕ) → m * n ≡ n * m
+swapped m n = grind arith
 
 pub combine_run-requires-clause-inside : goal.combine_run-requires-clause-inside
 combine_run-requires-clause-inside c = λ i t in_row in_run.
@@ -22,7 +22,7 @@ combine_run-requires-clause-inside c = λ i t in_row in_run.
       arith,
       place,
       c.requires.inside i (k * c.args.run + t) (omega (arith, c.loop-offset.invariant.len))
-          (omega (arith, within, turned all c.args.run)),
+          (omega (arith, within, swapped all c.args.run)),
     )
 
 pub loop-offset-preserved : goal.loop-offset-preserved

@@ -14,7 +14,7 @@ returns-then-from-to-clause-items c =
     let from = c.args.from in
     let to = c.args.to in
     let values = c.args.values.now in
-    let rises : axis.falls ≡ false = not-true axis.falls c.if-not-axis.true in
+    let rises : axis.reversed ≡ false = not-true axis.reversed c.if-not-axis.true in
     let last = rw (rises, c.if-axis-eq1.true) at (c.requires.inside (to - 1) (omega arith) (omega arith)) in
     let long : row + to - (row + from) ≡ to - from = omega arith in
     let part : take (row + to - (row + from)) (drop (row + from) values)

@@ -5,7 +5,7 @@ use Rattle.tensor_loops.proofs.loops.combine.Goals as goal
 
 pub returns-clause-each : goal.returns-clause-each
 returns-clause-each c = λ k below.
-    let o = either_way c.args.link.operation c.args.link.turned in
+    let o = either_way c.args.link.operation c.args.link.swapped in
     let start : 0 + k ≡ k = omega arith in
     ap (λ j. get_or c.combine_row.new.values j (pos 0)) (sym start)
     ∙ c.combine_row.ensures.each k (omega (arith, below, c.whole.ensures.count))

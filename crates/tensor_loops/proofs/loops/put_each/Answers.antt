@@ -11,7 +11,7 @@ pub loop-place-preserved : goal.loop-place-preserved
 loop-place-preserved c =
     let vs = c.loop-place.values in
     let i = c.loop-place.place in
-    let o = either_way c.args.operation c.args.turned in
+    let o = either_way c.args.operation c.args.swapped in
     let xs = c.args.first.now in
     let ys = c.args.second.now in
     let fits : SFits w64 c.either_way.result = search rules in

@@ -7,6 +7,6 @@ abbrev pub invariant-loop-place : goal.invariant-loop-place
 invariant-loop-place l = record {
   len : length l.values ≡ length l.first;
   each : (k : ℕ) → k < l.place → slice_index_or l.values k (pos 0)
-      ≡ either_way l.link.operation l.link.turned (slice_index_or l.first k (pos 0))
+      ≡ either_way l.link.operation l.link.swapped (slice_index_or l.first k (pos 0))
       (slice_index_or l.second k (pos 0));
 }

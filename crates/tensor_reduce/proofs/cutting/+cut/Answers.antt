@@ -10,16 +10,16 @@ returns-in_ok-over-in-Unary t c =
     let first = c.in_ok-cut-in-Unary in
     let u = c.into_parts-a in
     let node = c.new-node in
-    IfOk-then c.settle.result _ _
+    IfOk-then c.split_off.result _ _
     (λ rest done.
     cut-unary c.args.inputs.now.tensors c.args.whole c.combines-combining.result
     (unary_at c.in-Unary.operation) (term_of c.in-Unary.a.now)
     (term_of c.args.expr.now) (term_of u.result.0) c.args.steps.now.items c.cut.new.steps.items
-    c.settle.new.steps.items
+    c.split_off.new.steps.items
     first.field-0 node.result rest c.in-Unary.ensures c.combines-combining.ensures first.ensures
     (node.ensures.term ∙ c.in_ok-over-in-Unary.ensures) u.ensures.expr
     (c.dims_over-dims.ensures ∙ ap Ok (sym node.ensures.dims)) done)
-    c.settle.ensures
+    c.split_off.ensures
 
 pub returns-in_ok-over-in-Binary : goal.returns-in_ok-over-in-Binary
 returns-in_ok-over-in-Binary t c =
@@ -28,19 +28,19 @@ returns-in_ok-over-in-Binary t c =
     let u = c.into_parts-a-in-Binary in
     let v = c.into_parts-b in
     let node = c.new-node-in-Binary in
-    IfOk-then c.settle-in-Binary.result _ _
+    IfOk-then c.split_off-in-Binary.result _ _
     (λ rest done.
     cut-binary c.args.inputs.now.tensors c.args.whole c.combines_two-combining.result
     (binary_at c.in-Binary.operation) (term_of c.in-Binary.a.now)
     (term_of c.in-Binary.b.now) (term_of c.args.expr.now) (term_of u.result.0) (term_of v.result.0)
     c.args.steps.now.items
     c.cut-in-Binary.new.steps.items c.cut-in-Binary-2.new.steps.items
-    c.settle-in-Binary.new.steps.items
+    c.split_off-in-Binary.new.steps.items
     first.field-0 second.field-0 node.result rest c.in-Binary.ensures
     c.combines_two-combining.ensures first.ensures second.ensures
     (node.ensures.term ∙ c.in_ok-over-in-Binary.ensures) u.ensures.expr v.ensures.expr
     (c.dims_over-dims-in-Binary.ensures ∙ ap Ok (sym node.ensures.dims)) done)
-    c.settle-in-Binary.ensures
+    c.split_off-in-Binary.ensures
 
 pub returns-in_ok-over-in-Ternary : goal.returns-in_ok-over-in-Ternary
 returns-in_ok-over-in-Ternary t c =
@@ -51,7 +51,7 @@ returns-in_ok-over-in-Ternary t c =
     let v = c.into_parts-b-in-Ternary in
     let w = c.into_parts-c in
     let node = c.new-node-in-Ternary in
-    IfOk-then c.settle-in-Ternary.result _ _
+    IfOk-then c.split_off-in-Ternary.result _ _
     (λ rest done.
     cut-ternary c.args.inputs.now.tensors c.args.whole (ternary_at c.in-Ternary.operation)
     (term_of c.in-Ternary.a.now) (term_of c.in-Ternary.b.now)
@@ -59,12 +59,12 @@ returns-in_ok-over-in-Ternary t c =
     (term_of v.result.0) (term_of w.result.0)
     c.args.steps.now.items c.cut-in-Ternary.new.steps.items c.cut-in-Ternary-2.new.steps.items
     c.cut-in-Ternary-3.new.steps.items
-    c.settle-in-Ternary.new.steps.items first.field-0 second.field-0 third.field-0 node.result rest
+    c.split_off-in-Ternary.new.steps.items first.field-0 second.field-0 third.field-0 node.result rest
     c.in-Ternary.ensures first.ensures second.ensures third.ensures
     (node.ensures.term ∙ c.in_ok-over-in-Ternary.ensures)
     u.ensures.expr v.ensures.expr w.ensures.expr
     (c.dims_over-dims-in-Ternary.ensures ∙ ap Ok (sym node.ensures.dims)) done)
-    c.settle-in-Ternary.ensures
+    c.split_off-in-Ternary.ensures
 
 pub cut-requires : goal.cut-requires
 cut-requires t c =

@@ -10,20 +10,20 @@ use Rattle.tensor_shape.specs.Legal.{widest}
 use Rattle.tensor_shape.specs.Index.{size_of, place, index_of}
 use Rattle.tensor_terms.specs.Concatenation.{concatenated_dims}
 use Rattle.tensor_terms.specs.Padding.{padded_dims, is_inside, moved_back}
-use Rattle.tensor_values.specs.Splicing.{is_of_first}
+use Rattle.tensor_values.specs.Interleaving.{is_of_first}
 use Rattle.tensor_shape.specs.Wrap.{wrap}
 use Rattle.tensor_terms.specs.Result.{dims_of, shape_of}
 use Rattle.tensor_terms.specs.Term.{Term, unary, binary, Movement, movement, pad, concat}
 use Rattle.tensor_terms.specs.Term.{contract, convolve, reduce, has_inputs, nodes_of}
 use Rattle.tensor_terms.specs.Tree.{term_of, movement_at, unary_at, binary_at}
 use Rattle.tensor_terms.specs.Value.{value_of_place}
-use Rattle.tensor_terms.specs.Woven.{other_dims}
-use Rattle.tensor_terms.proofs.ConvolvedTerms.{convolved-known, SlidOver, slid-outer, slid-init}
-use Rattle.tensor_terms.proofs.ConvolvedTerms.{slid-next, slid-last}
+use Rattle.tensor_terms.specs.Merged.{other_dims}
+use Rattle.tensor_terms.proofs.ConvolvedTerms.{convolved-known, WindowOver, window_index-outer, window_index-init}
+use Rattle.tensor_terms.proofs.ConvolvedTerms.{window_index-next, window_index-last}
 use Rattle.tensor_terms.proofs.Dropped.{other_dims-among}
 use Rattle.tensor_terms.proofs.OtherAxes.{are_axes-among}
-use Rattle.tensor_values.proofs.InTurns.{spliced-first, spliced-second}
-use Rattle.tensor_terms.proofs.SplicedTerms.{concat-dims, places-concat, value_of_place-concat, value_of_place-pad}
+use Rattle.tensor_values.proofs.InTurns.{interleaved-first, interleaved-second}
+use Rattle.tensor_terms.proofs.InterleavedTerms.{concat-dims, places-concat, value_of_place-concat, value_of_place-pad}
 use Rattle.tensor_terms.proofs.Shapes.{with_two-known, place_read, value_of_place-input, value_of_place-movement}
 use Rattle.tensor_terms.proofs.Terms.{reduced-known, ReducedOver, reduced-init, reduced-next}
 use Rattle.tensor_terms.proofs.Terms.{reduced-last}
@@ -190,15 +190,15 @@ reduced_at-dims_at-requires t c =
     rw (c.as_slice.ensures.value, c.all_among-dropped.ensures, c.rank.ensures.value)
     (are_axes-among c.args.axes.now (length c.known_dims-dims.result))
 
-pub reduced_at-woven_place-read-requires-clause-axes :
-    goal.reduced_at-woven_place-read-requires-clause-axes
-reduced_at-woven_place-read-requires-clause-axes t c =
+pub reduced_at-merged_place-read-requires-clause-axes :
+    goal.reduced_at-merged_place-read-requires-clause-axes
+reduced_at-merged_place-read-requires-clause-axes t c =
     rw (c.as_slice-in-loop-inner.ensures.value, c.all_among-dropped.ensures, c.rank.ensures.value)
     (are_axes-among c.args.axes.now (length c.known_dims-dims.result))
 
-pub reduced_at-woven_place-read-requires-clause-outer :
-    goal.reduced_at-woven_place-read-requires-clause-outer
-reduced_at-woven_place-read-requires-clause-outer t c =
+pub reduced_at-merged_place-read-requires-clause-outer :
+    goal.reduced_at-merged_place-read-requires-clause-outer
+reduced_at-merged_place-read-requires-clause-outer t c =
     let known = reduced-known c.args.inputs.now.tensors c.args.reducer c.args.axes.now
     (term_of c.args.a.now) c.requires.dims in
     rw (c.as_slice-in-loop-inner.ensures.value, c.all_among-dropped.ensures, c.rank.ensures.value)
@@ -226,7 +226,7 @@ reduced_at-loop-inner-preserved t c =
     c.known_dims-dims.result c.all_among-dropped.result.items c.size-count.result = search rules in
     reduced-next _ _ _ _ c.requires.dims _ _ _ _ _ _ _ _ _ over
     c.loop-inner-test.true c.requires.below
-    (rw c.as_slice-in-loop-inner.ensures.value at c.woven_place-read.ensures.value)
+    (rw c.as_slice-in-loop-inner.ensures.value at c.merged_place-read.ensures.value)
     (to_z-of_z w64 c.value_at.result fits_read ∙ c.value_at.ensures)
     (to_z-of_z w64 c.combine-value.result fits ∙ c.combine-value.ensures)
     c.loop-inner.invariant
@@ -247,15 +247,15 @@ contracted_at-nonzero_div-place t c =
     (summed-inside _ _ _ _ c.requires.dims _ _ _ c.of-pairing.ensures c.loop-inner-test.true
     c.requires.below).some
 
-pub contracted_at-woven_place-left-requires : goal.contracted_at-woven_place-left-requires
-contracted_at-woven_place-left-requires t c =
+pub contracted_at-merged_place-left-requires : goal.contracted_at-merged_place-left-requires
+contracted_at-merged_place-left-requires t c =
     let inside = summed-inside _ _ _ _ c.requires.dims _ _ _ c.of-pairing.ensures
     c.loop-inner-test.true c.requires.below in
     rw c.as_slice-firsts.ensures.value
     (record { axes = inside.axes_left; inner = inside.inner_left; outer = inside.outer_left })
 
-pub contracted_at-woven_place-right-requires : goal.contracted_at-woven_place-right-requires
-contracted_at-woven_place-right-requires t c =
+pub contracted_at-merged_place-right-requires : goal.contracted_at-merged_place-right-requires
+contracted_at-merged_place-right-requires t c =
     let inside = summed-inside _ _ _ _ c.requires.dims _ _ _ c.of-pairing.ensures
     c.loop-inner-test.true c.requires.below in
     rw c.as_slice-seconds.ensures.value
@@ -273,8 +273,8 @@ contracted_at-loop-inner-preserved t c =
     let fits : SFits w64 c.combined-value.result = search rules in
     summed-next _ _ _ _ c.requires.dims _ _ _ _ _ _ _ _ _ c.of-pairing.ensures
     c.loop-inner-test.true c.requires.below
-    (rw c.as_slice-firsts.ensures.value at c.woven_place-left.ensures.value)
-    (rw c.as_slice-seconds.ensures.value at c.woven_place-right.ensures.value)
+    (rw c.as_slice-firsts.ensures.value at c.merged_place-left.ensures.value)
+    (rw c.as_slice-seconds.ensures.value at c.merged_place-right.ensures.value)
     (to_z-of_z w64 c.value_at-x.result fits_x ∙ c.value_at-x.ensures)
     (to_z-of_z w64 c.value_at-y.result fits_y ∙ c.value_at-y.ensures)
     (to_z-of_z w64 c.combined-value.result fits ∙ c.combined-value.ensures
@@ -289,40 +289,40 @@ contracted_at-returns t c =
     (to_z w64 c.loop-inner.value-bits)
     c.loop-inner.inner _ c.args.place fits (omega arith) c.loop-inner.invariant
 
-pub convolved_at-unwrap-slid-requires : goal.convolved_at-unwrap-slid-requires
-convolved_at-unwrap-slid-requires t c =
+pub convolved_at-unwrap-window_index-requires : goal.convolved_at-unwrap-window_index-requires
+convolved_at-unwrap-window_index-requires t c =
     let known = convolved-known c.args.inputs.now.tensors c.args.axes.now (term_of c.args.a.now)
     (term_of c.args.b.now) c.requires.dims in
     let found = rw (c.known_dims-dims.ensures, c.known_dims-kernel.ensures, known.dims)
     at c.convolved_dims.ensures in
     (cc)
 
-pub convolved_at-slid_place-read-requires-clause-outer :
-    goal.convolved_at-slid_place-read-requires-clause-outer
-convolved_at-slid_place-read-requires-clause-outer t c =
-    let over : SlidOver c.args.inputs.now.tensors c.args.axes.now (term_of c.args.a.now)
-    (term_of c.args.b.now) c.known_dims-dims.result c.known_dims-kernel.result c.unwrap-slid.result
+pub convolved_at-window_place-read-requires-clause-outer :
+    goal.convolved_at-window_place-read-requires-clause-outer
+convolved_at-window_place-read-requires-clause-outer t c =
+    let over : WindowOver c.args.inputs.now.tensors c.args.axes.now (term_of c.args.a.now)
+    (term_of c.args.b.now) c.known_dims-dims.result c.known_dims-kernel.result c.unwrap-window_index.result
     c.size-inner-end.result =
     record {
       operand = c.known_dims-dims.ensures;
       kernel = c.known_dims-kernel.ensures;
-      dims = sym c.convolved_dims.ensures ∙ c.unwrap-slid.ensures;
+      dims = sym c.convolved_dims.ensures ∙ c.unwrap-window_index.ensures;
       whole = c.size-inner-end.ensures.value;
     } in
-    slid-outer _ _ _ _ c.requires.dims _ _ _ _ c.args.place over c.requires.below
+    window_index-outer _ _ _ _ c.requires.dims _ _ _ _ c.args.place over c.requires.below
 
 pub convolved_at-loop-inner-init : goal.convolved_at-loop-inner-init
 convolved_at-loop-inner-init t c =
-    let over : SlidOver c.args.inputs.now.tensors c.args.axes.now (term_of c.args.a.now)
-    (term_of c.args.b.now) c.known_dims-dims.result c.known_dims-kernel.result c.unwrap-slid.result
+    let over : WindowOver c.args.inputs.now.tensors c.args.axes.now (term_of c.args.a.now)
+    (term_of c.args.b.now) c.known_dims-dims.result c.known_dims-kernel.result c.unwrap-window_index.result
     c.size-inner-end.result =
     record {
       operand = c.known_dims-dims.ensures;
       kernel = c.known_dims-kernel.ensures;
-      dims = sym c.convolved_dims.ensures ∙ c.unwrap-slid.ensures;
+      dims = sym c.convolved_dims.ensures ∙ c.unwrap-window_index.ensures;
       whole = c.size-inner-end.ensures.value;
     } in
-    slid-init _ _ _ _ _ _ _ _ c.args.place over
+    window_index-init _ _ _ _ _ _ _ _ c.args.place over
 
 pub convolved_at-loop-inner-preserved : goal.convolved_at-loop-inner-preserved
 convolved_at-loop-inner-preserved t c =
@@ -330,17 +330,17 @@ convolved_at-loop-inner-preserved t c =
     let fits_y : SFits w64 c.value_at-y.result = search rules in
     let fits_product : SFits w64 c.combined.result = search rules in
     let fits : SFits w64 c.combined-value.result = search rules in
-    let over : SlidOver c.args.inputs.now.tensors c.args.axes.now (term_of c.args.a.now)
-    (term_of c.args.b.now) c.known_dims-dims.result c.known_dims-kernel.result c.unwrap-slid.result
+    let over : WindowOver c.args.inputs.now.tensors c.args.axes.now (term_of c.args.a.now)
+    (term_of c.args.b.now) c.known_dims-dims.result c.known_dims-kernel.result c.unwrap-window_index.result
     c.size-inner-end.result =
     record {
       operand = c.known_dims-dims.ensures;
       kernel = c.known_dims-kernel.ensures;
-      dims = sym c.convolved_dims.ensures ∙ c.unwrap-slid.ensures;
+      dims = sym c.convolved_dims.ensures ∙ c.unwrap-window_index.ensures;
       whole = c.size-inner-end.ensures.value;
     } in
-    slid-next _ _ _ _ c.requires.dims _ _ _ _ _ _ _ _ _ _ _ over c.loop-inner-test.true
-    c.requires.below c.slid_place-read.ensures.value
+    window_index-next _ _ _ _ c.requires.dims _ _ _ _ _ _ _ _ _ _ _ over c.loop-inner-test.true
+    c.requires.below c.window_place-read.ensures.value
     (to_z-of_z w64 c.value_at-x.result fits_x ∙ c.value_at-x.ensures)
     (to_z-of_z w64 c.value_at-y.result fits_y ∙ c.value_at-y.ensures)
     (to_z-of_z w64 c.combined-value.result fits ∙ c.combined-value.ensures
@@ -351,7 +351,7 @@ convolved_at-loop-inner-preserved t c =
 pub convolved_at-returns : goal.convolved_at-returns
 convolved_at-returns t c =
     let fits : FitsSigned w64 (to_z w64 c.loop-inner.value-bits) = search rules in
-    slid-last c.args.inputs.now.tensors c.args.axes.now (term_of c.args.a.now)
+    window_index-last c.args.inputs.now.tensors c.args.axes.now (term_of c.args.a.now)
     (term_of c.args.b.now) (to_z w64 c.loop-inner.value-bits) c.loop-inner.inner _ c.args.place
     fits (omega arith) c.loop-inner.invariant
 
@@ -405,7 +405,7 @@ concatenated_at-returns-then-is_of_first t c =
     let is_first : is_of_first turns.first turns.second c.args.place ≡ true = sym c.is_of_first.ensures ∙ c.if-is_of_first.true in
     let fits : SFits w64 c.value_at.result = search rules in
     to_z-of_z w64 c.value_at.result fits ∙ c.value_at.ensures ∙ ap (value_of_place a inputs) c.firsts_before.ensures
-    ∙ spliced-first turns.first turns.second (value_of_place a inputs) (value_of_place b inputs) c.args.place is_first
+    ∙ interleaved-first turns.first turns.second (value_of_place a inputs) (value_of_place b inputs) c.args.place is_first
     ∙ sym (value_of_place-concat inputs c.args.axis a b c.requires.dims turns.first turns.second c.args.place first second c.requires.below)
 
 pub concatenated_at-returns-else-is_of_first : goal.concatenated_at-returns-else-is_of_first
@@ -421,7 +421,7 @@ concatenated_at-returns-else-is_of_first t c =
     let is_second : is_of_first turns.first turns.second c.args.place ≡ false = sym c.is_of_first.ensures ∙ c.if-is_of_first.false in
     let fits : SFits w64 c.value_at-else-is_of_first.result = search rules in
     to_z-of_z w64 c.value_at-else-is_of_first.result fits ∙ c.value_at-else-is_of_first.ensures ∙ ap (value_of_place b inputs) c.seconds_before.ensures
-    ∙ spliced-second turns.first turns.second (value_of_place a inputs) (value_of_place b inputs) c.args.place is_second
+    ∙ interleaved-second turns.first turns.second (value_of_place a inputs) (value_of_place b inputs) c.args.place is_second
     ∙ sym (value_of_place-concat inputs c.args.axis a b c.requires.dims turns.first turns.second c.args.place first second c.requires.below)
 
 pub padded_at-returns-in-Some : goal.padded_at-returns-in-Some

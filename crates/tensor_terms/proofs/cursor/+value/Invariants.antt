@@ -3,7 +3,7 @@
 use Rattle.std.proofs.Common.{◌+◌, ◌*◌}
 use Rattle.tensor_terms.specs.Term.{nodes_of}
 use Rattle.tensor_terms.specs.Tree.{term_of}
-use Rattle.tensor_terms.proofs.ConvolvedTerms.{SlidFrom}
+use Rattle.tensor_terms.proofs.ConvolvedTerms.{WindowFrom}
 use Rattle.tensor_terms.proofs.Terms.{ReducedFrom, SummedFrom}
 use Rattle.tensor_terms.proofs.cursor.+value.Given as goal
 
@@ -35,4 +35,4 @@ invariant-contracted_at-loop-inner l =
 
 abbrev pub invariant-convolved_at-loop-inner : goal.invariant-convolved_at-loop-inner
 invariant-convolved_at-loop-inner l =
-    SlidFrom l.inputs.tensors l.axes (term_of l.a) (term_of l.b) l.value l.inner l.inner-end l.place
+    WindowFrom l.inputs.tensors l.axes (term_of l.a) (term_of l.b) l.value l.inner l.inner-end l.place

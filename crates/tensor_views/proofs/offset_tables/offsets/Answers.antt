@@ -2,7 +2,7 @@ use Rattle.std.proofs.Common.{◌≡◌, ◌<◌, ℕ, List, length, get_or, ap,
 use Rattle.std.proofs.lemmas.List.{get_or-map, length-map}
 use Rattle.std.proofs.lemmas.Result.{IfOk-weaker}
 use Rattle.tensor_shape.specs.Index.{strides_from}
-use Rattle.tensor_terms.specs.Woven.{dims_at}
+use Rattle.tensor_terms.specs.Merged.{dims_at}
 use Rattle.tensor_terms.proofs.Dropped.{length-axes, are_legal-axes}
 use Rattle.tensor_terms.proofs.Known.{IsLegal-are_legal}
 use Rattle.tensor_terms.proofs.OtherAxes.{get_or-are_axes}

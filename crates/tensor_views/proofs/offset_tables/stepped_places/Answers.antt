@@ -56,9 +56,9 @@ loop-k-preserved c =
       len = c.in_ok-places-2.ensures.len ∙ ap (λ n. n * d) long ∙ sym whole;
       each = λ p below.
           let room : length c.deref.result.now * d ≡ rest * d = ap (λ n. n * d) long in
-          let turned : rest * d ≡ d * rest = grind arith in
+          let swapped : rest * d ≡ d * rest = grind arith in
           let row : p / d < rest =
-          div_below p d rest (some_size d rest p (omega (arith, whole, turned))) (omega (arith, whole)) in
+          div_below p d rest (some_size d rest p (omega (arith, whole, swapped))) (omega (arith, whole)) in
           let here = c.in_ok-places-2.ensures.each p (omega (arith, whole, room)) in
           let before = ap (λ l. get_or l (p / d) 0) c.deref.ensures.value
           ∙ c.loop-k.invariant.each (p / d) row in

@@ -1,7 +1,7 @@
 use Rattle.std.proofs.Common.{◌≡◌, length, sym, subst, true, arith}
 use Rattle.tensor_views.specs.Offsets.{HasTables}
 use Rattle.tensor_terms.specs.Reduction.{are_axes}
-use Rattle.tensor_terms.specs.Woven.{others}
+use Rattle.tensor_terms.specs.Merged.{others}
 use Rattle.tensor_views.proofs.OffsetTables.{kept-others, has_tables}
 use Rattle.tensor_terms.proofs.OtherAxes.{are_axes-others}
 use Rattle.tensor_terms.proofs.DimsAt.{size_of-dims_at-le}

@@ -3,14 +3,14 @@ use Rattle.std.proofs.Common.{false, ap, sym, arith}
 use Rattle.std.specs.List.{range_with_len}
 use Rattle.std.proofs.lemmas.Result.{IfOk-weaker}
 use Rattle.std.proofs.lemmas.List.FromFn.{length-map-range_with_len}
-use Rattle.tensor_views.specs.View.{along, reached, walk_size}
+use Rattle.tensor_views.specs.View.{along, reached, view_size}
 use Rattle.tensor_values.proofs.Runs.{map-shifted}
 use Rattle.tensor_views.proofs.Views.{alone-size, alone-reached, row-within, slower-below, rows-order, rows-within, rows-cover, laid-along}
 use Rattle.tensor_views.proofs.run_places.+rows_of.Goals as goal
 
 -- one row of one place
 alone-along : (rows : List ℕ) (place first p : ℕ) → rows ≡ place ∷ [] → first ≤ p → p < first + 1
-    → along rows (record { size = 1; step = 0; falls = false }) first p ≡ place
+    → along rows (record { size = 1; step = 0; reversed = false }) first p ≡ place
 alone-along rows place first p is above below =
     let same : p ≡ first = omega arith in
     let none : first / 1 - first / 1 ≡ 0 = omega arith in
@@ -18,13 +18,13 @@ alone-along rows place first p is above below =
 
 pub at-place-requires : goal.at-place-requires
 at-place-requires t c =
-    let below : c.args.first < walk_size c.args.view.axes.now =
+    let below : c.args.first < view_size c.args.view.axes.now =
     omega (arith, c.requires.some, c.requires.within) in
     record { within = below; fits = c.requires.fits c.args.first below }
 
 pub overflow_cast-place : goal.overflow_cast-place
 overflow_cast-place t c =
-    let below : c.args.first < walk_size c.args.view.axes.now =
+    let below : c.args.first < view_size c.args.view.axes.now =
     omega (arith, c.requires.some, c.requires.within) in
     omega (arith, c.at-place.ensures, c.requires.fits c.args.first below)
 

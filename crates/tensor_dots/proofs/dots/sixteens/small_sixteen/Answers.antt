@@ -3,7 +3,7 @@ use Rattle.std.specs.Int.{w64}
 use Rattle.tensor_values.specs.Values.{value_in}
 use Rattle.tensor_dots.specs.private.RowPairs.{pair_product, pair_sum}
 use Rattle.tensor_shape.specs.Wrap.{wrap}
-use Rattle.tensor_dots.proofs.LaneSums.{behind, turned, same-factors, next_lane, by_fours}
+use Rattle.tensor_dots.proofs.LaneSums.{behind, swapped, same-factors, next_lane, by_fours}
 use Rattle.tensor_dots.proofs.SimdLanes.{lanes-bits}
 use Rattle.tensor_dots.proofs.dots.sixteens.small_sixteen.Goals as goal
 
@@ -53,7 +53,7 @@ loop-q-preserved c =
           factor.lanes c.add_product-c0.ensures.lanes (c.loop-q.invariant.rows_0 r h)
           (same-factors left right) (c.add_product-c0.ensures.each r h);
       rows_1 = λ r h.
-          let here = turned pair.first.start offset k 4 r in
+          let here = swapped pair.first.start offset k 4 r in
           let left = c.four_from-in-loop-q.ensures.each r h ∙ ap (value_in a) here in
           let right = factor.each r h in
           next_lane (pair_product pair (k + 4 + r)) (map (to_z w64) c.loop-q.c1) c.four_from-in-loop-q.result
@@ -61,7 +61,7 @@ loop-q-preserved c =
           factor.lanes c.add_product-c1.ensures.lanes (c.loop-q.invariant.rows_1 r h)
           (same-factors left right) (c.add_product-c1.ensures.each r h);
       rows_2 = λ r h.
-          let here = turned pair.first.start offset k 8 r in
+          let here = swapped pair.first.start offset k 8 r in
           let left = c.four_from-in-loop-q-2.ensures.each r h ∙ ap (value_in a) here in
           let right = factor.each r h in
           next_lane (pair_product pair (k + 8 + r)) (map (to_z w64) c.loop-q.c2) c.four_from-in-loop-q-2.result
@@ -69,7 +69,7 @@ loop-q-preserved c =
           factor.lanes c.add_product-c2.ensures.lanes (c.loop-q.invariant.rows_2 r h)
           (same-factors left right) (c.add_product-c2.ensures.each r h);
       rows_3 = λ r h.
-          let here = turned pair.first.start offset k 12 r in
+          let here = swapped pair.first.start offset k 12 r in
           let left = c.four_from-in-loop-q-3.ensures.each r h ∙ ap (value_in a) here in
           let right = factor.each r h in
           next_lane (pair_product pair (k + 12 + r)) (map (to_z w64) c.loop-q.c3) c.four_from-in-loop-q-3.result

@@ -3,7 +3,7 @@ use Rattle.std.specs.Int.{w64}
 use Rattle.tensor_values.specs.Values.{value_in}
 use Rattle.tensor_dots.specs.private.RowPairs.{pair_product, pair_sum}
 use Rattle.tensor_shape.specs.Wrap.{wrap}
-use Rattle.tensor_dots.proofs.LaneSums.{behind, turned, same-factors, next_joined, by_fours}
+use Rattle.tensor_dots.proofs.LaneSums.{behind, swapped, same-factors, next_joined, by_fours}
 use Rattle.tensor_dots.proofs.SimdLanes.{lanes-bits}
 use Rattle.tensor_dots.proofs.dots.sixteens.wide_sixteen.Goals as goal
 
@@ -58,7 +58,7 @@ loop-q-preserved c =
           c.add_products-first.ensures.low (c.loop-q.invariant.rows_0 r h)
           (same-factors left right) (c.add_products-first.ensures.each r h);
       rows_1 = λ r h.
-          let here = turned pair.first.start offset k 4 r in
+          let here = swapped pair.first.start offset k 4 r in
           let left = c.rows_from-in-loop-q.ensures.each r h ∙ ap (value_in a) here in
           let right = factor.each r h in
           next_joined (pair_product pair (k + 4 + r)) (map (to_z w64) c.loop-q.l1) c.rows_from-in-loop-q.result
@@ -67,7 +67,7 @@ loop-q-preserved c =
           c.add_products-second.ensures.low (c.loop-q.invariant.rows_1 r h)
           (same-factors left right) (c.add_products-second.ensures.each r h);
       rows_2 = λ r h.
-          let here = turned pair.first.start offset k 8 r in
+          let here = swapped pair.first.start offset k 8 r in
           let left = c.rows_from-in-loop-q-2.ensures.each r h ∙ ap (value_in a) here in
           let right = factor.each r h in
           next_joined (pair_product pair (k + 8 + r)) (map (to_z w64) c.loop-q.l2) c.rows_from-in-loop-q-2.result
@@ -76,7 +76,7 @@ loop-q-preserved c =
           c.add_products-third.ensures.low (c.loop-q.invariant.rows_2 r h)
           (same-factors left right) (c.add_products-third.ensures.each r h);
       rows_3 = λ r h.
-          let here = turned pair.first.start offset k 12 r in
+          let here = swapped pair.first.start offset k 12 r in
           let left = c.rows_from-in-loop-q-3.ensures.each r h ∙ ap (value_in a) here in
           let right = factor.each r h in
           next_joined (pair_product pair (k + 12 + r)) (map (to_z w64) c.loop-q.l3) c.rows_from-in-loop-q-3.result

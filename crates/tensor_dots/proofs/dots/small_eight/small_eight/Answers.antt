@@ -2,7 +2,7 @@ use Rattle.std.proofs.Common.{ℕ, ◌+◌, slice_index, map, to_z, ap, ◌∙�
 use Rattle.std.specs.Int.{w64}
 use Rattle.tensor_values.specs.Values.{value_in}
 use Rattle.tensor_dots.specs.private.RowPairs.{pair_product}
-use Rattle.tensor_dots.proofs.LaneSums.{behind, turned, same-factors, next_lane}
+use Rattle.tensor_dots.proofs.LaneSums.{behind, swapped, same-factors, next_lane}
 use Rattle.tensor_dots.proofs.SimdLanes.{lanes-bits}
 use Rattle.tensor_dots.proofs.dots.small_eight.small_eight.Goals as goal
 
@@ -38,7 +38,7 @@ loop-q-preserved c =
           factor.lanes c.add_product-low.ensures.lanes (c.loop-q.invariant.low r h) (same-factors left right)
           (c.add_product-low.ensures.each r h);
       high = λ r h.
-          let here = turned pair.first.start offset k 4 r in
+          let here = swapped pair.first.start offset k 4 r in
           let left = c.four_from-in-loop-q.ensures.each r h ∙ ap (value_in a) here in
           let right = factor.each r h in
           next_lane (pair_product pair (k + 4 + r)) (map (to_z w64) c.loop-q.high)

@@ -1,6 +1,6 @@
 use Rattle.std.proofs.Common.{arith}
 use Rattle.std.proofs.lemmas.List.{ext_get_or}
-use Rattle.tensor_views.specs.Rising.{no_axis}
+use Rattle.tensor_views.specs.Forward.{no_axis}
 use Rattle.tensor_loops.proofs.loops.chain.are_same_axes.Goals as goal
 
 pub returns : goal.returns

@@ -14,6 +14,6 @@ loop-link-preserved c =
       each = λ k below.
           let y : ℤ = get_or c.args.operand.now k (pos 0) in
           c.combine.ensures.each k below
-          ∙ ap (λ x. either_way link.operation link.turned x y) (inv.each k below)
+          ∙ ap (λ x. either_way link.operation link.swapped x y) (inv.each k below)
           ∙ sym (chained-next links i no_link (get_or c.args.values.now k (pos 0)) y c.loop-link-test.true);
     }

@@ -33,7 +33,7 @@ loop-start-preserved c =
       here = λ more. omega (arith, next, inv.here (omega arith));
       len = c.combine_row.ensures.len ∙ inv.len;
       each = rw long
-          (rows-more (either_way c.args.link.operation c.args.link.turned)
+          (rows-more (either_way c.args.link.operation c.args.link.swapped)
           (λ k. value_in c.args.list.now (along c.args.rows.now axis first (first + k)))
           (λ k. value_in c.args.list.now (get_or c.args.rows.now c.loop-start.start-index 0 + steps_to axis (c.loop-start.from + k) * axis.step))
           c.args.values.now c.loop-start.values c.combine_row.new.values (place - first) c.min-count.result

@@ -13,7 +13,7 @@ invariant-loop-start l = record {
   here : l.place < l.last → l.place ≡ l.from + l.axis.size * (l.first / l.axis.size + l.start-index);
   len : length l.values ≡ length l.initial.values;
   each : (k : ℕ) → k < l.place - l.first → slice_index_or l.values k (pos 0)
-      ≡ either_way l.link.operation l.link.turned (slice_index_or l.initial.values k (pos 0))
+      ≡ either_way l.link.operation l.link.swapped (slice_index_or l.initial.values k (pos 0))
       (value_in l.list (along l.rows l.axis l.first (l.first + k)));
   after : (k : ℕ) → l.place - l.first ≤ k
       → slice_index_or l.values k (pos 0) ≡ slice_index_or l.initial.values k (pos 0);

@@ -4,7 +4,7 @@ use Rattle.tensor_shape.specs.Index.{size_of}
 use Rattle.tensor_ops.specs.private.Operand.{viewed_value}
 use Rattle.tensor_values.specs.Values.{value_in}
 use Rattle.tensor_views.specs.View.{AreAllApart}
-use Rattle.tensor_ops.proofs.LedRows.{IsLed-along, starts-below, offsets-below, reached-none, led-inside, led-operand}
+use Rattle.tensor_ops.proofs.MappedRows.{IsMapped-along, starts-below, offsets-below, reached-none, mapped-inside, mapped-operand}
 use Rattle.tensor_ops.proofs.OperandRows.{operand-made, operand-same, tables-operand}
 use Rattle.tensor_views.proofs.OffsetTables.{sum_of_tables-below}
 use Rattle.tensor_ops.proofs.operands.rows.rows_along.Goals as goal
@@ -48,8 +48,8 @@ returns-then-count-eq0 c =
     (tables-operand starts offsets c.args.axes.now c.args.dims.now value of
     c.in_ok-starts.ensures.tables (λ x q row value. refl)))
 
-pub lead-requires-clause-within : goal.lead-requires-clause-within
-lead-requires-clause-within c =
+pub map_through-requires-clause-within : goal.map_through-requires-clause-within
+map_through-requires-clause-within c =
     let some : 0 < size_of c.args.dims.now = omega arith in
     λ k below.
     rw c.as_ref-view.ensures.axes (omega (
@@ -59,8 +59,8 @@ lead-requires-clause-within c =
           c.args.dims.now c.in_ok-starts.ensures.tables some k below,
     ))
 
-pub lead-requires-2-clause-within : goal.lead-requires-2-clause-within
-lead-requires-2-clause-within c =
+pub map_through-requires-2-clause-within : goal.map_through-requires-2-clause-within
+map_through-requires-2-clause-within c =
     let some : 0 < size_of c.args.dims.now = omega arith in
     λ k below.
     rw c.as_ref-view.ensures.axes (omega (
@@ -70,8 +70,8 @@ lead-requires-2-clause-within c =
           c.args.dims.now c.in_ok-starts.ensures.tables some k below,
     ))
 
-pub lead-requires-2-clause-fits : goal.lead-requires-2-clause-fits
-lead-requires-2-clause-fits c =
+pub map_through-requires-2-clause-fits : goal.map_through-requires-2-clause-fits
+map_through-requires-2-clause-fits c =
     λ p below.
     let within = rw c.as_ref-view.ensures.axes at below in
     rw c.as_ref-view.ensures.axes (omega (
@@ -91,14 +91,14 @@ new-requires-2-clause-inside c =
     rw (c.as_ref-view.ensures.axes, c.deref.ensures.value, c.deref-else-count-eq0.ensures.value) at
     (c.if-not-are_apart.ensures refl) in
     let first =
-    IsLed-along _ start _ view starts c.lead.new.places.items c.as_ref-view.ensures.start
+    IsMapped-along _ start _ view starts c.map_through.new.places.items c.as_ref-view.ensures.start
     c.as_ref-view.ensures.axes
-    c.lead.ensures.len c.lead.ensures.each in
+    c.map_through.ensures.len c.map_through.ensures.each in
     let second =
-    IsLed-along 0 0 _ view offsets c.lead-2.new.places.items refl c.as_ref-view.ensures.axes
-    c.lead-2.ensures.len c.lead-2.ensures.each in
-    led-inside (cow_slice_items c.args.viewed.list) start view starts offsets
-    c.lead.new.places.items c.lead-2.new.places.items c.args.axes.now c.args.dims.now
+    IsMapped-along 0 0 _ view offsets c.map_through-2.new.places.items refl c.as_ref-view.ensures.axes
+    c.map_through-2.ensures.len c.map_through-2.ensures.each in
+    mapped-inside (cow_slice_items c.args.viewed.list) start view starts offsets
+    c.map_through.new.places.items c.map_through-2.new.places.items c.args.axes.now c.args.dims.now
     c.in_ok-starts.ensures.tables apart first second c.requires.values c.args.viewed.inside
 
 pub returns : goal.returns
@@ -111,14 +111,14 @@ returns c =
     rw (c.as_ref-view.ensures.axes, c.deref.ensures.value, c.deref-else-count-eq0.ensures.value) at
     (c.if-not-are_apart.ensures refl) in
     let first =
-    IsLed-along _ start _ view starts c.lead.new.places.items c.as_ref-view.ensures.start
+    IsMapped-along _ start _ view starts c.map_through.new.places.items c.as_ref-view.ensures.start
     c.as_ref-view.ensures.axes
-    c.lead.ensures.len c.lead.ensures.each in
+    c.map_through.ensures.len c.map_through.ensures.each in
     let second =
-    IsLed-along 0 0 _ view offsets c.lead-2.new.places.items refl c.as_ref-view.ensures.axes
-    c.lead-2.ensures.len c.lead-2.ensures.each in
+    IsMapped-along 0 0 _ view offsets c.map_through-2.new.places.items refl c.as_ref-view.ensures.axes
+    c.map_through-2.ensures.len c.map_through-2.ensures.each in
     operand-made _ _ _ _ _ _ _ _ _ c.new-2.ensures.count c.new-2.ensures.len
     c.new-2.ensures.each
-    (led-operand (cow_slice_items c.args.viewed.list) start view starts offsets
-    c.lead.new.places.items c.lead-2.new.places.items c.args.axes.now c.args.dims.now
+    (mapped-operand (cow_slice_items c.args.viewed.list) start view starts offsets
+    c.map_through.new.places.items c.map_through-2.new.places.items c.args.axes.now c.args.dims.now
     c.in_ok-starts.ensures.tables apart first second)

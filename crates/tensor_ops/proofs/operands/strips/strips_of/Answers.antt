@@ -5,11 +5,11 @@ use Rattle.std.specs.List.{range_with_len}
 use Rattle.tensor_shape.specs.Index.{size_of}
 use Rattle.tensor_values.specs.Values.{value_in}
 use Rattle.tensor_terms.specs.Reduction.{are_axes}
-use Rattle.tensor_terms.specs.Woven.{dims_at, others}
+use Rattle.tensor_terms.specs.Merged.{dims_at, others}
 use Rattle.tensor_ops.proofs.FirstAxes.{offsets-first}
 use Rattle.tensor_ops.proofs.OperandRows.{operand-made}
 use Rattle.tensor_views.proofs.OffsetTables.{kept-others, has_tables}
-use Rattle.tensor_views.proofs.OffsetTables.{sum_of_tables-woven, sum_of_tables-below}
+use Rattle.tensor_views.proofs.OffsetTables.{sum_of_tables-merged, sum_of_tables-below}
 use Rattle.tensor_terms.proofs.OtherAxes.{are_axes-others}
 use Rattle.tensor_terms.proofs.DimsAt.{size_of-dims_at-le}
 use Rattle.tensor_ops.proofs.operands.strips.strips_of.Goals as goal
@@ -88,6 +88,6 @@ returns c =
           ap (λ o. value_in (cow_slice_items c.args.values) (get_or starts x 0 + o))
           (sym at)
           ∙ ap (λ p. value_in (cow_slice_items c.args.values) p)
-          (sum_of_tables-woven starts (range_with_len 0 n) axes ds tables x q row
+          (sum_of_tables-merged starts (range_with_len 0 n) axes ds tables x q row
           (omega (arith, length-range_with_len 0 n)));
     })

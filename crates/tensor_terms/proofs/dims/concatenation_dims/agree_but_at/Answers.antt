@@ -1,7 +1,7 @@
 use Rattle.std.proofs.Common.{◌≡◌, suc, ◌+◌, ◌-◌, true, false, ◌&&◌, length, take, drop, nat_eq, ap, sym, ◌∙◌, arith, add-one}
 use Rattle.std.proofs.lemmas.List.{take_all, length-drop}
 use Rattle.std.specs.Cmp.Lexicographic.{pointwise}
-use Rattle.tensor_terms.proofs.Splices.{remove-parts}
+use Rattle.tensor_terms.proofs.Interleavings.{remove-parts}
 use Rattle.tensor_terms.proofs.dims.concatenation_dims.agree_but_at.Goals as goal
 
 pub returns-then-eq : goal.returns-then-eq

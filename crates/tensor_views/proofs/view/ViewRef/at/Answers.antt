@@ -1,15 +1,15 @@
 use Rattle.std.proofs.Common.{◌+◌, drop, get_or, arith}
 use Rattle.std.proofs.lemmas.Grind.{common_steps}
 use Rattle.std.proofs.Math.Nat.{mod-lt}
-use Rattle.tensor_views.specs.Rising.{no_axis}
-use Rattle.tensor_views.proofs.Parting.{walk_size-at}
+use Rattle.tensor_views.specs.Forward.{no_axis}
+use Rattle.tensor_views.proofs.SplitAxes.{view_size-at}
 use Rattle.tensor_views.proofs.Views.{reached-start, reached-drop, row-within}
 use Rattle.tensor_views.proofs.view.ViewRef.at.Goals as goal
 
 pub steps_to-requires : goal.steps_to-requires
 steps_to-requires c =
     let i = c.loop-axis.axis-index in
-    let within = rw (walk_size-at c.args.self.axes.now i no_axis c.loop-axis-test.true) at
+    let within = rw (view_size-at c.args.self.axes.now i no_axis c.loop-axis-test.true) at
     c.loop-axis.invariant.within in
     mod-lt c.loop-axis.rest
     (row-within 0 (get_or c.args.self.axes.now i no_axis) (drop (i + 1) c.args.self.axes.now) c.loop-axis.rest
@@ -19,7 +19,7 @@ pub loop-axis-preserved : goal.loop-axis-preserved
 loop-axis-preserved c =
     let i = c.loop-axis.axis-index in
     let more = reached-drop c.args.self.axes.now i c.loop-axis.rest no_axis c.loop-axis-test.true in
-    let within = rw (walk_size-at c.args.self.axes.now i no_axis c.loop-axis-test.true) at
+    let within = rw (view_size-at c.args.self.axes.now i no_axis c.loop-axis-test.true) at
     c.loop-axis.invariant.within in
     record {
       whole = rw c.steps_to.ensures (omega (arith, more, c.loop-axis.invariant.whole));

@@ -2,33 +2,33 @@ use Rattle.std.proofs.Common.{◌≡◌, ◌+◌, ◌-◌, ◌<◌, ◌≤◌, �
 use Rattle.std.proofs.Common.{sym, ◌∙◌, arith}
 use Rattle.std.proofs.Math.Nat.{mod-le, mul-le-mul_right}
 use Rattle.std.proofs.lemmas.List.{drop_all}
-use Rattle.tensor_views.specs.Rising.{no_axis}
-use Rattle.tensor_views.specs.Joining.{span, left_axis, led_axis, opened, extent_along, passed}
+use Rattle.tensor_views.specs.Forward.{no_axis}
+use Rattle.tensor_views.specs.Composing.{span, left_axis, traced_axis, opened, extent_along, passed}
 use Rattle.tensor_views.specs.View.{reached}
-use Rattle.tensor_views.proofs.Joints.{left-opened, size-opened, joined-begins, joined-goes}
-use Rattle.tensor_views.proofs.Joints.{left-within, step-within, first_step, first_step-most}
-use Rattle.tensor_views.proofs.Joints.{begins-within, walk_size-passed, extent_along-span}
-use Rattle.tensor_views.proofs.Parting.{span-at, reached-at, some-at, some-after}
+use Rattle.tensor_views.proofs.Compositions.{left-opened, size-opened, composed-begins, composed-goes}
+use Rattle.tensor_views.proofs.Compositions.{left-within, step-within, first_step, first_step-most}
+use Rattle.tensor_views.proofs.Compositions.{begins-within, view_size-passed, extent_along-span}
+use Rattle.tensor_views.proofs.SplitAxes.{span-at, reached-at, some-at, some-after}
 use Rattle.tensor_views.proofs.Views.{reached-start}
 use Rattle.tensor_views.proofs.view.ViewRef.then.Goals as goal
 
 pub loop-axis-init : goal.loop-axis-init
 loop-axis-init c =
     let same = c.in_ok-axes.ensures in
-    let strands : c.in_ok-strands.strands.items ≡ map opened c.in_ok-axes.axes.items = c.in_ok-strands.ensures ∙ ap (map opened) c.deref.ensures.value in
-    rw strands (record {
+    let traces : c.in_ok-traces.traces.items ≡ map opened c.in_ok-axes.axes.items = c.in_ok-traces.ensures ∙ ap (map opened) c.deref.ensures.value in
+    rw traces (record {
       some = c.requires.some;
       size = size-opened c.in_ok-axes.axes.items ∙ same.size;
       first = omega (arith, ap span (left-opened c.in_ok-axes.axes.items), same.span, c.requires.first);
       second = c.requires.second;
       reaches = λ p below.
-          joined-begins c.args.self.start c.args.second.start c.args.self.axes.now c.in_ok-axes.axes.items c.args.second.axes.now p same;
+          composed-begins c.args.self.start c.args.second.start c.args.self.axes.now c.in_ok-axes.axes.items c.args.second.axes.now p same;
     })
 
 pub extent_along-extent-requires-clause-fits : goal.extent_along-extent-requires-clause-fits
 extent_along-extent-requires-clause-fits c =
     let b = get_or c.args.second.axes.now c.loop-axis.axis-index no_axis in
-    rw c.deref-in-loop-axis.ensures.value (omega (arith, extent_along-span b c.loop-axis.strands.items, c.loop-axis.invariant.first))
+    rw c.deref-in-loop-axis.ensures.value (omega (arith, extent_along-span b c.loop-axis.traces.items, c.loop-axis.invariant.first))
 
 pub nonzero_rem-low : goal.nonzero_rem-low
 nonzero_rem-low c =
@@ -46,9 +46,9 @@ extent_along-extent-requires-clause-size c =
 pub overflow_add-low : goal.overflow_add-low
 overflow_add-low c =
     let b = get_or c.args.second.axes.now c.loop-axis.axis-index no_axis in
-    let extent : c.extent_along-extent.result ≡ extent_along b c.loop-axis.strands.items =
+    let extent : c.extent_along-extent.result ≡ extent_along b c.loop-axis.traces.items =
     c.extent_along-extent.ensures ∙ ap (extent_along b) c.deref-in-loop-axis.ensures.value in
-    omega (arith, extent, extent_along-span b c.loop-axis.strands.items, c.loop-axis.invariant.first, mod-le c.loop-axis.left b.size)
+    omega (arith, extent, extent_along-span b c.loop-axis.traces.items, c.loop-axis.invariant.first, mod-le c.loop-axis.left b.size)
 
 -- the place is within bounds along one axis more
 pub overflow_mul-place : goal.overflow_mul-place
@@ -84,9 +84,9 @@ pub all_passed-requires-clause-fits : goal.all_passed-requires-clause-fits
 all_passed-requires-clause-fits c =
     let b = get_or c.args.second.axes.now c.loop-axis.axis-index no_axis in
     let span = span-at c.args.second.axes.now c.loop-axis.axis-index no_axis c.loop-axis-test.true in
-    let extent : c.extent_along-extent.result ≡ extent_along b c.loop-axis.strands.items =
+    let extent : c.extent_along-extent.result ≡ extent_along b c.loop-axis.traces.items =
     c.extent_along-extent.ensures ∙ ap (extent_along b) c.deref-in-loop-axis.ensures.value in
-    let most : extent_along b c.loop-axis.strands.items ≤ b.size - 1 = omega (arith, extent) in
+    let most : extent_along b c.loop-axis.traces.items ≤ b.size - 1 = omega (arith, extent) in
     rw c.deref-in-loop-axis-2.ensures.value
     (omega (arith, c.loop-axis.invariant.second, span, mul-le-mul_right b.step most))
 
@@ -104,27 +104,27 @@ loop-axis-preserved c =
     let k = c.loop-axis.axis-index in
     let b = get_or c.args.second.axes.now k no_axis in
     let rest = drop (k + 1) c.args.second.axes.now in
-    let strands = c.loop-axis.strands.items in
+    let traces = c.loop-axis.traces.items in
     let left = c.loop-axis.left in
-    let extent : c.extent_along-extent.result ≡ extent_along b strands =
+    let extent : c.extent_along-extent.result ≡ extent_along b traces =
     c.extent_along-extent.ensures ∙ ap (extent_along b) c.deref-in-loop-axis.ensures.value in
-    let within : left % b.size + extent_along b strands < b.size = omega (arith, extent) in
-    let step : c.first_step.result ≡ first_step b (left % b.size) (left % b.size + extent_along b strands) =
+    let within : left % b.size + extent_along b traces < b.size = omega (arith, extent) in
+    let step : c.first_step.result ≡ first_step b (left % b.size) (left % b.size + extent_along b traces) =
     c.first_step.ensures ∙ ap (λ n. first_step b (left % b.size) (left % b.size + n)) extent in
-    let after : c.in_ok-strands-2.strands.items ≡ map (passed b) strands =
-    c.in_ok-strands-2.ensures ∙ ap (map (passed b)) c.deref-in-loop-axis-2.ensures.value in
-    let most = first_step-most b (left % b.size) (left % b.size + extent_along b strands) (omega arith) within in
+    let after : c.in_ok-traces-2.traces.items ≡ map (passed b) traces =
+    c.in_ok-traces-2.ensures ∙ ap (map (passed b)) c.deref-in-loop-axis-2.ensures.value in
+    let most = first_step-most b (left % b.size) (left % b.size + extent_along b traces) (omega arith) within in
     rw (after, step) (record {
       some = some-after c.args.second.axes.now k (omega arith) inv.some;
-      size = walk_size-passed b strands ∙ inv.size;
-      first = left-within b rest strands left _ inv.first;
+      size = view_size-passed b traces ∙ inv.size;
+      first = left-within b rest traces left _ inv.first;
       second =
-          step-within b rest c.loop-axis.place (first_step b (left % b.size) (left % b.size + extent_along b strands)) _ most
+          step-within b rest c.loop-axis.place (first_step b (left % b.size) (left % b.size + extent_along b traces)) _ most
           (omega (arith, inv.second, span-at c.args.second.axes.now k no_axis c.loop-axis-test.true));
       reaches = λ p below.
-          let q : ℕ = left + reached 0 (map left_axis strands) p in
-          joined-goes b rest strands left c.loop-axis.place p within (omega (arith, inv.size))
-          ∙ ap (λ n. c.loop-axis.place + reached 0 (map led_axis strands) p + n)
+          let q : ℕ = left + reached 0 (map left_axis traces) p in
+          composed-goes b rest traces left c.loop-axis.place p within (omega (arith, inv.size))
+          ∙ ap (λ n. c.loop-axis.place + reached 0 (map traced_axis traces) p + n)
           (sym (reached-at c.args.second.axes.now k q no_axis c.loop-axis-test.true))
           ∙ inv.reaches p below;
     })
@@ -132,12 +132,12 @@ loop-axis-preserved c =
 pub returns : goal.returns
 returns c =
     let inv = c.loop-axis.invariant in
-    let axes : c.in_ok-led_axes.field-0.items ≡ map led_axis c.loop-axis.strands.items =
-    c.in_ok-led_axes.ensures ∙ ap (map led_axis) c.deref-2.ensures.value in
+    let axes : c.in_ok-traced_axes.field-0.items ≡ map traced_axis c.loop-axis.traces.items =
+    c.in_ok-traced_axes.ensures ∙ ap (map traced_axis) c.deref-2.ensures.value in
     let none : drop c.loop-axis.axis-index c.args.second.axes.now ≡ [] = drop_all c.loop-axis.axis-index c.args.second.axes.now (omega arith) in
     rw axes (record {
       size = inv.size;
       reaches = λ p below.
           let whole = rw none at inv.reaches p below in
-          omega (arith, whole, reached-start c.loop-axis.place (map led_axis c.loop-axis.strands.items) p);
+          omega (arith, whole, reached-start c.loop-axis.place (map traced_axis c.loop-axis.traces.items) p);
     })

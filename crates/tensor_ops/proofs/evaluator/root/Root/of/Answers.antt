@@ -2,7 +2,7 @@ use Rattle.std.proofs.Common.{◌≡◌, ap, sym, ◌∙◌}
 use Rattle.tensor_kernels.specs.Contracting.{contraction_count, contraction_value}
 use Rattle.tensor_terms.specs.Contraction.{contracted}
 use Rattle.tensor_terms.specs.Convolution.{convolved}
-use Rattle.tensor_ops.specs.private.Placing.{meaning_at}
+use Rattle.tensor_ops.specs.private.Lowering.{meaning_at}
 use Rattle.tensor_ops.specs.private.Reduced.{places_of_result, reduction_at}
 use Rattle.tensor_terms.specs.Reduction.{reduced}
 use Rattle.tensor_terms.specs.Tensors.{tensors_in}
@@ -24,12 +24,12 @@ returns-in_ok-reduction-in-Unary-Reduce-default-clause-values c =
     rw (← node)
     (values-other (places_of_result made.reduction) (reduction_at made.reduction) made.dims
     (reduced arm.reducer arm.axes.now inner.operand.dims
-    (meaning_at inner.operand.placed inner.operand.dims))
+    (meaning_at inner.operand.lowered inner.operand.dims))
     (value (unary (reduce arm.reducer arm.axes.now)
     (term_of arm.operand.now)) (tensors_in c.args.tensors)) made.ensures.values
     (agree-term (tensors_in c.args.tensors) (term_of arm.operand.now)
-    (reduce arm.reducer arm.axes.now) inner.operand.placed inner.operand.dims made.dims
-    inner.ensures.placed inner.ensures.dims made.ensures.dims))
+    (reduce arm.reducer arm.axes.now) inner.operand.lowered inner.operand.dims made.dims
+    inner.ensures.lowered inner.ensures.dims made.ensures.dims))
 
 pub returns-in_ok-contraction-in-Binary-Contract-default-default-clause-values :
     goal.returns-in_ok-contraction-in-Binary-Contract-default-default-clause-values
@@ -45,12 +45,12 @@ returns-in_ok-contraction-in-Binary-Contract-default-default-clause-values c =
     (values-other (contraction_count made.contraction)
     (contraction_value made.contraction) made.dims
     (contracted arm.pairs.now both.first.dims both.second.dims
-    (meaning_at both.first.placed both.first.dims)
-    (meaning_at both.second.placed both.second.dims))
+    (meaning_at both.first.lowered both.first.dims)
+    (meaning_at both.second.lowered both.second.dims))
     (value (binary (contract arm.pairs.now) (term_of arm.first.now)
     (term_of arm.second.now)) (tensors_in c.args.tensors)) made.ensures.values
     (agree-terms (tensors_in c.args.tensors) (term_of arm.first.now) (term_of arm.second.now)
-    (contract arm.pairs.now) both.first.placed both.second.placed both.first.dims
+    (contract arm.pairs.now) both.first.lowered both.second.lowered both.first.dims
     both.second.dims made.dims both.ensures.first both.ensures.second
     both.ensures.first_dims both.ensures.second_dims made.ensures.dims))
 
@@ -68,11 +68,11 @@ returns-in_ok-contraction-in-Binary-Convolve-default-default-clause-values c =
     (values-other (contraction_count made.contraction) (contraction_value made.contraction)
     made.dims
     (convolved arm.axes.now both.kernel.dims
-    (meaning_at both.operand.placed both.operand.dims)
-    (meaning_at both.kernel.placed both.kernel.dims))
+    (meaning_at both.operand.lowered both.operand.dims)
+    (meaning_at both.kernel.lowered both.kernel.dims))
     (value (binary (convolve arm.axes.now) (term_of arm.operand.now)
     (term_of arm.kernel.now)) (tensors_in c.args.tensors)) made.ensures.values
     (agree-terms (tensors_in c.args.tensors) (term_of arm.operand.now) (term_of arm.kernel.now)
-    (convolve arm.axes.now) both.operand.placed both.kernel.placed both.operand.dims
+    (convolve arm.axes.now) both.operand.lowered both.kernel.lowered both.operand.dims
     both.kernel.dims made.dims both.ensures.first both.ensures.second
     both.ensures.first_dims both.ensures.second_dims made.ensures.dims))

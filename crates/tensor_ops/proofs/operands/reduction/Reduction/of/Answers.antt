@@ -7,7 +7,7 @@ use Rattle.tensor_shape.proofs.Sizes.{size_of-le-bulk_of}
 use Rattle.tensor_terms.specs.Movement.{is_among}
 use Rattle.tensor_views.specs.Offsets.{offset_of}
 use Rattle.tensor_terms.specs.Reduction.{are_axes}
-use Rattle.tensor_terms.specs.Woven.{dims_at}
+use Rattle.tensor_terms.specs.Merged.{dims_at}
 use Rattle.tensor_ops.proofs.Dropping.{kept_after, dropped_after, AreTables, size-kept}
 use Rattle.tensor_ops.proofs.Dropping.{table_place-below, folded-reduced}
 use Rattle.tensor_terms.proofs.OtherAxes.{are_axes-picked}

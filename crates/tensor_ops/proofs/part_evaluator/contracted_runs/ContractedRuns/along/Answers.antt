@@ -2,8 +2,8 @@ use Rattle.std.proofs.Common.{◌≡◌, ◌*◌, ℕ, List, ap, sym, ◌∙◌,
 use Rattle.tensor_kernels.specs.Contracting.{contraction_value}
 use Rattle.tensor_shape.specs.Index.{size_of, index_of}
 use Rattle.tensor_shape.proofs.Places.{place-index_of, IsIndexOf-index_of}
-use Rattle.tensor_ops.specs.private.Placing.{contraction_at}
-use Rattle.tensor_terms.specs.Woven.{dims_at}
+use Rattle.tensor_ops.specs.private.Lowering.{contraction_at}
+use Rattle.tensor_terms.specs.Merged.{dims_at}
 use Rattle.tensor_ops.proofs.PartValues.{in-order, dims-in-order, fronted-size, lie-in-runs}
 use Rattle.tensor_ops.proofs.part_evaluator.contracted_runs.ContractedRuns.along.Goals as goal
 

@@ -56,7 +56,7 @@ returns-in_ok-right-in-Binary-Contract-default-default c =
     both.first.dims both.second.dims
     c.as_slice.result.now
     c.as_slice-in-Binary-Contract-default-default.result.now
-    both.first.placed both.second.placed
+    both.first.lowered both.second.lowered
     c.in_ok-left-in-Binary-Contract-default-default.left
     c.in_ok-right-in-Binary-Contract-default-default.right
     has_dims both.ensures.first both.ensures.first_dims both.ensures.second both.ensures.second_dims

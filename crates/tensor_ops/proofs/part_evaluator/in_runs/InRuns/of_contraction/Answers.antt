@@ -1,12 +1,12 @@
 use Rattle.std.proofs.Common.{◌≡◌, ℕ, List, length, refl, ap, subst, ◌∙◌}
 use Rattle.std.proofs.lemmas.Result.{IfOk-weaker}
 use Rattle.tensor_kernels.specs.Contracting.{contraction_value}
-use Rattle.tensor_terms.specs.Woven.{among}
+use Rattle.tensor_terms.specs.Merged.{among}
 use Rattle.tensor_terms.proofs.OtherAxes.{are_axes-among}
 use Rattle.tensor_ops.specs.private.InRuns.{GivesReduced}
-use Rattle.tensor_ops.specs.private.Placing.{contraction_at, meaning_at}
+use Rattle.tensor_ops.specs.private.Lowering.{contraction_at, meaning_at}
 use Rattle.tensor_ops.specs.private.Runs.{LieInRuns}
-use Rattle.tensor_ops.proofs.Placings.{gives-index}
+use Rattle.tensor_ops.proofs.Lowerings.{gives-index}
 use Rattle.tensor_ops.proofs.ReducedRuns.{gives-along, reduced-same}
 use Rattle.tensor_ops.specs.declared.part_evaluator.in_runs.InRuns.TheVariants.{Contracted}
 use Rattle.tensor_ops.proofs.part_evaluator.in_runs.InRuns.of_contraction.Goals as goal
@@ -47,7 +47,7 @@ returns c =
     IfOk-weaker c.of_values.result _ _
     (λ runs gives.
     subst (λ d. GivesReduced runs r axes d f) c.in_ok-operand.ensures.dims
-    (reduced-same r axes made.dims runs (meaning_at made.placed made.dims) f gives
+    (reduced-same r axes made.dims runs (meaning_at made.lowered made.dims) f gives
     (λ index within.
-    gives-index made.placed made.dims f index c.in_ok-operand.ensures.placed within)))
+    gives-index made.lowered made.dims f index c.in_ok-operand.ensures.lowered within)))
     c.of_values.ensures

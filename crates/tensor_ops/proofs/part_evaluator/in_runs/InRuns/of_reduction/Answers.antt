@@ -13,8 +13,8 @@ use Rattle.tensor_terms.specs.Value.{value}
 use Rattle.tensor_terms.proofs.SameValues.{Agree}
 use Rattle.tensor_terms.proofs.Shapes.{with_two-over}
 use Rattle.tensor_terms.proofs.Terms.{reduced-known}
-use Rattle.tensor_ops.specs.private.Placing.{contraction_at, meaning_at}
-use Rattle.tensor_ops.proofs.Placings.{gives-index}
+use Rattle.tensor_ops.specs.private.Lowering.{contraction_at, meaning_at}
+use Rattle.tensor_ops.proofs.Lowerings.{gives-index}
 use Rattle.tensor_ops.proofs.ReducedRuns.{gives-reduced}
 use Rattle.tensor_ops.proofs.Worked.{values-other, values-agree, agree-terms}
 use Rattle.tensor_ops.proofs.part_evaluator.in_runs.InRuns.of_reduction.Goals as goal
@@ -49,10 +49,10 @@ returns-in_ok-contraction-in-Binary-Contract-default-default c =
     (values-agree count at made.dims (value u ts)
     (values-other count at made.dims
     (contracted arm.pairs.now both.first.dims both.second.dims
-    (meaning_at both.first.placed both.first.dims)
-    (meaning_at both.second.placed both.second.dims)) (value u ts) made.ensures.values
+    (meaning_at both.first.lowered both.first.dims)
+    (meaning_at both.second.lowered both.second.dims)) (value u ts) made.ensures.values
     (agree-terms ts (term_of arm.first.now) (term_of arm.second.now) (contract arm.pairs.now)
-    both.first.placed both.second.placed both.first.dims both.second.dims made.dims
+    both.first.lowered both.second.lowered both.first.dims both.second.dims made.dims
     both.ensures.first both.ensures.second both.ensures.first_dims both.ensures.second_dims
     made.ensures.dims))) in
     IfOk-weaker c.of_contraction.result _ _
@@ -63,13 +63,13 @@ returns-in_ok-contraction-in-Binary-Contract-default-default c =
 pub returns-in_ok-operand-in_default : goal.returns-in_ok-operand-in_default
 returns-in_ok-operand-in_default c =
     let made = c.in_ok-operand-in_default in
-    let placed = made.operand.placed in
+    let lowered = made.operand.lowered in
     let ds = made.operand.dims in
     let ts : List Contents = tensors_in c.args.tensors in
     let t : Term = term_of c.args.operand.now in
     IfOk-weaker c.of_values.result _ _
     (λ runs gives.
-    gives-reduced ts t c.args.reducer c.args.axes.now ds (meaning_at placed ds) runs
+    gives-reduced ts t c.args.reducer c.args.axes.now ds (meaning_at lowered ds) runs
     c.requires.dims made.ensures.dims gives
-    (λ index within. gives-index placed ds (value t ts) index made.ensures.placed within))
+    (λ index within. gives-index lowered ds (value t ts) index made.ensures.lowered within))
     c.of_values.ensures

@@ -15,7 +15,7 @@ returns-in-Combined g c =
     let count = c.args.last - first in
     let same : map (run_combined arm.reducer arm.runs) (range_with_len first count)
     ≡ map (run_whole c.args.self.now) (range_with_len first count) =
-    whole-runs arm.reducer (meaning arm.runs.placed) arm.runs.length first count
+    whole-runs arm.reducer (meaning arm.runs.lowered) arm.runs.length first count
     ∙ ap (λ r. map (run_whole r) (range_with_len first count)) (sym arm.is) in
     subst (λ l. IfOk c.together.result (λ v. v.items ≡ l)) same c.together.ensures
 

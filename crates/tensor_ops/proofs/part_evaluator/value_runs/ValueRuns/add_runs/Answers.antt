@@ -18,7 +18,7 @@ add_combined-requires-clause-within g c =
       arith,
       ap length c.as_slice.ensures.value,
       ap length c.in_ok-piece.ensures,
-      length-map-range_with_len (meaning s.placed) (s.length * first) n,
+      length-map-range_with_len (meaning s.lowered) (s.length * first) n,
       long-runs s.length first last c.requires.order,
     )
 
@@ -29,13 +29,13 @@ returns-clause-items g c =
     let last = c.args.last in
     let items : List ℤ = cow_slice_items c.in_ok-piece.piece in
     let same : items
-    ≡ map (meaning s.placed) (range_with_len (s.length * first) (s.length * (last - first))) =
+    ≡ map (meaning s.lowered) (range_with_len (s.length * first) (s.length * (last - first))) =
     c.in_ok-piece.ensures
-    ∙ ap (λ n. map (meaning s.placed) (range_with_len (s.length * first) n))
+    ∙ ap (λ n. map (meaning s.lowered) (range_with_len (s.length * first) n))
     (long-runs s.length first last c.requires.order) in
     c.add_combined.ensures.items
     ∙ ap (λ l. c.args.values.now.items
     ++ map (run_folded c.args.reducer (value_in l) s.length) (range_with_len 0 (last - first)))
     c.as_slice.ensures.value
     ∙ ap (λ l. c.args.values.now.items ++ l)
-    (runs-piece c.args.reducer (meaning s.placed) s.length first (last - first) items same)
+    (runs-piece c.args.reducer (meaning s.lowered) s.length first (last - first) items same)

@@ -1,10 +1,10 @@
 use Rattle.std.proofs.Common.{◌≡◌, ◌*◌, ℕ, List, ap, sym, ◌∙◌, arith}
 use Rattle.tensor_shape.specs.Index.{size_of}
 use Rattle.tensor_ops.specs.private.Meaning.{meaning}
-use Rattle.tensor_ops.specs.private.Placing.{meaning_at}
-use Rattle.tensor_terms.specs.Woven.{dims_at, other_dims}
+use Rattle.tensor_ops.specs.private.Lowering.{meaning_at}
+use Rattle.tensor_terms.specs.Merged.{dims_at, other_dims}
 use Rattle.tensor_ops.proofs.PartValues.{fronted-size, lie-in-runs}
-use Rattle.tensor_ops.proofs.Placings.{gives-after}
+use Rattle.tensor_ops.proofs.Lowerings.{gives-after}
 use Rattle.tensor_ops.proofs.part_evaluator.value_runs.ValueRuns.along.Goals as goal
 
 pub invariant_of-result : goal.invariant_of-result
@@ -18,11 +18,11 @@ invariant_of-result c =
     c.size-count.ensures.value ∙ ap size_of c.other_dims.ensures in
     let whole : c.size-length.result * c.size-count.result ≡ size_of made.dims =
     ap (λ n. n * c.size-count.result) long ∙ ap (λ n. size_of (dims_at axes ds) * n) many
-    ∙ sym (fronted-size axes ds made.dims (meaning_at c.args.operand.placed ds)
+    ∙ sym (fronted-size axes ds made.dims (meaning_at c.args.operand.lowered ds)
     c.requires.axes c.in_ok-fronted.ensures.dims) in
     record {
-      sound = c.in_ok-placed.ensures.sound;
-      whole = c.in_ok-placed.ensures.count ∙ sym whole;
+      sound = c.in_ok-lowered.ensures.sound;
+      whole = c.in_ok-lowered.ensures.count ∙ sym whole;
       few = omega (arith, whole, c.size-values.ensures.value, c.size-values.ensures.small);
     }
 
@@ -31,10 +31,10 @@ returns c =
     let axes : List ℕ = c.args.axes.now in
     let ds : List ℕ = c.args.operand.dims in
     let made = c.in_ok-fronted.fronted in
-    let placed = c.in_ok-placed.placed in
-    let gives = gives-after placed made.placed made.dims _ c.in_ok-fronted.ensures.placed
-    c.in_ok-placed.ensures in
-    lie-in-runs axes ds made.dims (meaning_at c.args.operand.placed ds) c.requires.axes
-    c.in_ok-fronted.ensures.dims (meaning placed) _ _ gives.means
+    let lowered = c.in_ok-lowered.lowered in
+    let gives = gives-after lowered made.lowered made.dims _ c.in_ok-fronted.ensures.lowered
+    c.in_ok-lowered.ensures in
+    lie-in-runs axes ds made.dims (meaning_at c.args.operand.lowered ds) c.requires.axes
+    c.in_ok-fronted.ensures.dims (meaning lowered) _ _ gives.means
     (c.size-length.ensures.value ∙ ap size_of c.dims_at.ensures)
     (c.size-count.ensures.value ∙ ap size_of c.other_dims.ensures)

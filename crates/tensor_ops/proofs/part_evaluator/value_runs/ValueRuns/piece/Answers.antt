@@ -15,7 +15,7 @@ returns c =
     let long : last + start - (first + start) ≡ last - first = omega arith in
     IfOk-weaker c.values_at.result _ _
     (λ v same. same
-    ∙ ap (λ k. map (meaning s.placed) (range_with_len (first + start) k)) long
-    ∙ map-shifted (meaning s.placed) (run_value s c.args.run) (first + start) first (last - first)
-    (λ k below. ap (meaning s.placed) (omega arith)))
+    ∙ ap (λ k. map (meaning s.lowered) (range_with_len (first + start) k)) long
+    ∙ map-shifted (meaning s.lowered) (run_value s c.args.run) (first + start) first (last - first)
+    (λ k below. ap (meaning s.lowered) (omega arith)))
     c.values_at.ensures

@@ -1,0 +1,89 @@
+//! The values of lowered expressions, written where they are wanted.
+
+ghost use Rattle.std.specs.Prelude.{◌≡◌, ◌<◌, ◌≤◌, ◌-◌, ◌+◌, ℕ, length, OnOk};
+ghost use Rattle.tensor_ops.specs.private.Meaning.{meaning, count_of, IsSound};
+ghost use Rattle.tensor_values.specs.Values.{value_in};
+
+use crate::lowered::{Lowered, PIECE, combine_at, values_at};
+use std::alloc::{AllocError, Global};
+use tensor_loops::{apply, combine_chain, put_combined, select};
+use tensor_views::Places;
+
+impl Lowered<'_> {
+    /// Writes the values at the places from the first to before the last, piece by piece, whatever
+    /// stands there.
+    pub(crate) fn fill(
+        &self,
+        alloc: Global,
+        first: usize,
+        last: usize,
+        out: &mut [i64],
+    ) -> Result<(), AllocError>
+        requires order { first ≤ last }
+        requires sound { IsSound self.now }
+        requires within { last ≤ count_of self.now }
+        requires long { length out.old ≡ last - first }
+        ensures len { length out.new ≡ length out.old }
+        ensures each { OnOk result ((k : ℕ) → k < length out.old
+            → value_in out.new k ≡ meaning self.now (first + k)) }
+    {
+        let mut place = first;
+        while place < last {
+            let count = (last - place).min(PIECE);
+            let part = &mut out[place - first..place - first + count];
+            fill_piece(alloc, self, place, place + count, part)?;
+            place += count;
+        }
+        Ok(())
+    }
+}
+
+/// Writes the values at the places from one to before another. Those of an operation are worked out
+/// where they are written, from its first operand's, which are written there before.
+fn fill_piece(
+    alloc: Global,
+    lowered: &Lowered<'_>,
+    from: usize,
+    to: usize,
+    out: &mut [i64],
+) -> Result<(), AllocError>
+    requires order { from ≤ to }
+    requires sound { IsSound lowered.now }
+    requires within { to ≤ count_of lowered.now }
+    requires long { length out.old ≡ to - from }
+    ensures len { length out.new ≡ length out.old }
+    ensures each { OnOk result ((k : ℕ) → k < length out.old
+        → value_in out.new k ≡ meaning lowered.now (from + k)) }
+{
+    let places = Places::Run(from, to);
+    match lowered {
+        Lowered::Unary(operation, operand) => {
+            fill_piece(alloc, operand, from, to, out)?;
+            apply(*operation, out);
+        }
+        Lowered::Binary(link, first, second) => {
+            if let (Some(one), Some(other)) = (first.list(), second.list()) {
+                put_combined(*link, out, &one[from..to], &other[from..to]);
+                return Ok(());
+            }
+            fill_piece(alloc, first, from, to, out)?;
+            combine_at(alloc, *link, out, second, &places)?;
+        }
+        Lowered::Chain(links, first, second) => {
+            fill_piece(alloc, first, from, to, out)?;
+            let operand = values_at(alloc, second, &places)?;
+            combine_chain(links, out, operand.as_slice());
+        }
+        Lowered::Select(order, first, second, third) => {
+            fill_piece(alloc, first, from, to, out)?;
+            let second = values_at(alloc, second, &places)?;
+            let third = values_at(alloc, third, &places)?;
+            select(*order, out, second.as_slice(), third.as_slice());
+        }
+        _ => {
+            let piece = values_at(alloc, lowered, &places)?;
+            out.copy_from_slice(piece.as_slice());
+        }
+    }
+    Ok(())
+}

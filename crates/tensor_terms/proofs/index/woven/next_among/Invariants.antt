@@ -1,6 +1,0 @@
-use Rattle.std.proofs.Common.{◌≡◌, ℕ, ◌<◌, ◌≤◌, false}
-use Rattle.tensor_terms.specs.Movement.{is_among}
-use Rattle.tensor_terms.proofs.index.woven.next_among.Given as goal
-
-abbrev pub invariant-loop-axis : goal.invariant-loop-axis
-invariant-loop-axis l = (k : ℕ) → l.from ≤ k → k < l.axis → is_among k l.axes ≡ false

@@ -1,0 +1,50 @@
+//! The places that lie under a kernel.
+
+ghost use Rattle.std.specs.Prelude.{◌≡◌, ◌<◌, ◌≤◌, ◌+◌, ◌^◌, ℕ, length, slice_index, Ok};
+ghost use Rattle.tensor_shape.specs.Index.{size_of, place, index_of};
+ghost use Rattle.tensor_shape.specs.Legal.{highest_rank};
+ghost use Rattle.tensor_terms.specs.Convolution.{convolved_dims, window_index};
+
+use crate::dims::movement_dims::extend;
+use tensor_shape::{Dims, PerAxis};
+
+/// The place in dims of what lies under a place of a kernel, for a place of the result dims.
+pub(crate) fn window_place(
+    axes: &[u64],
+    dims: &Dims,
+    kernel: &Dims,
+    result_dims: &Dims,
+    inner: u64,
+    outer: u64,
+) -> u64
+    requires dims { convolved_dims axes.now dims.now kernel.now ≡ Ok result_dims.now }
+    requires inner { inner < size_of kernel.now }
+    requires outer { outer < size_of result_dims.now }
+    ensures value { result ≡ place dims.now
+        (window_index axes.now (index_of kernel.now inner) (index_of result_dims.now outer)) }
+    ensures below { result < size_of dims.now }
+{
+    let sizes = dims.as_slice();
+    let top = kernel.index_of(inner);
+    let index = result_dims.index_of(outer);
+    prove!(index.len() == sizes.len());
+    dims.linear(window_index(axes, top.as_slice(), index.as_slice()).as_slice())
+}
+
+/// An index list, with each number of another on top at its axis.
+fn window_index(axes: &[u64], top: &[u64], index: &[u64]) -> PerAxis
+    requires few { length index.now ≤ highest_rank }
+    requires same { length top.now ≡ length axes.now }
+    requires axes { (k : ℕ) → k < length axes.now → slice_index axes.now k < length index.now }
+    requires small { (k : ℕ) → k < length axes.now
+        → slice_index index.now (slice_index axes.now k) + slice_index top.now k < 2 ^ 64 }
+    ensures { result.items ≡ window_index axes.now top.now index.now }
+{
+    let mut under = PerAxis::new();
+    extend(&mut under, index);
+    for k in (0..axes.len()).rev() {
+        let axis = axes[k] as usize;
+        under[axis] = index[axis] + top[k];
+    }
+    under
+}

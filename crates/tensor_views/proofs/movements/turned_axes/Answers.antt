@@ -1,9 +1,0 @@
-use Rattle.std.proofs.Common.{arith}
-use Rattle.std.proofs.lemmas.Grind.{common_steps}
-use Rattle.tensor_views.proofs.AxisLists.{turned_axes-at}
-use Rattle.tensor_views.proofs.movements.turned_axes.Goals as goal
-
-pub loop-k-preserved : goal.loop-k-preserved
-loop-k-preserved c =
-    let next = turned_axes-at c.args.axes.now c.args.flags.now c.loop-k.k (omega arith) (omega arith) in
-    grind (arith, common_steps, next)
