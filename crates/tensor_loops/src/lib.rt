@@ -5,7 +5,7 @@
 //! a list, a view, places   ──gather──>   the values there: a copy, a loop a row, or one by one
 //! values, another list     ──loops───>   an operation's of both, where it stands; several in a chain
 //! a row, runs of rows      ──folds───>   the row, with all of them combined
-//! two lists in turns       ──interleaved─>   one list
+//! two lists in turns       ─interleave>   one list
 //! ```
 #![tactic(auto)]
 

@@ -5,11 +5,11 @@
 //!
 //! ```text
 //! Expr               a tree of operations, with arguments (tensor_terms)
-//!  │ lowering         one walk over the tree, node by node; what is to be a list by then is
+//!  │ lowering        one walk over the tree, node by node; what is to be a list by then is
 //!  │                 worked out: operands of reductions, contractions and convolutions
-//! Lowered             a tree without dims and arguments: a movement is a view
-//!  │ sinking        each view goes down to the list that it reads, composed with those it meets
-//! Lowered, sunk    lists, each read along one view; all else is in order
+//! Lowered            a tree without dims and arguments: a movement is a view
+//!  │ sinking         each view goes down to the list that it reads, composed with those it meets
+//! Lowered, sunk      lists, each read along one view; all else is in order
 //!  │
 //! Root               that tree, or a reduction or a contraction made ready (operands)
 //!  │ values          by 1,024 places (tensor_loops), or by rows and tiles (tensor_kernels)

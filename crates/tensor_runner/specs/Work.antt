@@ -9,7 +9,7 @@ use Rattle.expr_reader.specs.Term.{Unary, each, constant, movement, pad, reduce}
 use Rattle.expr_reader.specs.Term.{Binary, pairwise, concat, contract, convolve}
 use Rattle.tensor_reduce.specs.Contraction.{firsts}
 use Rattle.tensor_reduce.specs.Steps.{combines, combines_two}
-use Rattle.tensor_reduce.specs.Woven.{dims_at}
+use Rattle.tensor_reduce.specs.Merged.{dims_at}
 
 -- an operation over others at a place; below one that combines values stand none, since its operands
 -- are worked out before, as tensors of their own

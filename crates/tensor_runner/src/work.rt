@@ -11,7 +11,7 @@ ghost use Rattle.expr_reader.specs.Tree.{term_of, unary_at, binary_at};
 ghost use Rattle.tensor_reduce.specs.Contraction.{firsts};
 ghost use Rattle.tensor_reduce.specs.Reduction.{are_axes};
 ghost use Rattle.tensor_reduce.specs.Steps.{combines, combines_two};
-ghost use Rattle.tensor_reduce.specs.Woven.{dims_at};
+ghost use Rattle.tensor_reduce.specs.Merged.{dims_at};
 ghost use Rattle.tensor_runner.specs.Limited.{is_over, over_limits};
 ghost use Rattle.tensor_runner.specs.Work.{operations, operations_over, unary_steps, binary_steps};
 ghost use Rattle.tensor_runner.specs.Work.{combined, steps_of};
