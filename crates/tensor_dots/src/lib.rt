@@ -7,7 +7,7 @@
 //! Dots        rows that begin anywhere, each with the values at the same offsets: those that begin
 //!             side by side are passed together, sixteen or eight at a time, in lanes
 //! StripDots   rows that are runs of a list: value by value
-//! WindowDots    one row that slides over runs of places (a convolution)
+//! WindowDots  one row that slides over runs of places (a convolution)
 //! ```
 #![tactic(auto)]
 
