@@ -23,7 +23,8 @@ pub fn looked_up(alloc: Global, view: ViewRef<'_>, places: &[u32]) -> Result<Vec
         → slice_index places.now k < view_size view.axes.now }
     requires fits { (p : ℕ) → p < view_size view.axes.now
         → reached view.start view.axes.now p < 2 ^ 32 }
-    ensures { IfOk result (λ v. v.items ≡ map (reached view.entry.start view.entry.axes.now) places.now) }
+    ensures { IfOk result (λ v. v.items
+        ≡ map (reached view.entry.start view.entry.axes.now) places.now) }
 {
     let mut sources = Vec::with_capacity(alloc, places.len())?;
     let Some(first) = places.first() else {
@@ -65,7 +66,8 @@ pub(crate) fn row_with(row: ViewRow, axis: Axis, slower: ViewRef<'_>, place: usi
     requires row_first { row.first ≡ axis.size * (row.first / axis.size) }
     requires row_start { row.start ≡ reached slower.start slower.axes.now (row.first / axis.size) }
     ensures first { result.first ≡ axis.size * (place / axis.size) }
-    ensures start { result.start ≡ reached slower.entry.start slower.entry.axes.now (place / axis.size) }
+    ensures start { result.start
+        ≡ reached slower.entry.start slower.entry.axes.now (place / axis.size) }
 {
     if row.first <= place && place - row.first < axis.size {
         return row;
@@ -79,7 +81,8 @@ pub(crate) fn row_of(axis: Axis, slower: ViewRef<'_>, place: usize) -> ViewRow
     requires within { place / axis.size < view_size slower.axes.now }
     requires fits { reached slower.start slower.axes.now (place / axis.size) < 2 ^ 32 }
     ensures first { result.first ≡ axis.size * (place / axis.size) }
-    ensures start { result.start ≡ reached slower.entry.start slower.entry.axes.now (place / axis.size) }
+    ensures start { result.start
+        ≡ reached slower.entry.start slower.entry.axes.now (place / axis.size) }
 {
     let row = place / axis.size;
     ViewRow {

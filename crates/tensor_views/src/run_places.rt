@@ -18,7 +18,8 @@ pub(crate) fn places_in_run(
 ) -> Result<Vec<u32>, AllocError>
     requires order { first ≤ last }
     requires within { last ≤ view_size view.axes.now }
-    requires fits { (p : ℕ) → p < view_size view.axes.now → reached view.start view.axes.now p < 2 ^ 32 }
+    requires fits { (p : ℕ) → p < view_size view.axes.now
+        → reached view.start view.axes.now p < 2 ^ 32 }
     ensures { IfOk result (λ v. v.items
         ≡ map (reached view.entry.start view.entry.axes.now) (range_with_len first (last - first))) }
 {
@@ -39,7 +40,8 @@ pub fn rows_of(
 ) -> Result<(Axis, Vec<u32>), AllocError>
     requires some { first < last }
     requires within { last ≤ view_size view.axes.now }
-    requires fits { (p : ℕ) → p < view_size view.axes.now → reached view.start view.axes.now p < 2 ^ 32 }
+    requires fits { (p : ℕ) → p < view_size view.axes.now
+        → reached view.start view.axes.now p < 2 ^ 32 }
     ensures size { IfOk result (λ r. 0 < r.0.size) }
     ensures cover { IfOk result (λ r. last ≤ r.0.size * (first / r.0.size + length r.1.items)) }
     ensures along { IfOk result (λ r. (p : ℕ) → first ≤ p → p < last

@@ -28,33 +28,47 @@ frame_len-append xs ys some =
 whole_at_front : (frame more cut : List ℕ) → IsWhole frame → cut ≡ frame ++ more → ¬ IsUnfinished cut
 whole_at_front frame more cut whole is few =
     let long : 16 ≤ length frame = omega (arith, whole) in
-    omega (arith, whole, few, ap length is, length-append frame more, ap frame_len is, frame_len-append frame more long)
+    omega (
+      arith,
+      whole,
+      few,
+      ap length is,
+      length-append frame more,
+      ap frame_len is,
+      frame_len-append frame more long,
+    )
 
 -- whole frames that bytes begin with are one and the same
-same_front : (frame other more others : List ℕ) → IsWhole frame → IsWhole other → frame ++ more ≡ other ++ others
-    → (frame ≡ other) × (more ≡ others)
+same_front : (frame other more others : List ℕ) → IsWhole frame → IsWhole other
+    → frame ++ more ≡ other ++ others → (frame ≡ other) × (more ≡ others)
 same_front frame other more others whole too is =
     let long : 16 ≤ length frame = omega (arith, whole) in
     let long_too : 16 ≤ length other = omega (arith, too) in
     let len : length other ≡ length frame =
-    too ∙ sym (frame_len-append other others long_too) ∙ sym (ap frame_len is) ∙ frame_len-append frame more long ∙ sym whole in
+    too ∙ sym (frame_len-append other others long_too) ∙ sym (ap frame_len is)
+    ∙ frame_len-append frame more long ∙ sym whole in
     let same : frame ≡ other =
-    sym (take_at frame more (length frame) refl) ∙ ap (λ (l : List ℕ). take (length frame) l) is ∙ take_at other others (length frame) len in
+    sym (take_at frame more (length frame) refl) ∙ ap (λ (l : List ℕ). take (length frame) l) is
+    ∙ take_at other others (length frame) len in
     (same, append_cancel_left frame more others (is ∙ ap (λ (l : List ℕ). l ++ others) (sym same)))
 
 -- bytes are parted in one way
 pub parts_in_one_way : (frames others : List (List ℕ)) (cut other : List ℕ)
-    → concat frames ++ cut ≡ concat others ++ other → All IsWhole frames → All IsWhole others → IsUnfinished cut → IsUnfinished other
-    → (frames ≡ others) × (cut ≡ other)
+    → concat frames ++ cut ≡ concat others ++ other → All IsWhole frames → All IsWhole others
+    → IsUnfinished cut → IsUnfinished other → (frames ≡ others) × (cut ≡ other)
 parts_in_one_way [] [] cut other is whole too few few_too = (refl, is)
 parts_in_one_way [] (f ∷ others) cut other is whole too few few_too =
-    absurd (whole_at_front f (concat others ++ other) cut (All-head IsWhole f others too) (is ∙ append_assoc f (concat others) other) few)
+    absurd (whole_at_front f (concat others ++ other) cut (All-head IsWhole f others too)
+    (is ∙ append_assoc f (concat others) other) few)
 parts_in_one_way (f ∷ frames) [] cut other is whole too few few_too =
-    absurd (whole_at_front f (concat frames ++ cut) other (All-head IsWhole f frames whole) (sym is ∙ append_assoc f (concat frames) cut) few_too)
+    absurd (whole_at_front f (concat frames ++ cut) other (All-head IsWhole f frames whole)
+    (sym is ∙ append_assoc f (concat frames) cut) few_too)
 parts_in_one_way (f ∷ frames) (g ∷ others) cut other is whole too few few_too =
-    let front = same_front f g (concat frames ++ cut) (concat others ++ other) (All-head IsWhole f frames whole) (All-head IsWhole g others too)
+    let front = same_front f g (concat frames ++ cut) (concat others ++ other)
+    (All-head IsWhole f frames whole) (All-head IsWhole g others too)
     (sym (append_assoc f (concat frames) cut) ∙ is ∙ append_assoc g (concat others) other) in
-    let rest = parts_in_one_way frames others cut other front.1 (All-tail IsWhole f frames whole) (All-tail IsWhole g others too) few few_too in
+    let rest = parts_in_one_way frames others cut other front.1
+    (All-tail IsWhole f frames whole) (All-tail IsWhole g others too) few few_too in
     (ap (λ (l : List (List ℕ)). f ∷ l) rest.0 ∙ ap (λ (x : List ℕ). x ∷ others) front.0, rest.1)
 
 -- a frame is ended by itself
@@ -64,8 +78,15 @@ joined-frames (frame ∷ frames) = ap (λ (l : List ℕ). frame ++ l) (joined-fr
 
 pub laws : (limits : Limits) → Laws by_sizes (whole_frames_within limits)
 laws limits = record {
-  whole = λ done cut whole unfinished.
-      (cut, record { joined = ap (λ (l : List ℕ). l ++ cut) (joined-frames done); whole = whole; unfinished = unfinished });
+  whole = λ done cut whole unfinished. (
+    cut,
+    record {
+      joined = ap (λ (l : List ℕ). l ++ cut) (joined-frames done);
+      whole = whole;
+      unfinished = unfinished;
+    },
+  );
   one_way = λ bytes frames others is are.
-      (parts_in_one_way frames others is.0 are.0 (sym is.1.joined ∙ are.1.joined) is.1.whole are.1.whole is.1.unfinished are.1.unfinished).0;
+      (parts_in_one_way frames others is.0 are.0 (sym is.1.joined ∙ are.1.joined)
+      is.1.whole are.1.whole is.1.unfinished are.1.unfinished).0;
 }

@@ -13,7 +13,8 @@ use Rattle.tensor_runner.specs.declared.limits.Limits.{Limits}
 abbrev IsPlain : ℕ → Type 0
 IsPlain b = (b == 10) ≡ false
 
-whole_lines-feed : (line more : List ℕ) → HasNoFeed line → whole_lines (line ++ 10 ∷ more) ≡ line ∷ whole_lines more
+whole_lines-feed : (line more : List ℕ) → HasNoFeed line
+    → whole_lines (line ++ 10 ∷ more) ≡ line ∷ whole_lines more
 whole_lines-feed [] more plain = refl
 whole_lines-feed (b ∷ line) more plain =
     rw (All-head IsPlain b line plain, whole_lines-feed line more (All-tail IsPlain b line plain)) refl
@@ -23,12 +24,14 @@ pub with_feeds-cons : (line : List ℕ) (done : List (List ℕ)) (more : List �
 with_feeds-cons line done more = simp append_assoc
 
 -- lines with their line feeds, and more
-whole_lines-with_feeds : (done : List (List ℕ)) (more : List ℕ) → All HasNoFeed done → whole_lines (with_feeds done ++ more) ≡ done ++ whole_lines more
+whole_lines-with_feeds : (done : List (List ℕ)) (more : List ℕ) → All HasNoFeed done
+    → whole_lines (with_feeds done ++ more) ≡ done ++ whole_lines more
 whole_lines-with_feeds [] more plain = refl
 whole_lines-with_feeds (line ∷ done) more plain =
     ap whole_lines (with_feeds-cons line done more)
     ∙ whole_lines-feed line (with_feeds done ++ more) (All-head HasNoFeed line done plain)
-    ∙ ap (λ (l : List (List ℕ)). line ∷ l) (whole_lines-with_feeds done more (All-tail HasNoFeed line done plain))
+    ∙ ap (λ (l : List (List ℕ)). line ∷ l)
+    (whole_lines-with_feeds done more (All-tail HasNoFeed line done plain))
 
 -- bytes with no line feed are no whole line
 whole_lines-open : (line : List ℕ) → HasNoFeed line → whole_lines line ≡ []
