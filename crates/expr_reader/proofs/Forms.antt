@@ -1,7 +1,6 @@
 -- Arguments that stand one behind another.
 use Rattle.std.proofs.Common.{◌≡◌, ◌⊎◌, ℕ, ◌+◌, List, [], ◌∷◌, length, get_or, ok_or, Result, Ok, Err}
 use Rattle.std.proofs.Common.{refl, inl, inr, arith}
-use Rattle.serde_json.specs.Data.{no_items}
 use Rattle.serde_json.specs.View.{view, items_view}
 use Rattle.serde_json.specs.declared.value.Value.{Value}
 use Rattle.expr_reader.specs.Arguments.{Form, Argument, Arguments, argument_in, arguments_at}

@@ -21,7 +21,7 @@ use Rattle.expr_reader.specs.Faults.{text_fault}
 use Rattle.expr_reader.specs.Fields.{Fields, fields_of, within}
 use Rattle.expr_reader.specs.Frame.{dims_alone, dealt, none_left, framed_tensors, bad_framed, frame_inputs, request_of_frame}
 use Rattle.expr_reader.specs.Limits.{most_values}
-use Rattle.expr_reader.specs.Node.{Tree, within_limit, operation_at, checked, made, node_at, applied, tree_at}
+use Rattle.expr_reader.specs.Node.{within_limit, operation_at, checked, made, node_at, applied, tree_at}
 use Rattle.expr_reader.specs.Place.{Step, field, index, Located, here, at, below, unlocated}
 use Rattle.expr_reader.specs.Profile.{Profile}
 use Rattle.expr_reader.specs.Profile.{frame_profile_of}
@@ -29,7 +29,7 @@ use Rattle.expr_reader.specs.Request.{Asked, profile_in}
 use Rattle.expr_reader.specs.Request.{fields_asked, data_asked, data_of, text_asked}
 use Rattle.expr_reader.specs.Steps.{and_then}
 use Rattle.expr_reader.specs.Table.{Operation, one, two, three, arity_of}
-use Rattle.expr_reader.specs.Tensors.{Named, dims_in, names_in, given, or_place}
+use Rattle.expr_reader.specs.Tensors.{Named, dims_in, names_in, given}
 use Rattle.expr_reader.specs.declared.fault.Fault.TheVariants.{BadField, BadVersion, BadWorkers, BadBlock, BadTensor, BadArity, TooLong}
 use Rattle.expr_reader.specs.Alike.{HaveSameDims, AskAlike}
 use Rattle.expr_reader.proofs.Chain.{tree_asked, inputs_asked, block_asked, workers_asked}

@@ -23,8 +23,7 @@ use Rattle.expr_reader.specs.Profile.{Profile}
 use Rattle.expr_reader.specs.Steps.{and_then}
 use Rattle.expr_reader.specs.Table.{Operation, one, two, three, arity_of}
 use Rattle.expr_reader.specs.Tensors.{Named, given, number_of}
-use Rattle.expr_reader.specs.declared.fault.Fault.TheVariants.{UnknownInput, UnknownOp, BadArity}
-use Rattle.expr_reader.specs.declared.fault.Fault.TheVariants.{TooLarge}
+use Rattle.expr_reader.specs.declared.fault.Fault.TheVariants.{UnknownInput, BadArity}
 
 -- the nodes of what was found behind n others were counted
 abbrev AreCounted : ℕ → Result Tree Located → Type 0

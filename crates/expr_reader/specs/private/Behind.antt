@@ -1,5 +1,5 @@
 -- Where the code takes the values of tensors from, for its private clauses.
-use Rattle.std.specs.Prelude.{◌<◌, ◌≤◌, ℕ, ℤ, ⊤, Bool, true, false, List, [], ◌∷◌, length}
+use Rattle.std.specs.Prelude.{◌<◌, ◌≤◌, ℤ, ⊤, Bool, true, false, List, [], ◌∷◌, length}
 use Rattle.std.specs.Prelude.{drop, Option, None, Result}
 use Rattle.serde_json.specs.Data.{Data, Members}
 use Rattle.tensor_ops.specs.Contents.{Contents}

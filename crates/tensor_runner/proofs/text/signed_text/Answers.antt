@@ -1,4 +1,4 @@
-use Rattle.std.proofs.Common.{◌≡◌, ℤ, IfOk, subst, refl}
+use Rattle.std.proofs.Common.{◌≡◌, IfOk, subst}
 use Rattle.std.proofs.lemmas.List.{map-id}
 use Rattle.tensor_runner.specs.Line.{bracketed}
 use Rattle.tensor_runner.proofs.text.signed_text.Goals as goal

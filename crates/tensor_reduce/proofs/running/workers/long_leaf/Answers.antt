@@ -1,7 +1,7 @@
-use Rattle.std.proofs.Common.{◌≡◌, ℕ, ◌+◌, ◌*◌, ◌/◌, ◌%◌, ◌<◌, ◌≤◌, min, nat_lt, inl, inr, arith}
+use Rattle.std.proofs.Common.{◌≡◌, ℕ, ◌+◌, ◌*◌, ◌/◌, ◌%◌, ◌<◌, ◌≤◌, nat_lt, inl, inr, arith}
 use Rattle.std.proofs.lemmas.Bool.{cases_Bool, ltb-true, ltb-false}
 use Rattle.std.proofs.lemmas.Grind.{div_ceil_times}
-use Rattle.std.proofs.Math.Nat.{mul-le-mul_left, mul-le-mul_right, mod-add-div}
+use Rattle.std.proofs.Math.Nat.{mul-le-mul_left, mod-add-div}
 use Rattle.parallel_for.specs.Leaves.{blocks_of}
 use Rattle.tensor_reduce.proofs.running.workers.long_leaf.Goals as goal
 
