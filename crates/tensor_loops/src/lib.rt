@@ -3,7 +3,7 @@
 //!
 //! ```text
 //! a list, a view, places   ──gather──>   the values there: a copy, a loop a row, or one by one
-//! values, another list     ──loops───>   an operation's of both, where it stands; several in a chain
+//! values, another list     ──loops───>   an operation's of both, where it stands; or several
 //! a row, runs of rows      ──folds───>   the row, with all of them combined
 //! two lists in turns       ─interleave>   one list
 //! ```

@@ -25,7 +25,8 @@ frame_len-append xs ys some =
     omega (arith, h, v)
 
 -- bytes that begin with a whole frame are not the front of one
-whole_at_front : (frame more cut : List ℕ) → IsWhole frame → cut ≡ frame ++ more → ¬ IsUnfinished cut
+whole_at_front : (frame more cut : List ℕ) → IsWhole frame → cut ≡ frame ++ more
+    → ¬ IsUnfinished cut
 whole_at_front frame more cut whole is few =
     let long : 16 ≤ length frame = omega (arith, whole) in
     omega (
@@ -72,7 +73,8 @@ parts_in_one_way (f ∷ frames) (g ∷ others) cut other is whole too few few_to
     (ap (λ (l : List (List ℕ)). f ∷ l) rest.0 ∙ ap (λ (x : List ℕ). x ∷ others) front.0, rest.1)
 
 -- a frame is ended by itself
-pub joined-frames : (frames : List (List ℕ)) → flat_map (λ (frame : List ℕ). frame) frames ≡ concat frames
+pub joined-frames : (frames : List (List ℕ))
+    → flat_map (λ (frame : List ℕ). frame) frames ≡ concat frames
 joined-frames [] = refl
 joined-frames (frame ∷ frames) = ap (λ (l : List ℕ). frame ++ l) (joined-frames frames)
 
