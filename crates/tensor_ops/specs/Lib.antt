@@ -12,6 +12,7 @@ pub use Rattle.tensor_terms.specs.Contraction
 pub use Rattle.tensor_terms.specs.Movement
 pub use Rattle.tensor_terms.specs.Reduction
 pub use Rattle.tensor_terms.specs.Result
+pub use Rattle.tensor_terms.specs.Sequence
 pub use Rattle.tensor_terms.specs.Shaped
 pub use Rattle.tensor_terms.specs.Term
 pub use Rattle.tensor_terms.specs.Tree

@@ -6,6 +6,7 @@ pub mod Dropped
 pub mod Known
 pub mod Legality
 pub mod ListSets
+pub mod MoreTensors
 pub mod Moved
 pub mod OtherAxes
 pub mod Pads

@@ -1,5 +1,5 @@
 -- Result dims within bounds: they are those where dims go as far as they may.
-use Rattle.std.proofs.Common.{◌≡◌, ℕ, ◌≤◌, List, length, remove, Bool, true, false, ◌&&◌, nat_eq, nat_lt, nat_le, Ok, Err, IsOk, IfOk, []}
+use Rattle.std.proofs.Common.{◌≡◌, ℕ, List, length, remove, Bool, true, false, ◌&&◌, nat_eq, nat_lt, nat_le, Ok, Err, IsOk, IfOk, []}
 use Rattle.std.proofs.Common.{if◌then◌else◌, refl, ap, sym, ◌∙◌, arith, inl, inr}
 use Rattle.std.specs.Cmp.Lexicographic.{pointwise}
 use Rattle.std.specs.Result.{result_unwrap_or}

@@ -3,10 +3,12 @@ pub mod Contents
 pub mod Contraction
 pub mod Convolution
 pub mod Cursor
+pub mod Freed
 pub mod Movement
 pub mod Padding
 pub mod Reduction
 pub mod Result
+pub mod Sequence
 pub mod Shaped
 pub mod Tensors
 pub mod Term

@@ -1,7 +1,8 @@
 //! The result dims of expressions, or their first faults.
 
-ghost use Rattle.std.specs.Prelude.{◌≡◌, ◌≤◌, List, ℕ, length, Ok, IsTrue, IfOk, map};
+ghost use Rattle.std.specs.Prelude.{◌≡◌, ◌<◌, ◌≤◌, List, ℕ, length, Ok, IsTrue, IfOk, map};
 ghost use Rattle.tensor_shape.specs.Legal.{IsPossible};
+ghost use Rattle.tensor_terms.specs.Contents.{Contents};
 ghost use Rattle.tensor_terms.specs.Result.{unary_dims, binary_dims, ternary_dims};
 ghost use Rattle.tensor_terms.specs.Result.{dims_of, operand_dims, shape_of};
 ghost use Rattle.tensor_terms.specs.Shaped.{equal_dims};
@@ -46,8 +47,24 @@ impl Expr {
             ≡ map Ok operands.now }
         ensures { result ≡ dims_of bounds (term_of self.now) inputs.now.tensors }
     {
+        match self.node() {
+            Node::Input(number) => Ok(inputs.get(number).dims().copied()),
+            _ => self.dims_by(bounds, operands),
+        }
+    }
+
+    /// The same of an operation, whatever tensors its operands have these dims over. It is never
+    /// called of an input, which has no operands.
+    pub fn dims_by(&self, bounds: Bounds, operands: &[Dims]) -> Result<Dims, ExprFault>
+        requires bounds { IsPossible bounds }
+        requires some { 0 < length operands.now }
+        requires operands { (tensors : List Contents)
+            × (operand_dims bounds (term_of self.now) tensors ≡ map Ok operands.now) }
+        ensures { (tensors : List Contents)
+            → operand_dims bounds (term_of self.now) tensors ≡ map Ok operands.now
+            → result ≡ dims_of bounds (term_of self.now) tensors }
+    {
         match (self.node(), operands) {
-            (Node::Input(number), _) => Ok(inputs.get(number).dims().copied()),
             (Node::Unary(operation, _), [operand]) => unary_dims(bounds, operation, operand),
             (Node::Binary(operation, _, _), [first, second]) => {
                 binary_dims(bounds, operation, first, second)

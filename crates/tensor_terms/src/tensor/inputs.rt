@@ -1,15 +1,17 @@
 //! The inputs of an expression.
 
 ghost use Rattle.std.specs.Prelude.{◌≡◌, ◌<◌, ◌≤◌, ◌-◌, ◌^◌, ◌∷◌, [], ◌++◌, ◌↔◌, ◌⊎◌, length};
-ghost use Rattle.std.specs.Prelude.{IsTrue};
+ghost use Rattle.std.specs.Prelude.{IsTrue, IfOk};
 ghost use Rattle.std.specs.Prelude.{OnOk, OnErr, vec_len};
-ghost use Rattle.tensor_shape.specs.Legal.{highest_rank, text_bounds, IsPossible, IsWithin};
+ghost use Rattle.std.specs.Prelude.{slice_set};
+ghost use Rattle.tensor_shape.specs.Legal.{highest_rank, text_bounds, widest, IsPossible, IsWithin};
 ghost use Rattle.tensor_terms.specs.Contents.{input_of, AreWithin};
+ghost use Rattle.tensor_terms.specs.Freed.{freed};
 
 use crate::tensor::Tensor;
-use std::alloc::AllocError;
+use std::alloc::{AllocError, Global};
 use std::marker::Model;
-use tensor_shape::Bounds;
+use tensor_shape::{Bounds, Dims, WIDEST};
 
 /// The highest rank of an expression over inputs, where nobody names another one.
 const RANK_LIMIT: u32 = 6;
@@ -109,6 +111,20 @@ impl<'a> Inputs<'a> {
         &self.tensors[number as usize]
     }
 
+    /// The same tensors, whose values are lent. Takes memory for the list of them alone.
+    pub fn lent(&self, alloc: Global) -> Result<Inputs<'_>, AllocError>
+        ensures { IfOk result (λ r. r ≡ self.now) }
+    {
+        let mut tensors = Vec::with_capacity(alloc, self.tensors.len())?;
+        for tensor in &self.tensors {
+            tensors.push_reserved(Tensor::lent(tensor.dims().copied(), tensor.values()));
+        }
+        Ok(Inputs {
+            tensors,
+            bounds: self.bounds,
+        })
+    }
+
     /// Appends a tensor, whose number is then the old length. Its dims are within the bounds.
     pub fn push(&mut self, tensor: Tensor<'a>) -> Result<(), AllocError>
         requires few { length self.old.tensors < 2 ^ 32 - 1 }
@@ -120,4 +136,34 @@ impl<'a> Inputs<'a> {
         self.tensors.push(tensor)?;
         Ok(())
     }
+
+    /// The same tensors, over which results get as large as any may.
+    pub fn widened(self) -> Inputs<'a>
+        ensures tensors { result.tensors ≡ self.entry.tensors }
+        ensures limit { result.bounds ≡ widest }
+    {
+        Inputs {
+            tensors: self.tensors,
+            bounds: WIDEST,
+        }
+    }
+
+    /// Frees a tensor: one value, a 0 that takes no memory, stands in its place.
+    pub fn free(&mut self, number: u32)
+        requires { number < length self.old.tensors }
+        ensures tensors { self.new.tensors ≡ slice_set self.old.tensors number freed }
+        ensures limit { self.new.bounds ≡ self.old.bounds }
+    {
+        self.tensors[number as usize] = freed();
+    }
+}
+
+/// What stands in the place of a freed tensor.
+fn freed<'a>() -> Tensor<'a>
+    ensures { result ≡ freed }
+{
+    let Ok(dims) = Dims::new(&[]) else {
+        unreachable!();
+    };
+    Tensor::lent(dims, &[0])
 }
