@@ -12,7 +12,8 @@ use Rattle.tensor_ops.specs.Term.{Term, input, unary, binary, ternary, has_input
 use Rattle.tensor_ops.specs.Value.{tensor_of}
 use Rattle.tensor_ops.proofs.SameTensors.{IsSameTensor, same-input, tensor_of-same}
 use Rattle.tensor_ops.proofs.Shapes.{with_one-known, with_two-known, with_three-known}
-use Rattle.tensor_reduce.specs.Plan.{term_of_step, dims_of_step, terms_in, dims_in, worked_out}
+use Rattle.tensor_ops.specs.Sequence.{worked_out}
+use Rattle.tensor_reduce.specs.Plan.{term_of_step, dims_of_step, terms_in, dims_in}
 use Rattle.tensor_reduce.specs.Plan.{AreReady}
 use Rattle.tensor_reduce.specs.Steps.{combines, combines_two, own, operand_nodes, step_nodes}
 use Rattle.tensor_reduce.specs.Steps.{is_input}

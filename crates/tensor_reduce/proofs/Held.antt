@@ -17,7 +17,8 @@ use Rattle.tensor_ops.proofs.SameTensors.{IsSameTensor}
 use Rattle.tensor_ops.proofs.SameTensors.{tensor_of-same}
 use Rattle.tensor_ops.proofs.Evaluated.{value_at-tensor_of}
 use Rattle.tensor_ops.proofs.Shapes.{Ok-unwrap}
-use Rattle.tensor_reduce.specs.Plan.{term_of_step, dims_of_step, terms_in, worked_out}
+use Rattle.tensor_ops.specs.Sequence.{worked_out}
+use Rattle.tensor_reduce.specs.Plan.{term_of_step, dims_of_step, terms_in}
 use Rattle.tensor_reduce.specs.Plan.{IsReady, AreReady}
 use Rattle.tensor_reduce.specs.private.Fusing.{fused_with}
 use Rattle.tensor_reduce.specs.private.Held.{AreHeldFor, AreHeld}

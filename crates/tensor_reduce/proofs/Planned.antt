@@ -10,7 +10,8 @@ use Rattle.tensor_ops.specs.Shaped.{Shaped}
 use Rattle.tensor_ops.specs.Term.{Term, input, unary, binary, ternary, has_inputs, nodes_of}
 use Rattle.tensor_ops.specs.Value.{tensor_of}
 use Rattle.tensor_reduce.specs.private.Cutting.{IsCut, AreStepsOf}
-use Rattle.tensor_reduce.specs.Plan.{term_of_step, dims_of_step, terms_in, worked_out}
+use Rattle.tensor_ops.specs.Sequence.{worked_out}
+use Rattle.tensor_reduce.specs.Plan.{term_of_step, dims_of_step, terms_in}
 use Rattle.tensor_reduce.specs.Plan.{last_tensor, AreReady}
 use Rattle.tensor_reduce.specs.Steps.{combines, combines_two, own, operand_nodes, step_nodes}
 use Rattle.tensor_reduce.specs.Steps.{is_input, cut, steps_of}

@@ -6,6 +6,7 @@ pub use Rattle.tensor_ops.specs.Index
 pub use Rattle.tensor_ops.specs.Parts
 pub use Rattle.tensor_ops.specs.Reduction
 pub use Rattle.tensor_ops.specs.Result
+pub use Rattle.tensor_ops.specs.Sequence
 pub use Rattle.tensor_ops.specs.Scalars
 pub use Rattle.tensor_ops.specs.Term
 pub use Rattle.tensor_ops.specs.Tree
@@ -14,6 +15,7 @@ pub use Rattle.tensor_ops.specs.Merged
 pub use Rattle.tensor_ops.specs.Wrap
 pub mod Kernels
 pub mod Plan
+pub mod Readers
 pub mod Reducers
 pub mod Shards
 pub mod Steps

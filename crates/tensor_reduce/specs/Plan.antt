@@ -29,11 +29,6 @@ dims_in steps = map (λ s. Ok (dims_of_step s)) steps
 abbrev pub steps_in : Plan → List Step
 steps_in plan = plan.steps.items
 
--- tensors, and behind them those of terms, each over all before it
-abbrev pub worked_out : List Term → List Contents → List Contents
-worked_out [] tensors = tensors
-worked_out (t ∷ terms) tensors = worked_out terms (tensors ++ tensor_of t tensors ∷ [])
-
 -- the last of tensors, of which there is one at least
 abbrev pub last_tensor : List Contents → Contents
 last_tensor tensors = input_of tensors (length tensors - 1)

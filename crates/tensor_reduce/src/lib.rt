@@ -36,6 +36,7 @@ pub use parallel_for::{ForFault, Kernel, PoolFault, Setup};
 pub use plan::Plan;
 pub use running::run_plan;
 pub use running::step_kernel::StepKernel;
+pub use schedule::readers::reads;
 pub use shards::Shards;
 pub use step::Step;
 pub use tensor_ops::{Dims, Expr, Inputs, Reducer, Tensor};

@@ -21,7 +21,8 @@ pub struct Plan {
 }
 
 impl Plan {
-    ghost use Rattle.tensor_reduce.specs.Plan.{steps_in, terms_in, dims_in, worked_out, AreReady};
+    ghost use Rattle.tensor_ops.specs.Sequence.{worked_out};
+    ghost use Rattle.tensor_reduce.specs.Plan.{steps_in, terms_in, dims_in, AreReady};
     ghost use Rattle.tensor_reduce.specs.Plan.{last_tensor};
 
     /// The plan of an expression over these inputs, made in time linear in its nodes.

@@ -13,7 +13,8 @@ pub(crate) mod workers;
 ghost use Rattle.std.specs.Prelude.{◌≡◌, ◌<◌, ◌≤◌, ◌+◌, ◌↔◌, ◌++◌, drop, length};
 ghost use Rattle.std.specs.Prelude.{vec_capacity, IfOk, IfErr, IsErrOf};
 ghost use Rattle.parallel_for.specs.Setup.{IsPoolSize, IsNoPoolSize, AreNoPartitions};
-ghost use Rattle.tensor_reduce.specs.Plan.{steps_in, terms_in, worked_out};
+ghost use Rattle.tensor_ops.specs.Sequence.{worked_out};
+ghost use Rattle.tensor_reduce.specs.Plan.{steps_in, terms_in};
 ghost use Rattle.tensor_reduce.specs.Plan.{last_tensor, AreReady};
 ghost use Rattle.tensor_reduce.specs.private.Held.{AreHeld};
 

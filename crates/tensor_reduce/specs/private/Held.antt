@@ -1,7 +1,8 @@
 -- Tensors that are held while steps are left to do, those that nobody reads any more freed.
 use Rattle.std.specs.Prelude.{◌≡◌, ℕ, List, ◌++◌, length, true}
 use Rattle.tensor_ops.specs.Contents.{Contents, input_of}
-use Rattle.tensor_reduce.specs.Plan.{terms_in, worked_out, last_tensor, AreReady}
+use Rattle.tensor_ops.specs.Sequence.{worked_out}
+use Rattle.tensor_reduce.specs.Plan.{terms_in, last_tensor, AreReady}
 use Rattle.tensor_reduce.specs.private.Readers.{are_reading}
 use Rattle.tensor_reduce.specs.declared.step.Step.{Step}
 

@@ -1,15 +1,9 @@
--- Which terms and steps read a tensor.
+-- Which steps read a tensor.
 use Rattle.std.specs.Prelude.{ℕ, nat_eq, List, [], ◌∷◌, Bool, false, ◌||◌}
 use Rattle.tensor_ops.specs.Term.{Term, input, unary, binary, ternary}
 use Rattle.tensor_reduce.specs.Plan.{term_of_step}
+pub use Rattle.tensor_reduce.specs.Readers.{reads}
 use Rattle.tensor_reduce.specs.declared.step.Step.{Step}
-
--- whether a term reads the tensor of a number
-abbrev pub reads : ℕ → Term → Bool
-reads n (input m) = nat_eq m n
-reads n (unary o a) = reads n a
-reads n (binary o a b) = reads n a || reads n b
-reads n (ternary o a b c) = reads n a || (reads n b || reads n c)
 
 -- whether one of these steps does
 abbrev pub are_reading : ℕ → List Step → Bool

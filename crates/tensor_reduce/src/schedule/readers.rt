@@ -3,7 +3,8 @@
 ghost use Rattle.std.specs.Prelude.{◌≡◌, ◌+◌, ◌<◌, ◌^◌, false};
 ghost use Rattle.tensor_ops.specs.Tree.{term_of};
 ghost use Rattle.tensor_reduce.specs.Plan.{term_of_step};
-ghost use Rattle.tensor_reduce.specs.private.Readers.{reads, are_reading, is_over};
+ghost use Rattle.tensor_reduce.specs.Readers.{reads};
+ghost use Rattle.tensor_reduce.specs.private.Readers.{are_reading, is_over};
 
 use crate::schedule::rows::is_tensor;
 use crate::step::Step;
@@ -33,7 +34,7 @@ pub(crate) fn are_read_elsewhere(number: u32, second: &Step, later: &[Step]) -> 
 }
 
 /// Whether an expression reads the tensor of a number.
-pub(crate) fn reads(expr: &Expr, number: u32) -> bool
+pub fn reads(expr: &Expr, number: u32) -> bool
     ensures { result ≡ reads number (term_of expr.now) }
 {
     match expr.node() {

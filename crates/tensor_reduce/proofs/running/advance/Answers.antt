@@ -1,4 +1,5 @@
-use Rattle.tensor_reduce.specs.Plan.{terms_in, worked_out}
+use Rattle.tensor_ops.specs.Sequence.{worked_out}
+use Rattle.tensor_reduce.specs.Plan.{terms_in}
 use Rattle.tensor_reduce.proofs.StageSteps.{names-stage, dims-stage, schedule-stage, numbers-stage}
 use Rattle.tensor_reduce.proofs.StageSteps.{held-left, AreHeld-stage}
 use Rattle.tensor_reduce.proofs.running.advance.Goals as goal

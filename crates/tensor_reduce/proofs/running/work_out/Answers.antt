@@ -1,6 +1,7 @@
 use Rattle.std.proofs.Common.{◌≡◌, ◌-◌, ◌++◌, length, take, drop, sym, subst, arith}
 use Rattle.std.proofs.lemmas.List.{length-drop, take_all}
-use Rattle.tensor_reduce.specs.Plan.{terms_in, worked_out}
+use Rattle.tensor_ops.specs.Sequence.{worked_out}
+use Rattle.tensor_reduce.specs.Plan.{terms_in}
 use Rattle.tensor_reduce.specs.private.Held.{AreHeld}
 use Rattle.tensor_reduce.proofs.running.work_out.Goals as goal
 

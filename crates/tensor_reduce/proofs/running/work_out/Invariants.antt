@@ -1,6 +1,7 @@
 -- What is held of the steps done is all that the others read.
 use Rattle.std.proofs.Common.{◌+◌, ◌-◌, ◌<◌, ◌≤◌, ◌++◌, length, drop, vec_capacity}
-use Rattle.tensor_reduce.specs.Plan.{terms_in, worked_out}
+use Rattle.tensor_ops.specs.Sequence.{worked_out}
+use Rattle.tensor_reduce.specs.Plan.{terms_in}
 use Rattle.tensor_reduce.specs.private.Held.{AreHeld}
 use Rattle.tensor_reduce.proofs.running.work_out.Given as goal
 
