@@ -1,7 +1,7 @@
 -- What is asked for from a field on, where those before it have no fault.
 use Rattle.std.specs.Prelude.{ℕ, codes, Result, Ok, ok_or}
 use Rattle.expr_reader.specs.Fields.{Fields, within}
-use Rattle.expr_reader.specs.Node.{tree_at}
+use Rattle.expr_reader.specs.Expression.{expression_at}
 use Rattle.expr_reader.specs.Place.{field, Located, at, below}
 use Rattle.expr_reader.specs.Profile.{Profile}
 use Rattle.expr_reader.specs.Request.{Asked, Naming}
@@ -12,12 +12,13 @@ use Rattle.expr_reader.specs.declared.fault.Fault.TheVariants.{BadWorkers, BadBl
 -- from the tree on, over inputs
 abbrev pub tree_asked : Fields → Profile → ℕ → ℕ → Named → Result Asked Located
 tree_asked f p workers block named =
-    and_then (below (field (codes "expr")) (tree_at p named 0 f.expr)) (λ tree. Ok (record {
+    and_then (below (field (codes "expr")) (expression_at p named 0 f.expr)) (λ found. Ok (record {
       workers = workers;
       block = block;
       inputs = named.tensors;
       bounds = p.bounds;
-      term = tree.term;
+      bindings = found.bindings;
+      term = found.tree.term;
     }))
 
 module _ (named : Naming) where

@@ -1,4 +1,6 @@
 pub mod Arrays
+pub mod Bindings
+pub mod Bound
 pub mod Chain
 pub mod Counted
 pub mod Data

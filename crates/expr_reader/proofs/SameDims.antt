@@ -1,11 +1,11 @@
 -- What a frame asks for goes by its header and the number of its values, but for its inputs' values.
 use Rattle.std.proofs.Common.{◌≡◌, ℕ, ℤ, zero, suc, ◌+◌, ◌-◌, min, List, [], ◌∷◌, length, Bool, true, false, ◌==◌}
 use Rattle.std.proofs.Common.{Option, Some, None, ok_or, option_map, option_and_then, take, drop, Result, Ok, Err}
-use Rattle.std.proofs.Common.{refl, ap, sym, ◌∙◌, if◌then◌else◌, leb, arith}
-use Rattle.std.proofs.lemmas.List.{length-take, length-drop}
+use Rattle.std.proofs.Common.{refl, ap, sym, ◌∙◌, ◌++◌, map, if◌then◌else◌, leb, arith}
+use Rattle.std.proofs.lemmas.List.{length-take, length-drop, map-append}
 use Rattle.std.specs.Prelude.{⊤, nat_lt, codes}
 use Rattle.std.specs.Option.{option_map_or}
-use Rattle.std.specs.Result.{result_map_both}
+use Rattle.std.specs.Result.{result_map_both, result_unwrap_or}
 use Rattle.serde_json.specs.Data.{Data, null, boolean, number, string, array, object, Items}
 use Rattle.serde_json.specs.Data.{no_items, item, Members, no_members, member}
 use Rattle.serde_json.specs.Events.{items_len}
@@ -13,39 +13,32 @@ use Rattle.serde_json.specs.Find.{as_object}
 use Rattle.tensor_ops.specs.Bounds.{Bounds}
 use Rattle.tensor_ops.specs.Contents.{Contents}
 use Rattle.tensor_ops.specs.Index.{size_of}
-use Rattle.tensor_ops.specs.Result.{unary_dims, binary_dims, ternary_dims, dims_of}
-use Rattle.tensor_ops.specs.Shaped.{with_one, with_two, with_three}
-use Rattle.tensor_ops.specs.Term.{Term, input, unary, binary, ternary}
+use Rattle.tensor_ops.specs.Legal.{widest}
+use Rattle.tensor_ops.specs.Result.{shape_of}
+use Rattle.tensor_ops.specs.Term.{Term, unary, binary, ternary}
+use Rattle.tensor_ops.specs.Value.{tensor_of}
+use Rattle.tensor_terms.proofs.MoreTensors.{dims_of-same_dims}
 use Rattle.expr_reader.specs.Arguments.{Form, Arguments, arguments_at}
 use Rattle.expr_reader.specs.Faults.{text_fault}
 use Rattle.expr_reader.specs.Fields.{Fields, fields_of, within}
-use Rattle.expr_reader.specs.Frame.{dims_alone, dealt, none_left, framed_tensors, bad_framed, frame_inputs, request_of_frame}
-use Rattle.expr_reader.specs.Limits.{most_values}
+use Rattle.expr_reader.specs.Frame.{dims_alone, dealt, none_left, framed_tensors, bad_framed, frame_inputs, values_limit, request_of_frame}
+use Rattle.expr_reader.specs.Expression.{unbound, behind, is_let, new_name, expression_at, bound_at}
 use Rattle.expr_reader.specs.Node.{within_limit, operation_at, checked, made, node_at, applied, tree_at}
 use Rattle.expr_reader.specs.Place.{Step, field, index, Located, here, at, below, unlocated}
 use Rattle.expr_reader.specs.Profile.{Profile}
 use Rattle.expr_reader.specs.Profile.{frame_profile_of}
 use Rattle.expr_reader.specs.Request.{Asked, profile_in}
 use Rattle.expr_reader.specs.Request.{fields_asked, data_asked, data_of, text_asked}
-use Rattle.expr_reader.specs.Steps.{and_then}
+use Rattle.expr_reader.specs.Steps.{and_then, map_found}
 use Rattle.expr_reader.specs.Table.{Operation, one, two, three, arity_of}
 use Rattle.expr_reader.specs.Tensors.{Named, dims_in, names_in, given}
-use Rattle.expr_reader.specs.declared.fault.Fault.TheVariants.{BadField, BadVersion, BadWorkers, BadBlock, BadTensor, BadArity, TooLong}
-use Rattle.expr_reader.specs.Alike.{HaveSameDims, AskAlike}
+use Rattle.expr_reader.specs.declared.fault.Fault.TheVariants.{BadField, BadVersion, BadWorkers, BadBlock, BadTensor, BadArity, BadArgument, TooLong}
+use Rattle.expr_reader.specs.Alike.{AskAlike}
 use Rattle.expr_reader.proofs.Chain.{tree_asked, inputs_asked, block_asked, workers_asked}
 
-module _ (ts us : List Contents) (same : HaveSameDims ts us) (bounds : Bounds) where
-  -- the dims of a term over them
-  pub dims_of-same : (t : Term) → dims_of bounds t ts ≡ dims_of bounds t us
-  dims_of-same (input n) = ap Ok (same n)
-  dims_of-same (unary o a) = ap (with_one (unary_dims bounds o)) (dims_of-same a)
-  dims_of-same (binary o a b) =
-      ap (λ d. with_two (binary_dims bounds o) d (dims_of bounds b ts)) (dims_of-same a)
-      ∙ ap (λ e. with_two (binary_dims bounds o) (dims_of bounds a us) e) (dims_of-same b)
-  dims_of-same (ternary o a b c) =
-      ap (λ d. with_three (ternary_dims o) d (dims_of bounds b ts) (dims_of bounds c ts)) (dims_of-same a)
-      ∙ ap (λ e. with_three (ternary_dims o) (dims_of bounds a us) e (dims_of bounds c ts)) (dims_of-same b)
-      ∙ ap (λ f. with_three (ternary_dims o) (dims_of bounds a us) (dims_of bounds b us) f) (dims_of-same c)
+-- the dims of tensors
+abbrev dims_of_each : List Contents → List (List ℕ)
+dims_of_each ts = map (λ t. t.dims) ts
 
 and_then-same : {A B : Type 0} (found other : Result A Located) (f g : A → Result B Located) → found ≡ other
     → ((x : A) → f x ≡ g x) → and_then found f ≡ and_then other g
@@ -56,7 +49,8 @@ and_then-same {A = A} {B = B} found other f g is same = ap (λ r. and_then r f) 
     by_case (Err found) = refl
 
 -- a tree over names of tensors of the same dims
-module _ (profile : Profile) (names : List (List ℕ)) (ts us : List Contents) (same : HaveSameDims ts us) where
+module _ (profile : Profile) (names : List (List ℕ)) (ts us : List Contents)
+    (same : dims_of_each ts ≡ dims_of_each us) where
   abbrev first : Named
   first = record { names = names; tensors = ts }
 
@@ -69,7 +63,7 @@ module _ (profile : Profile) (names : List (List ℕ)) (ts us : List Contents) (
       and_then-same (arguments_at i fs items) (arguments_at i fs items)
       (λ a. checked (given profile.bounds first) (make a) end) (λ a. checked (given profile.bounds second) (make a) end) refl
       (λ a. ap (result_map_both (λ dims. record { term = make a; end = end }) (λ fault. here (text_fault fault)))
-      (dims_of-same ts us same profile.bounds (make a)))
+      (dims_of-same_dims profile.bounds (make a) ts us same))
 
   mutual
     node_at-same : (n : ℕ) (d : Data) → node_at profile first n d ≡ node_at profile second n d
@@ -89,52 +83,102 @@ module _ (profile : Profile) (names : List (List ℕ)) (ts us : List Contents) (
     applied-same n (one forms make) no_items = refl
     applied-same n (one forms make) (item a rest) =
         and_then-same (below (index 1) (tree_at profile first (n + 1) a)) (below (index 1) (tree_at profile second (n + 1) a)) _ _
-        (ap (λ r. below (index 1) (within_limit (n + 1) r)) (node_at-same (n + 1) a))
+        (ap (λ r. below (index 1) (within_limit profile (n + 1) r)) (node_at-same (n + 1) a))
         (λ x. made-same forms 2 rest (λ args. unary (make args) x.term) x.end)
     applied-same n (two forms make) no_items = refl
     applied-same n (two forms make) (item a no_items) = refl
     applied-same n (two forms make) (item a (item b rest)) =
         and_then-same (below (index 1) (tree_at profile first (n + 1) a)) (below (index 1) (tree_at profile second (n + 1) a)) _ _
-        (ap (λ r. below (index 1) (within_limit (n + 1) r)) (node_at-same (n + 1) a))
+        (ap (λ r. below (index 1) (within_limit profile (n + 1) r)) (node_at-same (n + 1) a))
         (λ x. and_then-same (below (index 2) (tree_at profile first x.end b)) (below (index 2) (tree_at profile second x.end b)) _ _
-        (ap (λ r. below (index 2) (within_limit x.end r)) (node_at-same x.end b))
+        (ap (λ r. below (index 2) (within_limit profile x.end r)) (node_at-same x.end b))
         (λ y. made-same forms 3 rest (λ args. binary (make args) x.term y.term) y.end))
     applied-same n (three forms make) no_items = refl
     applied-same n (three forms make) (item a no_items) = refl
     applied-same n (three forms make) (item a (item b no_items)) = refl
     applied-same n (three forms make) (item a (item b (item c rest))) =
         and_then-same (below (index 1) (tree_at profile first (n + 1) a)) (below (index 1) (tree_at profile second (n + 1) a)) _ _
-        (ap (λ r. below (index 1) (within_limit (n + 1) r)) (node_at-same (n + 1) a))
+        (ap (λ r. below (index 1) (within_limit profile (n + 1) r)) (node_at-same (n + 1) a))
         (λ x. and_then-same (below (index 2) (tree_at profile first x.end b)) (below (index 2) (tree_at profile second x.end b)) _ _
-        (ap (λ r. below (index 2) (within_limit x.end r)) (node_at-same x.end b))
+        (ap (λ r. below (index 2) (within_limit profile x.end r)) (node_at-same x.end b))
         (λ y. and_then-same (below (index 3) (tree_at profile first y.end c)) (below (index 3) (tree_at profile second y.end c)) _ _
-        (ap (λ r. below (index 3) (within_limit y.end r)) (node_at-same y.end c))
+        (ap (λ r. below (index 3) (within_limit profile y.end r)) (node_at-same y.end c))
         (λ z. made-same forms 4 rest (λ args. ternary (make args) x.term y.term z.term) z.end)))
 
   tree_at-same : (n : ℕ) (d : Data) → tree_at profile first n d ≡ tree_at profile second n d
-  tree_at-same n d = ap (within_limit n) (node_at-same n d)
+  tree_at-same n d = ap (within_limit profile n) (node_at-same n d)
+
+-- a tensor more of a term
+dims-more : (t : Term) (ts us : List Contents) → dims_of_each ts ≡ dims_of_each us
+    → dims_of_each (ts ++ tensor_of t ts ∷ []) ≡ dims_of_each (us ++ tensor_of t us ∷ [])
+dims-more t ts us same =
+    map-append (λ x. x.dims) ts (tensor_of t ts ∷ [])
+    ∙ ap (λ ds. ds ++ shape_of t ts ∷ []) same
+    ∙ ap (λ r. dims_of_each us ++ result_unwrap_or r [] ∷ []) (dims_of-same_dims widest t ts us same)
+    ∙ sym (map-append (λ x. x.dims) us (tensor_of t us ∷ []))
+
+-- an expression over names of tensors of the same dims
+module _ (profile : Profile) where
+  abbrev over : List (List ℕ) → List Contents → Named
+  over names ts = record { names = names; tensors = ts }
+
+  alone-same : (names : List (List ℕ)) (ts us : List Contents)
+      → dims_of_each ts ≡ dims_of_each us → (n : ℕ) (d : Data)
+      → map_found unbound (tree_at profile (over names ts) n d)
+      ≡ map_found unbound (tree_at profile (over names us) n d)
+  alone-same names ts us same n d = ap (map_found unbound) (tree_at-same profile names ts us same n d)
+
+  mutual
+    expression_at-same : (names : List (List ℕ)) (ts us : List Contents)
+        → dims_of_each ts ≡ dims_of_each us → (n : ℕ) (d : Data)
+        → expression_at profile (over names ts) n d ≡ expression_at profile (over names us) n d
+    expression_at-same names ts us same n null = alone-same names ts us same n null
+    expression_at-same names ts us same n (boolean b) = alone-same names ts us same n (boolean b)
+    expression_at-same names ts us same n (number x) = alone-same names ts us same n (number x)
+    expression_at-same names ts us same n (object ms) = alone-same names ts us same n (object ms)
+    expression_at-same names ts us same n (string name) = alone-same names ts us same n (string name)
+    expression_at-same names ts us same n (array no_items) = alone-same names ts us same n (array no_items)
+    expression_at-same names ts us same n (array (item head rest)) =
+        ap (λ r. if is_let profile head then within_limit profile n r
+        else map_found unbound (tree_at profile (over names ts) n (array (item head rest))))
+        (bound_at-same names ts us same n rest)
+        ∙ ap (λ r. if is_let profile head then within_limit profile n (bound_at profile (over names us) n rest) else r)
+        (alone-same names ts us same n (array (item head rest)))
+
+    bound_at-same : (names : List (List ℕ)) (ts us : List Contents)
+        → dims_of_each ts ≡ dims_of_each us → (n : ℕ) (rest : Items)
+        → bound_at profile (over names ts) n rest ≡ bound_at profile (over names us) n rest
+    bound_at-same names ts us same n no_items = refl
+    bound_at-same names ts us same n (item d no_items) = refl
+    bound_at-same names ts us same n (item d (item e no_items)) = refl
+    bound_at-same names ts us same n (item d (item e (item f (item g rest)))) = refl
+    bound_at-same names ts us same n (item d (item e (item f no_items))) =
+        and_then-same (ok_or (new_name (over names ts) d) (at (index 1) BadArgument))
+        (ok_or (new_name (over names us) d) (at (index 1) BadArgument)) _ _ refl
+        (λ name. and_then-same (below (index 2) (tree_at profile (over names ts) (n + 1) e))
+        (below (index 2) (tree_at profile (over names us) (n + 1) e)) _ _
+        (ap (below (index 2)) (tree_at-same profile names ts us same (n + 1) e))
+        (λ x. ap (λ r. map_found (behind x.term) (below (index 3) r))
+        (expression_at-same (names ++ name ∷ []) (ts ++ tensor_of x.term ts ∷ [])
+        (us ++ tensor_of x.term us ∷ []) (dims-more x.term ts us same) x.end f)))
 
 -- tensors that are read of the same members, and as many values
 abbrev AreAlike : Option (List Contents) → Option (List Contents) → Type 0
 AreAlike None None = ⊤
 AreAlike None (Some us) = ⊥
 AreAlike (Some ts) None = ⊥
-AreAlike (Some ts) (Some us) = HaveSameDims ts us
-
-HaveSameDims-cons : (t u : Contents) (ts us : List Contents) → t.dims ≡ u.dims → HaveSameDims ts us → HaveSameDims (t ∷ ts) (u ∷ us)
-HaveSameDims-cons t u ts us head rest zero = head
-HaveSameDims-cons t u ts us head rest (suc n) = rest n
+AreAlike (Some ts) (Some us) = dims_of_each ts ≡ dims_of_each us
 
 AreAlike-cons : (t u : Contents) → t.dims ≡ u.dims → (ts us : Option (List Contents)) → AreAlike ts us
     → AreAlike (option_map (λ ts. t ∷ ts) ts) (option_map (λ us. u ∷ us) us)
 AreAlike-cons t u head None None alike = tt
 AreAlike-cons t u head None (Some us) alike = absurd alike
 AreAlike-cons t u head (Some ts) None alike = absurd alike
-AreAlike-cons t u head (Some ts) (Some us) alike = HaveSameDims-cons t u ts us head alike
+AreAlike-cons t u head (Some ts) (Some us) alike = (cc)
 
 module _ (bounds : Bounds) where
   AreAlike-none_left : (vs ws : List ℤ) → length vs ≡ length ws → AreAlike (none_left vs) (none_left ws)
-  AreAlike-none_left [] [] long = λ n. refl
+  AreAlike-none_left [] [] long = refl
   AreAlike-none_left [] (w ∷ ws) long = absurd (omega arith)
   AreAlike-none_left (v ∷ vs) [] long = absurd (omega arith)
   AreAlike-none_left (v ∷ vs) (w ∷ ws) long = tt
@@ -183,13 +227,13 @@ AskAlike-and_then (Ok x) f g alike = alike x
 AskAlike-and_then (Err found) f g alike = refl
 
 module _ (f : Fields) (profile : Profile) (workers block : ℕ) (names : List (List ℕ)) where
-  AskAlike-tree_asked : (ts us : List Contents) → HaveSameDims ts us
+  AskAlike-tree_asked : (ts us : List Contents) → dims_of_each ts ≡ dims_of_each us
       → AskAlike (unlocated (tree_asked f profile workers block (record { names = names; tensors = ts })))
       (unlocated (tree_asked f profile workers block (record { names = names; tensors = us })))
   AskAlike-tree_asked ts us same =
-      rw (tree_at-same profile names ts us same 0 f.expr)
-      (AskAlike-and_then (below (field (codes "expr")) (tree_at profile (record { names = names; tensors = us }) 0 f.expr)) _ _
-      (λ tree. record { workers = refl; block = refl; bounds = refl; term = refl; inputs = same }))
+      rw (expression_at-same profile names ts us same 0 f.expr)
+      (AskAlike-and_then (below (field (codes "expr")) (expression_at profile (record { names = names; tensors = us }) 0 f.expr)) _ _
+      (λ found. record { workers = refl; block = refl; bounds = refl; bindings = refl; term = refl; inputs = same }))
 
   -- where there are none, the places may be others
   AskAlike-named : (p q : List Step) (ts us : Option (List Contents)) → AreAlike ts us
@@ -241,7 +285,7 @@ module _ (vs ws : List ℤ) (long : length vs ≡ length ws) where
       (λ d. AskAlike-and_then (ok_or (fields_of d) (here BadField)) (fields_asked frame_profile_of (frame_inputs vs)) (fields_asked frame_profile_of (frame_inputs ws)) AskAlike-fields)
 
   pub AskAlike-frame : (header : List ℕ) → AskAlike (request_of_frame header vs) (request_of_frame header ws)
-  AskAlike-frame header = rw long (by_length (nat_lt most_values (length ws)))
+  AskAlike-frame header = rw long (by_length (nat_lt (values_limit header) (length ws)))
     where
       by_length : (is_long : Bool)
           → AskAlike (unlocated (if is_long then Err (here TooLong) else text_asked frame_profile_of (frame_inputs vs) header))

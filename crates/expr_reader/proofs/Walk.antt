@@ -14,7 +14,6 @@ use Rattle.std.specs.Prelude.{◌&&◌}
 use Rattle.tensor_ops.specs.Result.{dims_of, operand_dims}
 use Rattle.tensor_ops.specs.Term.{Term, Unary, Binary, Ternary, unary, binary, ternary, has_inputs}
 use Rattle.expr_reader.specs.Arguments.{Form, Arguments, arguments_at}
-use Rattle.expr_reader.specs.Limits.{most_nodes}
 use Rattle.expr_reader.specs.Node.{operation_at, applied, made, checked, tree_at}
 use Rattle.expr_reader.specs.Place.{Step, Located, index, here, below, way_of}
 use Rattle.expr_reader.specs.Profile.{Profile}
@@ -98,7 +97,7 @@ get_or-within (v ∷ vs) zero d e below = refl
 get_or-within (v ∷ vs) (suc i) d e below = get_or-within vs i d e (omega arith)
 
 -- a node whose first element names no operation
-pub tree_at-unknown : (profile : Profile) (named : Named) (n : ℕ) → n < most_nodes → (h v : Value) (list : Vec Value Global)
+pub tree_at-unknown : (profile : Profile) (named : Named) (n : ℕ) → n < profile.nodes → (h v : Value) (list : Vec Value Global)
     → v ≡ Array list → Some h ≡ slice_get list.items 0 → (l : Located) → operation_at profile (view h) ≡ Err l
     → tree_at profile named n (view v) ≡ Err l
 tree_at-unknown profile named n few h v list is head l unknown = from list.items refl head
@@ -107,10 +106,10 @@ tree_at-unknown profile named n few h v list is head l unknown = from list.items
     from [] same absent = (cc)
     from (x ∷ vs) same first =
         let as_named : x ≡ h = cc in
-        rw (ap view is ∙ view-Array list ∙ ap (λ vs. array (items_view vs)) same, lt-leb most_nodes n few, as_named, unknown) refl
+        rw (ap view is ∙ view-Array list ∙ ap (λ vs. array (items_view vs)) same, lt-leb profile.nodes n few, as_named, unknown) refl
 
 -- a node of a known operation, by the elements of its array
-module _ (profile : Profile) (named : Named) (n : ℕ) (few : n < most_nodes) (o : Operation) (h v : Value)
+module _ (profile : Profile) (named : Named) (n : ℕ) (few : n < profile.nodes) (o : Operation) (h v : Value)
     (list : Vec Value Global) (is : v ≡ Array list)
     (head : Some h ≡ slice_get list.items 0) (names : operation_at profile (view h) ≡ Ok o) where
   whole : (vs : List Value) → list.items ≡ vs → view v ≡ array (items_view vs)
@@ -130,14 +129,14 @@ module _ (profile : Profile) (named : Named) (n : ℕ) (few : n < most_nodes) (o
       from [] same absent other = (cc)
       from (x ∷ vs) same found other =
           let differs : items_len (items_view vs) ≡ arity_of o → ⊥ = λ h. other (omega (arith, items_len-items_view vs, h)) in
-          rw (whole (x ∷ vs) same, lt-leb most_nodes n few, called x vs same, ne_eqb (items_len (items_view vs)) (arity_of o) differs) refl
+          rw (whole (x ∷ vs) same, lt-leb profile.nodes n few, called x vs same, ne_eqb (items_len (items_view vs)) (arity_of o) differs) refl
 
   -- else it is applied
   pub tree_at-applied : (x : Value) (vs : List Value) → list.items ≡ x ∷ vs → length vs ≡ arity_of o
       → tree_at profile named n (view v) ≡ applied profile named n o (items_view vs)
   tree_at-applied x vs same long =
       let counted : items_len (items_view vs) ≡ arity_of o = items_len-items_view vs ∙ long in
-      rw (whole (x ∷ vs) same, lt-leb most_nodes n few, called x vs same, eq-eqb (items_len (items_view vs)) (arity_of o) counted) refl
+      rw (whole (x ∷ vs) same, lt-leb profile.nodes n few, called x vs same, eq-eqb (items_len (items_view vs)) (arity_of o) counted) refl
 
   applied-first : (p : Operation) (a : Data) (rest : Items) (l : Located) → items_len (item a rest) ≡ arity_of p
       → below (index 1) (tree_at profile named (n + 1) a) ≡ Err l → applied profile named n p (item a rest) ≡ Err l
@@ -161,7 +160,7 @@ module _ (profile : Profile) (named : Named) (n : ℕ) (few : n < most_nodes) (o
           tree_at-applied x (y ∷ vs) same (omega (arith, long))
           ∙ applied-first o (view y) (items_view vs) l (ap suc (items_len-items_view vs) ∙ omega (arith, long)) (rw first at h)
 
-module _ (profile : Profile) (named : Named) (n : ℕ) (few : n < most_nodes) (h v : Value)
+module _ (profile : Profile) (named : Named) (n : ℕ) (few : n < profile.nodes) (h v : Value)
     (list : Vec Value Global) (is : v ≡ Array list) (head : Some h ≡ slice_get list.items 0) where
   -- an operation on one operand, with its arguments
   pub tree_at-one : (forms : List Form) (make : Arguments forms → Unary) (a : Value)

@@ -1,18 +1,19 @@
 -- Requests that differ in the values of their tensors alone.
-use Rattle.std.specs.Prelude.{◌≡◌, ℕ, List, Result, Ok, Err}
-use Rattle.tensor_ops.specs.Contents.{Contents, input_of}
+use Rattle.std.specs.Prelude.{◌≡◌, List, map, Result, Ok, Err}
+use Rattle.tensor_ops.specs.Contents.{Contents}
 use Rattle.expr_reader.specs.Request.{Asked}
 use Rattle.expr_reader.specs.declared.fault.Fault.{Fault}
 
 -- tensors that have the same dims, each as the one of its number
 abbrev pub HaveSameDims : List Contents → List Contents → Type 0
-HaveSameDims ts us = (n : ℕ) → (input_of ts n).dims ≡ (input_of us n).dims
+HaveSameDims ts us = map (λ t. t.dims) ts ≡ map (λ t. t.dims) us
 
 -- all but the values is the same
 pub record IsAlike (a b : Asked) : Type 0 where
   pub workers : a.workers ≡ b.workers
   pub block : a.block ≡ b.block
   pub bounds : a.bounds ≡ b.bounds
+  pub bindings : a.bindings ≡ b.bindings
   pub term : a.term ≡ b.term
   pub inputs : HaveSameDims a.inputs b.inputs
 

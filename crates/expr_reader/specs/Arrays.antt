@@ -10,8 +10,7 @@ use Rattle.tensor_ops.specs.Bounds.{Bounds}
 use Rattle.tensor_ops.specs.Contents.{Contents}
 use Rattle.tensor_ops.specs.Index.{size_of}
 use Rattle.expr_reader.specs.Fields.{whole_of, cons_of, list_in, fields_of}
-use Rattle.expr_reader.specs.Frame.{dims_alone, framed_tensor}
-use Rattle.expr_reader.specs.Limits.{most_values}
+use Rattle.expr_reader.specs.Frame.{dims_alone, framed_tensor, values_limit}
 use Rattle.expr_reader.specs.Place.{Step, field, Located, here, unlocated}
 use Rattle.expr_reader.specs.Profile.{frame_profile_of}
 use Rattle.expr_reader.specs.Request.{Asked, text_asked}
@@ -73,5 +72,5 @@ header_sizes d =
 -- the request of a header and arrays, or its first fault
 abbrev pub request_of_arrays : List ℕ → List (List ℤ) → Result Asked Fault
 request_of_arrays header arrays =
-    unlocated (if nat_lt most_values (length (joined arrays)) then Err (here TooLong)
+    unlocated (if nat_lt (values_limit header) (length (joined arrays)) then Err (here TooLong)
     else text_asked frame_profile_of (array_inputs arrays) header)

@@ -9,11 +9,11 @@ use Rattle.serde_json.specs.Find.{get}
 use Rattle.tensor_ops.specs.Bounds.{Bounds}
 use Rattle.tensor_ops.specs.Index.{size_of}
 use Rattle.tensor_ops.specs.Contents.{Contents}
-use Rattle.expr_reader.specs.Fields.{has_members}
+use Rattle.expr_reader.specs.Fields.{has_members, reading}
 use Rattle.expr_reader.specs.Limits.{most_values}
 use Rattle.expr_reader.specs.Place.{Step, field, Located, here, unlocated}
 use Rattle.expr_reader.specs.Profile.{frame_profile_of}
-use Rattle.expr_reader.specs.Request.{Asked, text_asked}
+use Rattle.expr_reader.specs.Request.{Asked, text_asked, version_in}
 use Rattle.expr_reader.specs.Tensors.{Named, dims_in, named_by, or_place}
 use Rattle.expr_reader.specs.declared.fault.Fault.{Fault}
 use Rattle.expr_reader.specs.declared.fault.Fault.TheVariants.{TooLong}
@@ -60,8 +60,15 @@ framed_in values bounds d = named_by (framed_tensors bounds values) d
 abbrev pub frame_inputs : List ℤ → Bounds → Data → Result Named Located
 frame_inputs values bounds d = or_place (bad_framed bounds values) d (framed_in values bounds d)
 
+-- how many values may stand behind a header: as its version says, or as the first does where it has
+-- no version
+abbrev pub values_limit : List ℕ → ℕ
+values_limit header =
+    option_map_or (λ p. p.values)
+    (option_and_then frame_profile_of (option_and_then version_in (reading header))) most_values
+
 -- the request of a frame, or its first fault
 abbrev pub request_of_frame : List ℕ → List ℤ → Result Asked Fault
 request_of_frame header values =
-    unlocated (if nat_lt most_values (length values) then Err (here TooLong)
+    unlocated (if nat_lt (values_limit header) (length values) then Err (here TooLong)
     else text_asked frame_profile_of (frame_inputs values) header)

@@ -6,11 +6,14 @@ pub use Rattle.tensor_ops.specs.Shaped
 pub use Rattle.tensor_ops.specs.Term
 pub use Rattle.tensor_ops.specs.Tree
 pub use Rattle.tensor_ops.specs.Result
+pub use Rattle.tensor_ops.specs.Sequence
 pub use Rattle.tensor_ops.specs.Value
 pub mod Alike
 pub mod Arguments
 pub mod Arrays
 pub mod Asked
+pub mod Bindings
+pub mod Expression
 pub mod Faults
 pub mod Fields
 pub mod Filled

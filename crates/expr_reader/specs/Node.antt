@@ -13,7 +13,6 @@ use Rattle.tensor_ops.specs.Result.{dims_of}
 use Rattle.tensor_ops.specs.Term.{Term, input, unary, binary, ternary}
 use Rattle.expr_reader.specs.Arguments.{Form, Arguments, arguments_at}
 use Rattle.expr_reader.specs.Faults.{text_fault}
-use Rattle.expr_reader.specs.Limits.{most_nodes}
 use Rattle.expr_reader.specs.Place.{Located, index, here, at, below}
 use Rattle.expr_reader.specs.Profile.{Profile, operation_named}
 use Rattle.expr_reader.specs.Steps.{and_then}
@@ -27,9 +26,9 @@ pub record Tree : Type 0 where
   pub term : Term
   pub end : ℕ
 
--- what is found of a node behind n others, where it is not the 1,001st
-abbrev pub within_limit : ℕ → Result Tree Located → Result Tree Located
-within_limit n found = if nat_le most_nodes n then Err (here TooLarge) else found
+-- what is found of a node behind n others, where it isn't one more than there may be
+abbrev pub within_limit : {A : Type 0} → Profile → ℕ → Result A Located → Result A Located
+within_limit profile n found = if nat_le profile.nodes n then Err (here TooLarge) else found
 
 -- the operation that the first of a node's elements names
 abbrev pub operation_at : Profile → Data → Result Operation Located
@@ -77,19 +76,19 @@ module _ (profile : Profile) (named : Named) where
     -- its operands from the left, each wholly, then its arguments, and then its own checks
     pub applied : ℕ → Operation → Items → Result Tree Located
     applied n (one forms make) (item a rest) =
-        and_then (below (index 1) (within_limit (n + 1) (node_at (n + 1) a))) (λ x.
+        and_then (below (index 1) (within_limit profile (n + 1) (node_at (n + 1) a))) (λ x.
         made_of forms 2 rest (λ args. unary (make args) x.term) x.end)
     applied n (two forms make) (item a (item b rest)) =
-        and_then (below (index 1) (within_limit (n + 1) (node_at (n + 1) a))) (λ x.
-        and_then (below (index 2) (within_limit x.end (node_at x.end b))) (λ y.
+        and_then (below (index 1) (within_limit profile (n + 1) (node_at (n + 1) a))) (λ x.
+        and_then (below (index 2) (within_limit profile x.end (node_at x.end b))) (λ y.
         made_of forms 3 rest (λ args. binary (make args) x.term y.term) y.end))
     applied n (three forms make) (item a (item b (item c rest))) =
-        and_then (below (index 1) (within_limit (n + 1) (node_at (n + 1) a))) (λ x.
-        and_then (below (index 2) (within_limit x.end (node_at x.end b))) (λ y.
-        and_then (below (index 3) (within_limit y.end (node_at y.end c))) (λ z.
+        and_then (below (index 1) (within_limit profile (n + 1) (node_at (n + 1) a))) (λ x.
+        and_then (below (index 2) (within_limit profile x.end (node_at x.end b))) (λ y.
+        and_then (below (index 3) (within_limit profile y.end (node_at y.end c))) (λ z.
         made_of forms 4 rest (λ args. ternary (make args) x.term y.term z.term) z.end)))
     applied n o rest = Err (here BadArity)
 
   -- a tree behind n nodes
   abbrev pub tree_at : ℕ → Data → Result Tree Located
-  tree_at n d = within_limit n (node_at n d)
+  tree_at n d = within_limit profile n (node_at n d)

@@ -1,17 +1,23 @@
 -- What the versions of texts and of frames allow.
-use Rattle.std.specs.Prelude.{ℕ, List, [], ◌∷◌, Option, Some, None, ◌==◌, if◌then◌else◌}
+use Rattle.std.specs.Prelude.{ℕ, List, [], ◌∷◌, Bool, true, false, Option, Some, None, ◌==◌}
+use Rattle.std.specs.Prelude.{if◌then◌else◌}
 use Rattle.std.specs.Str.{bytes_eq}
 use Rattle.tensor_ops.specs.Bounds.{Bounds}
-use Rattle.tensor_ops.specs.Legal.{text_bounds}
-use Rattle.expr_reader.specs.Limits.{greatest_block}
+use Rattle.tensor_ops.specs.Legal.{text_bounds, widest}
+use Rattle.expr_reader.specs.Limits.{greatest_block, widest_block, most_nodes, widest_nodes}
+use Rattle.expr_reader.specs.Limits.{most_values, widest_values}
 use Rattle.expr_reader.specs.Table.{Operation, operations_1, operations_2, operations_3}
 
--- the greatest number of workers and of places of a block, how large tensors get, and the
--- operations by their names
+-- the greatest number of workers and of places of a block, how large tensors get, how many nodes an
+-- expression has and how many values stand behind a header at most, whether tensors are given names
+-- in an expression, and the operations by their names
 pub record Profile : Type 0 where
   pub workers : ℕ
   pub block : ℕ
   pub bounds : Bounds
+  pub nodes : ℕ
+  pub values : ℕ
+  pub binds : Bool
   pub operations : List (List ℕ × Operation)
 
 abbrev pub version_1 : Profile
@@ -19,6 +25,9 @@ version_1 = record {
   workers = 64;
   block = greatest_block;
   bounds = text_bounds 6;
+  nodes = most_nodes;
+  values = most_values;
+  binds = false;
   operations = operations_1;
 }
 
@@ -27,14 +36,20 @@ version_2 = record {
   workers = 256;
   block = greatest_block;
   bounds = text_bounds 8;
+  nodes = most_nodes;
+  values = most_values;
+  binds = false;
   operations = operations_2;
 }
 
 abbrev pub version_3 : Profile
 version_3 = record {
   workers = 256;
-  block = greatest_block;
-  bounds = text_bounds 8;
+  block = widest_block;
+  bounds = widest;
+  nodes = widest_nodes;
+  values = widest_values;
+  binds = true;
   operations = operations_3;
 }
 

@@ -4,10 +4,12 @@ use Rattle.std.specs.Prelude.{option_and_then, if◌then◌else◌}
 use Rattle.serde_json.specs.Data.{Data}
 use Rattle.tensor_ops.specs.Bounds.{Bounds}
 use Rattle.tensor_ops.specs.Contents.{Contents}
+use Rattle.tensor_ops.specs.Sequence.{worked_out}
 use Rattle.tensor_ops.specs.Term.{Term}
+use Rattle.tensor_ops.specs.Value.{tensor_of}
+use Rattle.expr_reader.specs.Expression.{expression_at}
 use Rattle.expr_reader.specs.Fields.{Fields, fields_of, reading, whole_of, within}
 use Rattle.expr_reader.specs.Limits.{most_bytes}
-use Rattle.expr_reader.specs.Node.{within_limit, node_at}
 use Rattle.expr_reader.specs.Place.{field, Located, here, at, below, unlocated}
 use Rattle.expr_reader.specs.Profile.{Profile, Versions, profile_of}
 use Rattle.expr_reader.specs.Steps.{and_then}
@@ -16,13 +18,23 @@ use Rattle.expr_reader.specs.declared.fault.Fault.{Fault}
 use Rattle.expr_reader.specs.declared.fault.Fault.TheVariants.{TooLong, NotJson, BadField}
 use Rattle.expr_reader.specs.declared.fault.Fault.TheVariants.{BadVersion, BadWorkers, BadBlock}
 
--- what a text asks for; results are within these bounds
+-- what a text asks for: a term over inputs and, behind them, over the tensors of its bindings, each
+-- worked out over all before it; results are within these bounds
 pub record Asked : Type 0 where
   pub workers : ℕ
   pub block : ℕ
   pub inputs : List Contents
   pub bounds : Bounds
+  pub bindings : List Term
   pub term : Term
+
+-- the inputs, and behind them the tensors of the bindings
+abbrev pub tensors_of : Asked → List Contents
+tensors_of a = worked_out a.bindings a.inputs
+
+-- the tensor that is asked for
+abbrev pub asked_tensor : Asked → Contents
+asked_tensor a = tensor_of a.term (tensors_of a)
 
 -- what the version allows
 abbrev pub profile_in : Versions → Fields → Option Profile
@@ -46,13 +58,14 @@ module _ (versions : Versions) (named : Naming) where
       and_then (ok_or (within 1 p.block f.block) (at (field (codes "block")) BadBlock))
       (λ block.
       and_then (below (field (codes "inputs")) (named p.bounds f.inputs)) (λ inputs.
-      and_then (below (field (codes "expr")) (within_limit 0 (node_at p inputs 0 f.expr))) (λ tree.
+      and_then (below (field (codes "expr")) (expression_at p inputs 0 f.expr)) (λ found.
       Ok (record {
         workers = workers;
         block = block;
         inputs = inputs.tensors;
         bounds = p.bounds;
-        term = tree.term;
+        bindings = found.bindings;
+        term = found.tree.term;
       }))))))
 
   -- what data asks for: it has to have the five fields

@@ -1,12 +1,16 @@
-//! The inputs of a request, by name and by number.
+//! The tensors of a request, by name and by number: its inputs, and behind them those of its bindings.
 
-ghost use Rattle.std.specs.Prelude.{◌≡◌, ◌+◌, ◌≤◌, ◌⊎◌, ◌∷◌, ℕ, List, length, codes, Some, None};
-ghost use Rattle.std.specs.Prelude.{Ok, Err, MatchResult, OnOk, IfErr, if◌then◌else◌};
+ghost use Rattle.std.specs.Prelude.{◌≡◌, ◌+◌, ◌^◌, ◌<◌, ◌≤◌, ◌⊎◌, ◌∷◌, [], ◌++◌, ℕ, List, length};
+ghost use Rattle.std.specs.Prelude.{codes, Some, None, option_map};
+ghost use Rattle.std.specs.Prelude.{Ok, Err, MatchResult, OnOk, IfOk, IfErr, if◌then◌else◌};
 ghost use Rattle.std.specs.Option.{option_or};
 ghost use Rattle.std.specs.Str.{bytes_eq};
 ghost use Rattle.serde_json.specs.View.{view, members_view};
 ghost use Rattle.tensor_ops.specs.Bounds.{Bounds};
+ghost use Rattle.tensor_ops.specs.Contents.{input_of};
 ghost use Rattle.tensor_ops.specs.Legal.{IsPossible};
+ghost use Rattle.expr_reader.specs.Bindings.{term_under, IsBound};
+ghost use Rattle.expr_reader.specs.Expression.{new_name, with_binding};
 ghost use Rattle.expr_reader.specs.private.Behind.{source_of, tensors_by, place_by, naming_by};
 ghost use Rattle.expr_reader.specs.private.Counted.{member_count};
 ghost use Rattle.expr_reader.specs.Limits.{most_bytes};
@@ -16,20 +20,23 @@ ghost use Rattle.expr_reader.specs.Place.{field, below};
 ghost use Rattle.expr_reader.specs.private.Shown.{IsNamed};
 ghost use Rattle.expr_reader.specs.Tensors.{Named, names_in, number_of};
 
+use crate::binding::Binding;
 use crate::fault::Fault;
 use crate::place::Place;
 use crate::values::Values;
 use serde_json::{Map, Value};
 use std::alloc::Global;
 use std::collections::BTreeMap;
-use tensor_ops::{Bounds, Inputs};
+use tensor_ops::{Bounds, Dims, Inputs};
 
-/// Inputs, and the number of each by its name. A map in order, so that no choice of names makes it
-/// slow.
+/// Inputs, behind them bindings, and the number of each by its name. A map in order, so that no choice
+/// of names makes it slow.
 #[derive(Drop)]
 pub(crate) struct NamedInputs<'v, 'a> {
+    pub(crate) alloc: Global,
     pub(crate) numbers: BTreeMap<&'v str, u32>,
     pub(crate) inputs: Inputs<'a>,
+    pub(crate) bindings: Vec<Binding>,
 }
 
 impl<'v, 'a> NamedInputs<'v, 'a> {
@@ -43,7 +50,7 @@ impl<'v, 'a> NamedInputs<'v, 'a> {
     ) -> Result<NamedInputs<'v, 'a>, Fault>
         requires bounds { IsPossible bounds }
         requires few { member_count (view value.now) ≤ most_bytes + 1 }
-        ensures { MatchResult result
+        ensures inputs { MatchResult result
             (λ found. (n : Named)
             × (naming_by (source_of values.entry) bounds (view value.now) ≡ Ok n)
             × IsNamed found bounds n)
@@ -51,6 +58,7 @@ impl<'v, 'a> NamedInputs<'v, 'a> {
             ⊎ (below (field (codes "inputs"))
             (naming_by (source_of values.entry) bounds (view value.now))
             ≡ Err (record { fault = fault; place = steps_under place.new }))) }
+        ensures unbound { IfOk result (λ found. found.bindings.items ≡ []) }
     {
         let Some(members) = value.as_object() else {
             *place = Place::Field("inputs");
@@ -66,6 +74,50 @@ impl<'v, 'a> NamedInputs<'v, 'a> {
     {
         self.numbers.get(name).copied()
     }
+
+    /// The dims of the tensor of a number.
+    pub(crate) fn dims(&self, number: u32) -> &Dims
+        requires { number < length self.now.inputs.tensors + length self.now.bindings.items }
+        ensures { (bounds : Bounds) (n : Named) → IsNamed self.now bounds n
+            → result.now ≡ (input_of n.tensors number).dims }
+    {
+        let count = self.inputs.len();
+        if number < count {
+            return self.inputs.get(number).dims();
+        }
+        &self.bindings[(number - count) as usize].dims
+    }
+
+    /// A name that no tensor has yet.
+    pub(crate) fn new_name(&self, value: &'v Value) -> Option<&'v str>
+        ensures { (bounds : Bounds) (n : Named) → IsNamed self.now bounds n
+            → option_map (λ name. name.now) result ≡ new_name n (view value.now) }
+    {
+        let name = value.as_str()?;
+        if self.numbers.contains_key(name) {
+            return None;
+        }
+        Some(name)
+    }
+
+    /// Gives the tensor of an expression a name, and the number behind those that there are.
+    pub(crate) fn bind(&mut self, name: &'v str, binding: Binding) -> Result<(), Fault>
+        requires few { length self.old.inputs.tensors + length self.old.bindings.items < 2 ^ 32 }
+        ensures ok { OnOk result ((bounds : Bounds) (n : Named) → IsNamed self.old bounds n
+            → IsBound bounds binding n.tensors
+            → IsNamed self.new bounds (with_binding n name.now (term_under binding))) }
+        ensures inputs { self.new.inputs ≡ self.old.inputs }
+        ensures bindings { OnOk result
+            (self.new.bindings.items ≡ self.old.bindings.items ++ binding ∷ []) }
+        ensures err { IfErr result (λ fault. fault ≡ Fault.NoMemory) }
+    {
+        let number = self.inputs.len() + self.bindings.len() as u32;
+        put_first(&mut self.numbers, name, number)?;
+        let Ok(()) = self.bindings.push(binding) else {
+            return Err(Fault::NoMemory);
+        };
+        Ok(())
+    }
 }
 
 /// The tensors of members and their numbers. Values that stand behind the text are those of the
@@ -79,7 +131,7 @@ fn read_members<'v, 'a>(
 ) -> Result<NamedInputs<'v, 'a>, Fault>
     requires bounds { IsPossible bounds }
     requires few { length members.now.entries ≤ most_bytes + 1 }
-    ensures { MatchResult result
+    ensures inputs { MatchResult result
         (λ found. (n : Named)
         × (tensors_by (source_of values.entry) bounds (members_view members.now.entries)
         ≡ Some n.tensors)
@@ -88,6 +140,7 @@ fn read_members<'v, 'a>(
         × (tensors_by (source_of values.entry) bounds (members_view members.now.entries) ≡ None)
         × (steps_under place.new ≡ field (codes "inputs")
         ∷ place_by (source_of values.entry) bounds (members_view members.now.entries)))) }
+    ensures unbound { IfOk result (λ found. found.bindings.items ≡ []) }
 {
     let mut numbers = BTreeMap::new(alloc);
     let mut tensors = Vec::new(alloc);
@@ -112,7 +165,13 @@ fn read_members<'v, 'a>(
         return Err(Fault::BadTensor);
     }
     let inputs = Inputs::with_bounds(tensors, bounds);
-    Ok(NamedInputs { numbers, inputs })
+    let bindings = Vec::new(alloc);
+    Ok(NamedInputs {
+        alloc,
+        numbers,
+        inputs,
+        bindings,
+    })
 }
 
 /// Gives a name its number, unless it has one.

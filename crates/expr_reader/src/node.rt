@@ -1,14 +1,15 @@
 //! The tree of an expression, read on one walk.
 
-ghost use Rattle.std.specs.Prelude.{◌≡◌, ◌+◌, ◌-◌, ◌<◌, ◌≤◌, ℕ, [], length, map, IsTrue, Ok};
+ghost use Rattle.std.specs.Prelude.{◌≡◌, ◌+◌, ◌-◌, ◌<◌, ◌≤◌, ◌++◌, ◌∷◌, ℕ, List, [], length, map, IsTrue, Ok};
 ghost use Rattle.std.specs.Prelude.{Result, MatchResult, IfOk, OnOk, OnErr};
 ghost use Rattle.serde_json.specs.View.{view, items_view};
 ghost use Rattle.tensor_ops.specs.Bounds.{Bounds};
-ghost use Rattle.tensor_ops.specs.Contents.{Given};
+ghost use Rattle.tensor_ops.specs.Contents.{Contents, Given};
+ghost use Rattle.tensor_ops.specs.Legal.{IsPossible};
 ghost use Rattle.tensor_ops.specs.Result.{operand_dims};
 ghost use Rattle.tensor_ops.specs.Term.{has_inputs, unary, binary, ternary, select};
 ghost use Rattle.tensor_ops.specs.Tree.{term_of};
-ghost use Rattle.expr_reader.specs.Limits.{most_nodes};
+ghost use Rattle.expr_reader.specs.Limits.{widest_nodes};
 ghost use Rattle.expr_reader.specs.Node.{Tree, operation_at, input_at, made, checked, tree_at};
 ghost use Rattle.expr_reader.specs.private.Outcome.{IsReadAt};
 ghost use Rattle.expr_reader.specs.Place.{Located, index, below};
@@ -18,7 +19,6 @@ ghost use Rattle.expr_reader.specs.private.Version.{profile_under, operation_und
 ghost use Rattle.expr_reader.specs.private.Version.{forms_of_two, binary_of};
 ghost use Rattle.expr_reader.specs.private.Walked.{IsShaped, IsFound};
 
-use crate::MAX_NODES;
 use crate::arguments::{both_with_arguments, with_arguments};
 use crate::fault::Fault;
 use crate::named::NamedInputs;
@@ -27,7 +27,7 @@ use crate::place::Indices;
 use crate::version::Version;
 use serde_json::Value;
 use std::alloc::Global;
-use tensor_ops::{Dims, Expr, Inputs};
+use tensor_ops::{Bounds, Dims, Expr};
 
 /// An expression that was read, its result dims, and the number of nodes of the text up to its end.
 #[derive(Drop)]
@@ -55,9 +55,9 @@ pub(crate) fn read_node(
         (tree_at (profile_under version) n before (view value.now)) way.new.items result }
     ensures end { IfOk result (λ tree. before < tree.end) }
     ensures kept { OnOk result (way.new.items ≡ []) }
-    ensures short { length way.new.items ≤ most_nodes - before }
+    ensures short { length way.new.items ≤ widest_nodes - before }
 {
-    if before >= MAX_NODES {
+    if before >= version.nodes() {
         return Err(Fault::TooLarge);
     }
     match value {
@@ -70,23 +70,24 @@ pub(crate) fn read_node(
             if list.len() != 1 + operation.arity() {
                 return Err(Fault::BadArity);
             }
+            let bounds = named.inputs.bounds();
             let first = read_node(alloc, version, named, &list[1], before + 1, way);
             let first = behind(1, first, way)?;
             match operation {
                 Operation::One(unary) => {
-                    read_unary(alloc, &named.inputs, unary, first, &list[2..], way)
+                    read_unary(alloc, bounds, unary, first, &list[2..], way)
                 }
                 Operation::Two(binary) => {
                     let second = read_node(alloc, version, named, &list[2], first.end, way);
                     let second = behind(2, second, way)?;
-                    read_binary(alloc, &named.inputs, binary, first, second, &list[3..], way)
+                    read_binary(alloc, bounds, binary, first, second, &list[3..], way)
                 }
                 Operation::Select => {
                     let second = read_node(alloc, version, named, &list[2], first.end, way);
                     let second = behind(2, second, way)?;
                     let third = read_node(alloc, version, named, &list[3], second.end, way);
                     let third = behind(3, third, way)?;
-                    read_ternary(alloc, &named.inputs, first, second, third)
+                    read_ternary(alloc, bounds, first, second, third)
                 }
             }
         }
@@ -96,13 +97,18 @@ pub(crate) fn read_node(
 
 /// What was found at this index among the elements of a node: the way to its fault has that step
 /// before those that it has.
-fn behind(position: u8, found: Result<Subtree, Fault>, way: &mut Indices) -> Result<Subtree, Fault>
-    requires room { OnErr found (length way.old.items < most_nodes) }
+pub(crate) fn behind(
+    position: u8,
+    found: Result<Subtree, Fault>,
+    way: &mut Indices,
+) -> Result<Subtree, Fault>
+    requires room { OnErr found (length way.old.items < widest_nodes) }
     ensures same { result ≡ found }
     ensures found { (inputs : Given) (says : Result Tree Located)
         → IsFound inputs says way.old.items found
         → IsFound inputs (below (index position) says) way.new.items result }
     ensures kept { OnOk result (way.new.items ≡ way.old.items) }
+    ensures pushed { OnErr result (way.new.items ≡ way.old.items ++ position ∷ []) }
     ensures longer { length way.new.items ≤ length way.old.items + 1 }
 {
     match found {
@@ -126,7 +132,7 @@ fn read_name(named: &NamedInputs<'_, '_>, name: &str, end: u64) -> Result<Subtre
     };
     Ok(Subtree {
         expr: Expr::Input(number),
-        dims: named.inputs.get(number).dims().copied(),
+        dims: named.dims(number).copied(),
         end,
     })
 }
@@ -151,17 +157,18 @@ fn operation_of(version: Version, head: &Value, way: &mut Indices) -> Result<Ope
 /// The operation on an operand that was read, where its arguments and its checks have no fault.
 fn read_unary(
     alloc: Global,
-    inputs: &Inputs,
+    bounds: Bounds,
     operation: Unary,
     operand: Subtree,
     arguments: &[Value],
     way: &mut Indices,
 ) -> Result<Subtree, Fault>
+    requires bounds { IsPossible bounds }
     requires arguments { length arguments.now ≡ length (forms_of operation) }
-    requires operand { IsShaped inputs.now operand }
+    requires operand { (g : Given) × (g.bounds ≡ bounds) × IsShaped g operand }
     requires start { way.old.items ≡ [] }
-    ensures tree { IsFound inputs.now
-        (made inputs.now (forms_of operation) 2 (items_view arguments.now)
+    ensures tree { (g : Given) → g.bounds ≡ bounds → IsShaped g operand → IsFound g
+        (made g (forms_of operation) 2 (items_view arguments.now)
         (λ a. unary (unary_of operation a) (term_of operand.expr)) operand.end)
         way.new.items result }
     ensures end { IfOk result (λ tree. tree.end ≡ operand.end) }
@@ -170,25 +177,26 @@ fn read_unary(
 {
     let first = boxed(alloc, operand.expr)?;
     let expr = with_arguments(alloc, operation, first, arguments, way)?;
-    checked(inputs, expr, &[operand.dims], operand.end)
+    checked(bounds, expr, &[operand.dims], operand.end)
 }
 
 /// The operation on two operands that were read, where its arguments and its checks have no fault.
 fn read_binary(
     alloc: Global,
-    inputs: &Inputs,
+    bounds: Bounds,
     operation: Binary,
     left: Subtree,
     right: Subtree,
     arguments: &[Value],
     way: &mut Indices,
 ) -> Result<Subtree, Fault>
+    requires bounds { IsPossible bounds }
     requires arguments { length arguments.now ≡ length (forms_of_two operation) }
-    requires left { IsShaped inputs.now left }
-    requires right { IsShaped inputs.now right }
+    requires operands { (g : Given) × (g.bounds ≡ bounds)
+        × (IsShaped g left × IsShaped g right) }
     requires start { way.old.items ≡ [] }
-    ensures tree { IsFound inputs.now
-        (made inputs.now (forms_of_two operation) 3 (items_view arguments.now)
+    ensures tree { (g : Given) → g.bounds ≡ bounds → IsShaped g left → IsShaped g right → IsFound g
+        (made g (forms_of_two operation) 3 (items_view arguments.now)
         (λ a. binary (binary_of operation a) (term_of left.expr) (term_of right.expr)) right.end)
         way.new.items result }
     ensures end { IfOk result (λ tree. tree.end ≡ right.end) }
@@ -198,23 +206,23 @@ fn read_binary(
     let first = boxed(alloc, left.expr)?;
     let second = boxed(alloc, right.expr)?;
     let expr = both_with_arguments(alloc, operation, first, second, arguments, way)?;
-    checked(inputs, expr, &[left.dims, right.dims], right.end)
+    checked(bounds, expr, &[left.dims, right.dims], right.end)
 }
 
 /// The choice between two operands by a third, where its checks have no fault.
 fn read_ternary(
     alloc: Global,
-    inputs: &Inputs,
+    bounds: Bounds,
     choice: Subtree,
     left: Subtree,
     right: Subtree,
 ) -> Result<Subtree, Fault>
-    requires choice { IsShaped inputs.now choice }
-    requires left { IsShaped inputs.now left }
-    requires right { IsShaped inputs.now right }
-    ensures tree { IsFound inputs.now
-        (checked inputs.now
-        (ternary select (term_of choice.expr) (term_of left.expr) (term_of right.expr))
+    requires bounds { IsPossible bounds }
+    requires operands { (g : Given) × (g.bounds ≡ bounds)
+        × (IsShaped g choice × (IsShaped g left × IsShaped g right)) }
+    ensures tree { (g : Given) → g.bounds ≡ bounds
+        → IsShaped g choice → IsShaped g left → IsShaped g right → IsFound g
+        (checked g (ternary select (term_of choice.expr) (term_of left.expr) (term_of right.expr))
         right.end) [] result }
     ensures end { IfOk result (λ tree. tree.end ≡ right.end) }
 {
@@ -223,7 +231,7 @@ fn read_ternary(
     let third = boxed(alloc, right.expr)?;
     let expr = Expr::Select(first, second, third);
     checked(
-        inputs,
+        bounds,
         expr,
         &[choice.dims, left.dims, right.dims],
         right.end,
@@ -241,13 +249,17 @@ fn boxed(alloc: Global, expr: Expr) -> Result<Box<Expr>, Fault>
 }
 
 /// An operation on operands of these dims, which ends there, where its own checks have no fault.
-fn checked(inputs: &Inputs, expr: Expr, operands: &[Dims], end: u64) -> Result<Subtree, Fault>
-    requires inputs { IsTrue (has_inputs (term_of expr) (length inputs.now.tensors)) }
-    requires operands { operand_dims inputs.now.bounds (term_of expr) inputs.now.tensors
-        ≡ map Ok operands.now }
-    ensures tree { IsFound inputs.now (checked inputs.now (term_of expr) end) [] result }
+fn checked(bounds: Bounds, expr: Expr, operands: &[Dims], end: u64) -> Result<Subtree, Fault>
+    requires bounds { IsPossible bounds }
+    requires some { 0 < length operands.now }
+    requires operands { (tensors : List Contents)
+        × (operand_dims bounds (term_of expr) tensors ≡ map Ok operands.now) }
+    ensures tree { (g : Given) → g.bounds ≡ bounds
+        → IsTrue (has_inputs (term_of expr) (length g.tensors))
+        → operand_dims bounds (term_of expr) g.tensors ≡ map Ok operands.now
+        → IsFound g (checked g (term_of expr) end) [] result }
     ensures end { IfOk result (λ tree. tree.end ≡ end) }
 {
-    let dims = expr.dims_over(inputs.bounds(), inputs, operands)?;
+    let dims = expr.dims_by(bounds, operands)?;
     Ok(Subtree { expr, dims, end })
 }

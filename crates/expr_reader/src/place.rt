@@ -4,7 +4,7 @@ use crate::fault::Fault;
 use arrayvec::ArrayVec;
 
 /// The most arrays of an expression that lie in one another.
-pub const MAX_DEPTH: usize = 1_000;
+pub const MAX_DEPTH: usize = 10_000;
 
 /// The index of an element in each array on the way to it, the innermost first.
 pub type Indices = ArrayVec<u8, MAX_DEPTH>;

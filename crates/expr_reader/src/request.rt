@@ -1,15 +1,18 @@
 //! The value of a text, and the request that it names.
 
-ghost use Rattle.std.specs.Prelude.{◌+◌, ◌^◌, ◌<◌, ◌≤◌, IsTrue, IsOk, length};
+ghost use Rattle.std.specs.Prelude.{◌≡◌, ◌+◌, ◌^◌, ◌<◌, ◌≤◌, IsTrue, Ok, length};
 ghost use Rattle.serde_json.specs.View.{view};
 ghost use Rattle.tensor_ops.specs.Result.{dims_of};
+ghost use Rattle.tensor_ops.specs.Sequence.{worked_out};
 ghost use Rattle.tensor_ops.specs.Term.{has_inputs, nodes_of};
 ghost use Rattle.tensor_ops.specs.Tree.{term_of};
+ghost use Rattle.expr_reader.specs.Bindings.{terms_under, nodes_in, have_inputs, dims_in_turn, dims_under};
 ghost use Rattle.expr_reader.specs.private.Counted.{member_count};
 ghost use Rattle.expr_reader.specs.Limits.{most_bytes, most_workers};
 
+use crate::binding::Binding;
 use serde_json::Value;
-use tensor_ops::{Expr, Inputs};
+use tensor_ops::{Dims, Expr, Inputs};
 
 /// The JSON value of a text that is not too long.
 #[derive(Drop)]
@@ -19,8 +22,8 @@ pub struct Parsed {
     pub ghost few: { member_count (view value) ≤ most_bytes + 1 },
 }
 
-/// What a text asks for: an expression over inputs, and how to spread its work. The workers and the
-/// block change nothing in the answer.
+/// What a text asks for: an expression over inputs and the tensors of bindings, and how to spread its
+/// work. The workers and the block change nothing in the answer.
 #[derive(Drop)]
 pub struct Request<'a> {
     /// How many workers take part, from 1 to 256.
@@ -29,12 +32,23 @@ pub struct Request<'a> {
     pub block: u64,
     /// The tensors, in the order of their names.
     pub inputs: Inputs<'a>,
-    /// The expression, which has result dims.
+    /// The expressions whose tensors are given names, in order. A text has none.
+    pub bindings: Vec<Binding>,
+    /// The expression.
     pub expr: Expr,
-    pub ghost has_inputs: { IsTrue (has_inputs (term_of expr) (length inputs.tensors)) },
-    pub ghost has_dims: { IsOk (dims_of inputs.bounds (term_of expr) inputs.tensors) },
+    /// The dims of its tensor.
+    pub dims: Dims,
+    pub ghost have_inputs: { IsTrue (have_inputs (terms_under bindings.items)
+        (length inputs.tensors)) },
+    pub ghost have_dims: { dims_in_turn inputs.bounds (terms_under bindings.items) inputs.tensors
+        ≡ dims_under bindings.items },
+    pub ghost has_inputs: { IsTrue (has_inputs (term_of expr)
+        (length inputs.tensors + length bindings.items)) },
+    pub ghost has_dims: { dims_of inputs.bounds (term_of expr)
+        (worked_out (terms_under bindings.items) inputs.tensors) ≡ Ok dims },
     pub ghost some_workers: { 1 ≤ workers },
     pub ghost few_workers: { workers ≤ most_workers },
     pub ghost some_block: { 1 ≤ block },
-    pub ghost few: { length inputs.tensors + nodes_of (term_of expr) < 2 ^ 32 },
+    pub ghost few: { length inputs.tensors
+        + (nodes_in (terms_under bindings.items) + nodes_of (term_of expr)) < 2 ^ 32 },
 }

@@ -2,36 +2,39 @@
 //! header and its values.
 
 ghost use Rattle.std.specs.Prelude.{◌≡◌, ◌+◌, ◌<◌, ◌≤◌, ◌⊎◌, [], Ok, Err, IsOk, MatchResult};
-ghost use Rattle.std.specs.Prelude.{MatchOption, length, IsErrOf, option_map, codes, nat_le};
+ghost use Rattle.std.specs.Prelude.{MatchOption, length, IsErrOf, IfOk, option_map, codes, min};
+ghost use Rattle.std.specs.Prelude.{option_and_then};
+ghost use Rattle.std.specs.Option.{option_map_or};
 ghost use Rattle.serde_json.specs.View.{view};
 ghost use Rattle.expr_reader.specs.Arrays.{arrays_under, joined, request_of_arrays};
-ghost use Rattle.expr_reader.specs.Asked.{asked_under};
-ghost use Rattle.expr_reader.specs.private.Behind.{source_of, naming_by, versions_by, asked_by};
+ghost use Rattle.expr_reader.specs.Asked.{asked_under, IsUnbound};
+ghost use Rattle.expr_reader.specs.private.Behind.{in_text, source_of, naming_by, versions_by, asked_by};
 ghost use Rattle.expr_reader.specs.private.Counted.{member_count};
-ghost use Rattle.expr_reader.specs.Frame.{request_of_frame};
-ghost use Rattle.expr_reader.specs.Limits.{most_bytes, most_values};
+ghost use Rattle.expr_reader.specs.Frame.{request_of_frame, values_limit};
+ghost use Rattle.expr_reader.specs.Limits.{most_bytes, most_values, widest_values};
 ghost use Rattle.expr_reader.specs.Located.{steps_under, located_under};
-ghost use Rattle.expr_reader.specs.Node.{tree_at};
-ghost use Rattle.expr_reader.specs.private.Outcome.{IsToldAt};
+ghost use Rattle.expr_reader.specs.Expression.{expression_at};
+ghost use Rattle.expr_reader.specs.private.Outcome.{IsToldAt, IsRefused};
 ghost use Rattle.expr_reader.specs.Place.{field, here, below, unlocated};
-ghost use Rattle.expr_reader.specs.Profile.{profile_of};
+ghost use Rattle.expr_reader.specs.Profile.{profile_of, frame_profile_of};
 ghost use Rattle.expr_reader.specs.Request.{profile_in, fields_asked, data_asked, part_asked};
-ghost use Rattle.expr_reader.specs.Request.{data_of, request_of};
+ghost use Rattle.expr_reader.specs.Request.{data_of, request_of, version_in};
 ghost use Rattle.expr_reader.specs.private.Shown.{fields_under, IsNamed};
-ghost use Rattle.expr_reader.specs.Tensors.{Named, inputs_in, given};
+ghost use Rattle.expr_reader.specs.Tensors.{Named, inputs_in};
 ghost use Rattle.expr_reader.specs.private.Version.{profile_under, versions_under};
-ghost use Rattle.expr_reader.specs.private.Walked.{IsShaped, tree_under};
+ghost use Rattle.expr_reader.specs.private.Walked.{IsBehind};
 
 use crate::array::Array;
+use crate::expression::read_expression;
 use crate::fault::Fault;
 use crate::fields::{Fields, parse, within};
 use crate::named::NamedInputs;
-use crate::node::{Subtree, read_node};
+use crate::node::Subtree;
 use crate::place::{Indices, Located, Place};
 use crate::request::{Parsed, Request};
 use crate::values::Values;
 use crate::version::{Version, Versions};
-use crate::{MAX_TEXT, MAX_VALUES};
+use crate::{MAX_TEXT, MAX_VALUES, WIDEST_VALUES};
 use serde_json::Value;
 use std::alloc::Global;
 
@@ -47,6 +50,7 @@ pub fn read_request(alloc: Global, text: &[u8]) -> Result<Request<'static>, Faul
     ensures request { MatchResult result
         (λ request. request_of text.now ≡ Ok (asked_under request))
         (λ fault. (fault ≡ Fault.NoMemory) ⊎ (request_of text.now ≡ Err fault)) }
+    ensures unbound { IfOk result IsUnbound }
     ensures too_long { most_bytes < length text.now → IsErrOf result Fault.TooLong }
 {
     let parsed = parse_request(alloc, text)?;
@@ -61,19 +65,16 @@ pub fn read_request(alloc: Global, text: &[u8]) -> Result<Request<'static>, Faul
 ///
 /// # Errors
 ///
-/// As of a text; [`Fault::TooLong`] also where there are too many values, and [`Fault::BadTensor`]
-/// also where there are more or fewer than the tensors have places.
+/// As of a text; [`Fault::TooLong`] also where there are more values than [`values_limit`] says, and
+/// [`Fault::BadTensor`] also where there are more or fewer than the tensors have places.
 pub fn read_frame<'a>(alloc: Global, header: &[u8], values: &'a [i64]) -> Result<Request<'a>, Fault>
     ensures request { MatchResult result
         (λ request. request_of_frame header.now values.now ≡ Ok (asked_under request))
         (λ fault. (fault ≡ Fault.NoMemory) ⊎ (request_of_frame header.now values.now ≡ Err fault)) }
     ensures long_header { most_bytes < length header.now → IsErrOf result Fault.TooLong }
-    ensures many_values { most_values < length values.now → IsErrOf result Fault.TooLong }
+    ensures many_values { widest_values < length values.now → IsErrOf result Fault.TooLong }
 {
-    if values.len() > MAX_VALUES {
-        return Err(Fault::TooLong);
-    }
-    let parsed = parse_request(alloc, header)?;
+    let parsed = parse_header(alloc, header, values.len())?;
     let mut place = Place::Whole;
     read_value(alloc, &parsed.value, Values::Behind(values), &mut place)
 }
@@ -97,29 +98,79 @@ pub fn read_arrays<'a>(
         (λ fault. (fault ≡ Fault.NoMemory)
         ⊎ (request_of_arrays header.now (arrays_under arrays.now) ≡ Err fault)) }
     ensures long_header { most_bytes < length header.now → IsErrOf result Fault.TooLong }
-    ensures many_values { most_values < length (joined (arrays_under arrays.now))
+    ensures many_values { widest_values < length (joined (arrays_under arrays.now))
         → IsErrOf result Fault.TooLong }
 {
-    if !has_few_values(arrays) {
-        return Err(Fault::TooLong);
-    }
-    let parsed = parse_request(alloc, header)?;
+    let count = count_of(arrays);
+    let parsed = parse_header(alloc, header, count)?;
     let mut place = Place::Whole;
     read_value(alloc, &parsed.value, Values::Apart(arrays), &mut place)
 }
 
-/// Whether arrays have together no more values than there may be.
-fn has_few_values(arrays: &[Array<'_>]) -> bool
-    ensures { result ≡ nat_le (length (joined (arrays_under arrays.now))) most_values }
+/// How many values arrays have together, or one more than there may be behind any header.
+fn count_of(arrays: &[Array<'_>]) -> usize
+    ensures { result ≡ min (length (joined (arrays_under arrays.now))) (widest_values + 1) }
 {
-    let mut left = MAX_VALUES;
+    let mut count = 0;
     for array in arrays {
-        if array.values.len() > left {
-            return false;
+        if array.values.len() > WIDEST_VALUES - count {
+            return WIDEST_VALUES + 1;
         }
-        left -= array.values.len();
+        count += array.values.len();
     }
-    true
+    count
+}
+
+/// How many values may stand behind a header: as many as its version says, or as the first says where
+/// it has none. So who reads a stream knows whether to keep them.
+///
+/// # Errors
+///
+/// [`Fault::NoMemory`].
+pub fn values_limit(alloc: Global, header: &[u8]) -> Result<u64, Fault>
+    ensures { MatchResult result (λ most. most ≡ values_limit header.now)
+        (λ fault. fault ≡ Fault.NoMemory) }
+{
+    match parse(alloc, header) {
+        Ok(value) => Ok(values_of(&value) as u64),
+        Err(Fault::NoMemory) => Err(Fault::NoMemory),
+        Err(_) => Ok(MAX_VALUES as u64),
+    }
+}
+
+/// How many values may stand behind a header that is this value.
+fn values_of(header: &Value) -> usize
+    ensures value { result ≡ option_map_or (λ p. p.values)
+        (option_and_then frame_profile_of (version_in (view header.now))) most_values }
+    ensures limit { result ≤ widest_values }
+{
+    let Some(fields) = Fields::of(header) else {
+        return MAX_VALUES;
+    };
+    match version_of(&fields, Versions::OfFrames) {
+        Some(version) => version.values(),
+        None => MAX_VALUES,
+    }
+}
+
+/// The JSON value of a header with so many values behind it.
+fn parse_header(alloc: Global, header: &[u8], count: usize) -> Result<Parsed, Fault>
+    ensures value { MatchResult result
+        (λ parsed. (data_of header.now ≡ Ok (view parsed.value)) × (count ≤ values_limit header.now))
+        (λ fault. IsRefused fault (values_limit header.now) count (data_of header.now)) }
+    ensures long_header { most_bytes < length header.now → IsErrOf result Fault.TooLong }
+    ensures many_values { widest_values < count → IsErrOf result Fault.TooLong }
+{
+    if count > WIDEST_VALUES || header.len() > MAX_TEXT {
+        return Err(Fault::TooLong);
+    }
+    match parse(alloc, header) {
+        Ok(value) if count > values_of(&value) => Err(Fault::TooLong),
+        Ok(value) => Ok(Parsed { value }),
+        Err(Fault::NoMemory) => Err(Fault::NoMemory),
+        Err(fault) if count > MAX_VALUES => Err(Fault::TooLong),
+        Err(fault) => Err(fault),
+    }
 }
 
 /// The JSON value of a text. A fault of it is one of the whole text.
@@ -152,10 +203,11 @@ pub fn locate(alloc: Global, parsed: &Parsed) -> Option<Located<'_>>
 
 /// What a request asks for with another expression in the place of its own.
 pub fn read_part(alloc: Global, parsed: &Parsed, expr: &Value) -> Result<Request<'static>, Fault>
-    ensures { MatchResult result
+    ensures request { MatchResult result
         (λ request. part_asked (view parsed.now.value) (view expr.now) ≡ Ok (asked_under request))
         (λ fault. (fault ≡ Fault.NoMemory)
         ⊎ (unlocated (part_asked (view parsed.now.value) (view expr.now)) ≡ Err fault)) }
+    ensures unbound { IfOk result IsUnbound }
 {
     let Some(fields) = Fields::of(&parsed.value) else {
         return Err(Fault::BadField);
@@ -174,9 +226,10 @@ fn read_value<'v, 'a>(
 ) -> Result<Request<'a>, Fault>
     requires few { member_count (view value.now) ≤ most_bytes + 1 }
     requires start { steps_under place.old ≡ [] }
-    ensures { IsToldAt asked_under
+    ensures request { IsToldAt asked_under
         (asked_by (source_of values.entry) (view value.now))
         (steps_under place.new) result }
+    ensures unbound { source_of values.entry ≡ in_text → IfOk result IsUnbound }
 {
     let Some(fields) = Fields::of(value) else {
         return Err(Fault::BadField);
@@ -192,10 +245,11 @@ fn read_fields<'v, 'a>(
     place: &mut Place<'v>,
 ) -> Result<Request<'a>, Fault>
     requires { member_count (view fields.now.inputs.now) ≤ most_bytes + 1 }
-    ensures { IsToldAt asked_under
+    ensures request { IsToldAt asked_under
         (fields_asked (versions_by (source_of values.entry)) (naming_by (source_of values.entry))
         (fields_under fields.now))
         (steps_under place.new) result }
+    ensures unbound { source_of values.entry ≡ in_text → IfOk result IsUnbound }
 {
     let Some(version) = version_of(fields, values.versions()) else {
         *place = Place::Field("version");
@@ -209,35 +263,41 @@ fn read_fields<'v, 'a>(
         *place = Place::Field("block");
         return Err(Fault::BadBlock);
     };
-    let named = NamedInputs::read(alloc, fields.inputs, version.bounds(), values, place)?;
-    let tree = read_tree(alloc, version, &named, fields.expr, place)?;
+    // Called for its clause: a version allows no more nodes than any.
+    let _nodes = version.nodes();
+    let mut named = NamedInputs::read(alloc, fields.inputs, version.bounds(), values, place)?;
+    let tree = read_tree(version, &mut named, fields.expr, place)?;
     Ok(Request {
         workers: workers as u32,
         block,
         inputs: named.inputs,
+        bindings: named.bindings,
         expr: tree.expr,
+        dims: tree.dims,
     })
 }
 
 /// The expression of a request.
-fn read_tree(
-    alloc: Global,
+fn read_tree<'v>(
     version: Version,
-    named: &NamedInputs<'_, '_>,
-    expr: &Value,
+    named: &mut NamedInputs<'v, '_>,
+    expr: &'v Value,
     place: &mut Place<'_>,
 ) -> Result<Subtree, Fault>
-    requires { (n : Named) × IsNamed named.now (profile_under version).bounds n }
-    ensures { (n : Named) → IsNamed named.now (profile_under version).bounds n
-        → MatchResult result
-        (λ tree. (tree_at (profile_under version) n 0 (view expr.now) ≡ Ok (tree_under tree))
-        × IsShaped (given (profile_under version).bounds n) tree)
+    requires named { (n : Named) × IsNamed named.old (profile_under version).bounds n }
+    requires few { length named.old.inputs.tensors + length named.old.bindings.items
+        ≤ most_bytes + 1 }
+    ensures { (n : Named) → IsNamed named.old (profile_under version).bounds n
+        → MatchResult result (IsBehind (profile_under version) n
+        (expression_at (profile_under version) n 0 (view expr.now)) named.old named.new)
         (λ fault. (fault ≡ Fault.NoMemory)
-        ⊎ (below (field (codes "expr")) (tree_at (profile_under version) n 0 (view expr.now))
+        ⊎ (below (field (codes "expr"))
+        (expression_at (profile_under version) n 0 (view expr.now))
         ≡ Err (record { fault = fault; place = steps_under place.new }))) }
 {
     let mut way = Indices::new();
-    match read_node(alloc, version, named, expr, 0, &mut way) {
+    let alloc = named.alloc;
+    match read_expression(alloc, version, named, expr, 0, &mut way) {
         Ok(tree) => Ok(tree),
         Err(fault) => {
             *place = Place::Node(way);

@@ -1,16 +1,20 @@
 //! The versions of texts and of frames, and what each allows.
 
-ghost use Rattle.std.specs.Prelude.{◌≡◌, option_map};
+ghost use Rattle.std.specs.Prelude.{◌≡◌, ◌≤◌, option_map};
+ghost use Rattle.serde_json.specs.View.{view};
 ghost use Rattle.tensor_ops.specs.Legal.{IsPossible};
+ghost use Rattle.expr_reader.specs.Expression.{is_let};
+ghost use Rattle.expr_reader.specs.Limits.{widest_nodes};
 ghost use Rattle.expr_reader.specs.Profile.{operation_named};
 ghost use Rattle.expr_reader.specs.Table.{operations_on_values, movements, operations_along_axes};
 ghost use Rattle.expr_reader.specs.Table.{operations_1, operations_2, operations_added};
 ghost use Rattle.expr_reader.specs.Table.{operations_on_integers};
 ghost use Rattle.expr_reader.specs.private.Version.{operation_under};
 
-use crate::MAX_BLOCK;
 use crate::operation::{Binary, Operation, Unary};
-use tensor_ops::{BinaryScalar, Bounds, Reducer, UnaryScalar};
+use crate::{MAX_BLOCK, MAX_NODES, MAX_VALUES, WIDEST_BLOCK, WIDEST_NODES, WIDEST_VALUES};
+use serde_json::Value;
+use tensor_ops::{BinaryScalar, Bounds, Reducer, UnaryScalar, WIDEST};
 
 /// A version of a text or a frame.
 #[derive(Clone, Copy, Debug, Eq, PartialEq)]
@@ -53,12 +57,44 @@ impl Version {
         }
     }
 
+    /// The most nodes of an expression.
+    pub(crate) fn nodes(self) -> u64
+        ensures value { result ≡ (profile_under self).nodes }
+        ensures limit { (profile_under self).nodes ≤ widest_nodes }
+    {
+        match self {
+            Version::One | Version::Two => MAX_NODES,
+            Version::Three => WIDEST_NODES,
+        }
+    }
+
+    /// The most values behind a header.
+    pub(crate) fn values(self) -> usize
+        ensures { result ≡ (profile_under self).values }
+    {
+        match self {
+            Version::One | Version::Two => MAX_VALUES,
+            Version::Three => WIDEST_VALUES,
+        }
+    }
+
+    /// Whether the first of a node's elements says that it gives a tensor a name.
+    pub(crate) fn is_let(self, head: &Value) -> bool
+        ensures { result ≡ is_let (profile_under self) (view head.now) }
+    {
+        match self {
+            Version::One | Version::Two => false,
+            Version::Three => head.as_str() == Some("let"),
+        }
+    }
+
     /// The greatest block.
     pub(crate) fn block(self) -> u64
         ensures { result ≡ (profile_under self).block }
     {
         match self {
-            Version::One | Version::Two | Version::Three => MAX_BLOCK,
+            Version::One | Version::Two => MAX_BLOCK,
+            Version::Three => WIDEST_BLOCK,
         }
     }
 
@@ -69,7 +105,8 @@ impl Version {
     {
         match self {
             Version::One => Bounds::of_text(6),
-            Version::Two | Version::Three => Bounds::of_text(8),
+            Version::Two => Bounds::of_text(8),
+            Version::Three => WIDEST,
         }
     }
 

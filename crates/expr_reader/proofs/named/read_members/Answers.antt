@@ -37,8 +37,8 @@ loop-name-preserved c =
           ∙ c.loop-name.invariant.6 q),
     )
 
-pub returns : goal.returns
-returns c =
+pub returns-clause-inputs : goal.returns-clause-inputs
+returns-clause-inputs c =
     let end = c.in-None.ensures.steps.0 in
     let last : c.is_end.result ≡ true = grind (arith, common_steps) in
     let tensors = rw (end, tensors_by-end (source_of c.loop-name.left) c.args.bounds c.is_end.result c.is_end.ensures, last, append-nil)
@@ -51,8 +51,10 @@ returns c =
       sym tensors,
       (λ i. names_in (members_view c.args.members.now.entries)),
       record {
-        inputs = ap (λ ts. record { tensors = ts; bounds = c.with_bounds-inputs.result.bounds }) c.with_bounds-inputs.ensures.tensors
-            ∙ ap (λ r. record { tensors = c.loop-name.tensors.items; bounds = r }) c.with_bounds-inputs.ensures.limit;
+        limit = c.with_bounds-inputs.ensures.limit;
+        possible = c.requires.bounds;
+        tensors = rw c.new-bindings.ensures.items c.with_bounds-inputs.ensures.tensors;
+        bound = rw c.new-bindings.ensures.items tt;
         aligned = length-names_in c.args.members.now.entries ∙ omega (arith, count);
         numbers = λ q. sym (option_or-None (number_in c.loop-name.numbers q)) ∙ rw end at (c.loop-name.invariant.6 q);
       },

@@ -1,14 +1,12 @@
-use Rattle.std.proofs.Common.{subst, ◌≡◌, ◌+◌, ◌-◌, [], Some, slice_get, length, drop, get_or, refl, inl, inr, arith, ◌∙◌}
+use Rattle.std.proofs.Common.{sym, ◌≡◌, ◌+◌, ◌-◌, [], Some, slice_get, length, drop, get_or, refl, inl, inr, arith, ◌∙◌}
 use Rattle.std.proofs.lemmas.List.{take_all, length-drop}
 use Rattle.std.proofs.lemmas.Result.{err_from_is_err_and}
 use Rattle.serde_json.specs.View.{view, items_view}
 use Rattle.tensor_ops.specs.Term as term
-use Rattle.tensor_ops.specs.Tree.{term_of}
-use Rattle.expr_reader.specs.Node.{made, checked, tree_at}
+use Rattle.expr_reader.specs.Node.{tree_at}
 use Rattle.expr_reader.specs.Tensors.{given}
 use Rattle.expr_reader.specs.private.Version.{profile_under, operation_under, forms_of, unary_of}
 use Rattle.expr_reader.specs.private.Version.{forms_of_two, binary_of}
-use Rattle.expr_reader.specs.private.Walked.{IsFound}
 use Rattle.expr_reader.proofs.Walk.{tree_at-arity, tree_at-first, tree_at-one, tree_at-two, tree_at-three, get_or-at}
 use Rattle.expr_reader.proofs.node.+read_node.Goals as goal
 
@@ -16,7 +14,7 @@ pub returns-then-len-arity-clause-tree : goal.returns-then-len-arity-clause-tree
 returns-then-len-arity-clause-tree t c = λ n named.
     let head : Some c.in-Some.head.now ≡ slice_get c.in-Array.list.items 0 = rw c.deref.ensures.value at c.in-Some.ensures.value in
     rw c.in_ok-operation-in-Array.ensures.kept
-    (inr (tree_at-arity (profile_under c.args.version) n c.args.before c.if-before-ge-MAX_NODES.false (operation_under c.in_ok-operation-in-Array.operation) c.in-Some.head.now c.args.value.now c.in-Array.list c.in-Array.is head
+    (inr (tree_at-arity (profile_under c.args.version) n c.args.before (omega (arith, c.if-before-nodes.false, c.nodes.ensures.value)) (operation_under c.in_ok-operation-in-Array.operation) c.in-Some.head.now c.args.value.now c.in-Array.list c.in-Array.is head
     c.in_ok-operation-in-Array.ensures.operation
     (λ h. c.if-len-arity.true (omega (arith, h, c.in-Array.list.ok.0, c.arity.ensures)))))
 
@@ -29,7 +27,7 @@ returns-in_err-first-in-Array-clause-tree t c = λ n named.
     rw (p.1, p.2)
     (elim first [
       | inl memory ↦ inl memory
-      | inr found ↦ inr (tree_at-first (profile_under c.args.version) n c.args.before c.if-before-ge-MAX_NODES.false (operation_under c.in_ok-operation-in-Array.operation) c.in-Some.head.now c.args.value.now c.in-Array.list c.in-Array.is head
+      | inr found ↦ inr (tree_at-first (profile_under c.args.version) n c.args.before (omega (arith, c.if-before-nodes.false, c.nodes.ensures.value)) (operation_under c.in_ok-operation-in-Array.operation) c.in-Some.head.now c.args.value.now c.in-Array.list c.in-Array.is head
           c.in_ok-operation-in-Array.ensures.operation c.index.result.now
           (omega (arith, c.in-Array.list.ok.0, c.arity.ensures, c.if-len-arity.false)) c.index.ensures _ found)
     ])
@@ -43,14 +41,12 @@ returns-in-One-clause-tree t c = λ n named.
     let first = c.in_ok-first-in-Array.ensures.found (given (profile_under c.args.version).bounds n)
     (tree_at (profile_under c.args.version) n (c.args.before + 1) (view c.index.result.now)) (c.read_node-first.ensures.tree n named) in
     rw (
-      tree_at-one (profile_under c.args.version) n c.args.before c.if-before-ge-MAX_NODES.false c.in-Some.head.now c.args.value.now c.in-Array.list c.in-Array.is head
+      tree_at-one (profile_under c.args.version) n c.args.before (omega (arith, c.if-before-nodes.false, c.nodes.ensures.value)) c.in-Some.head.now c.args.value.now c.in-Array.list c.in-Array.is head
           (forms_of c.in-One.unary) (unary_of c.in-One.unary) c.index.result.now names long c.index.ensures,
       first.0,
     )
-    (subst (λ g. IsFound g (made g (forms_of c.in-One.unary) 2 (items_view (drop 2 c.in-Array.list.items))
-    (λ args. term.unary (unary_of c.in-One.unary args) (term_of c.in_ok-first-in-Array.first.expr)) c.in_ok-first-in-Array.first.end)
-    c.read_unary.new.way.items c.read_unary.result) named.inputs
-    (rw (take_all (length c.deref-in-One.result.now - 2) (drop 2 c.deref-in-One.result.now) (omega (arith, length-drop 2 c.deref-in-One.result.now)), c.deref-in-One.ensures.value) at c.read_unary.ensures.tree))
+    (rw (take_all (length c.deref-in-One.result.now - 2) (drop 2 c.deref-in-One.result.now) (omega (arith, length-drop 2 c.deref-in-One.result.now)), c.deref-in-One.ensures.value)
+    at (c.read_unary.ensures.tree (given (profile_under c.args.version).bounds n) (sym (c.bounds-bounds.ensures.value ∙ named.limit)) first.1))
 
 pub returns-in_err-second-in-Two-clause-tree : goal.returns-in_err-second-in-Two-clause-tree
 returns-in_err-second-in-Two-clause-tree t c = λ n named.
@@ -67,7 +63,7 @@ returns-in_err-second-in-Two-clause-tree t c = λ n named.
     (elim second [
       | inl memory ↦ inl memory
       | inr found ↦ inr (rw (
-        tree_at-two (profile_under c.args.version) n c.args.before c.if-before-ge-MAX_NODES.false c.in-Some.head.now c.args.value.now c.in-Array.list c.in-Array.is head
+        tree_at-two (profile_under c.args.version) n c.args.before (omega (arith, c.if-before-nodes.false, c.nodes.ensures.value)) c.in-Some.head.now c.args.value.now c.in-Array.list c.in-Array.is head
             (forms_of_two c.in-Two.binary) (binary_of c.in-Two.binary) c.index.result.now c.index-in-Two.result.now names long c.index.ensures c.index-in-Two.ensures,
         first.0,
         found,
@@ -85,15 +81,13 @@ returns-in_ok-second-in-Two-clause-tree t c = λ n named.
     let second = c.in_ok-second-in-Two.ensures.found (given (profile_under c.args.version).bounds n)
     (tree_at (profile_under c.args.version) n c.in_ok-first-in-Array.first.end (view c.index-in-Two.result.now)) (c.read_node-second.ensures.tree n named) in
     rw (
-      tree_at-two (profile_under c.args.version) n c.args.before c.if-before-ge-MAX_NODES.false c.in-Some.head.now c.args.value.now c.in-Array.list c.in-Array.is head
+      tree_at-two (profile_under c.args.version) n c.args.before (omega (arith, c.if-before-nodes.false, c.nodes.ensures.value)) c.in-Some.head.now c.args.value.now c.in-Array.list c.in-Array.is head
           (forms_of_two c.in-Two.binary) (binary_of c.in-Two.binary) c.index.result.now c.index-in-Two.result.now names long c.index.ensures c.index-in-Two.ensures,
       first.0,
       second.0,
     )
-    (subst (λ g. IsFound g (made g (forms_of_two c.in-Two.binary) 3 (items_view (drop 3 c.in-Array.list.items))
-    (λ args. term.binary (binary_of c.in-Two.binary args) (term_of c.in_ok-first-in-Array.first.expr) (term_of c.in_ok-second-in-Two.second.expr))
-    c.in_ok-second-in-Two.second.end) c.read_binary.new.way.items c.read_binary.result) named.inputs
-    (rw (take_all (length c.deref-in-Two.result.now - 3) (drop 3 c.deref-in-Two.result.now) (omega (arith, length-drop 3 c.deref-in-Two.result.now)), c.deref-in-Two.ensures.value) at c.read_binary.ensures.tree))
+    (rw (take_all (length c.deref-in-Two.result.now - 3) (drop 3 c.deref-in-Two.result.now) (omega (arith, length-drop 3 c.deref-in-Two.result.now)), c.deref-in-Two.ensures.value)
+    at (c.read_binary.ensures.tree (given (profile_under c.args.version).bounds n) (sym (c.bounds-bounds.ensures.value ∙ named.limit)) first.1 second.1))
 
 pub returns-in_err-second-in-Select-clause-tree : goal.returns-in_err-second-in-Select-clause-tree
 returns-in_err-second-in-Select-clause-tree t c = λ n named.
@@ -110,7 +104,7 @@ returns-in_err-second-in-Select-clause-tree t c = λ n named.
     (elim second [
       | inl memory ↦ inl memory
       | inr found ↦ inr (rw (
-        tree_at-three (profile_under c.args.version) n c.args.before c.if-before-ge-MAX_NODES.false c.in-Some.head.now c.args.value.now c.in-Array.list c.in-Array.is head
+        tree_at-three (profile_under c.args.version) n c.args.before (omega (arith, c.if-before-nodes.false, c.nodes.ensures.value)) c.in-Some.head.now c.args.value.now c.in-Array.list c.in-Array.is head
             (λ none. term.select) c.index.result.now c.index-in-Select.result.now (get_or c.in-Array.list.items 3 c.index.result.now) names long c.index.ensures c.index-in-Select.ensures (get_or-at c.in-Array.list.items 3 c.index.result.now (omega (arith, long))),
         first.0,
         found,
@@ -134,7 +128,7 @@ returns-in_err-third-in-Select-clause-tree t c = λ n named.
     (elim third [
       | inl memory ↦ inl memory
       | inr found ↦ inr (rw (
-        tree_at-three (profile_under c.args.version) n c.args.before c.if-before-ge-MAX_NODES.false c.in-Some.head.now c.args.value.now c.in-Array.list c.in-Array.is head
+        tree_at-three (profile_under c.args.version) n c.args.before (omega (arith, c.if-before-nodes.false, c.nodes.ensures.value)) c.in-Some.head.now c.args.value.now c.in-Array.list c.in-Array.is head
             (λ none. term.select) c.index.result.now c.index-in-Select.result.now c.index-in-Select-2.result.now names long c.index.ensures c.index-in-Select.ensures c.index-in-Select-2.ensures,
         first.0,
         second.0,
@@ -157,13 +151,11 @@ returns-in_ok-third-in-Select-clause-tree t c = λ n named.
     let read = rw (← c.in_ok-third-in-Select.ensures.same) at c.read_node-third.ensures.kept in
     let empty : c.behind-in-Select-2.new.way.items ≡ [] = c.in_ok-third-in-Select.ensures.kept ∙ read in
     rw (
-      tree_at-three (profile_under c.args.version) n c.args.before c.if-before-ge-MAX_NODES.false c.in-Some.head.now c.args.value.now c.in-Array.list c.in-Array.is head
+      tree_at-three (profile_under c.args.version) n c.args.before (omega (arith, c.if-before-nodes.false, c.nodes.ensures.value)) c.in-Some.head.now c.args.value.now c.in-Array.list c.in-Array.is head
           (λ none. term.select) c.index.result.now c.index-in-Select.result.now c.index-in-Select-2.result.now names long c.index.ensures c.index-in-Select.ensures c.index-in-Select-2.ensures,
       first.0,
       second.0,
       third.0,
       empty,
     )
-    (subst (λ g. IsFound g (checked g (term.ternary term.select (term_of c.in_ok-first-in-Array.first.expr)
-    (term_of c.in_ok-second-in-Select.second.expr) (term_of c.in_ok-third-in-Select.third.expr)) c.in_ok-third-in-Select.third.end)
-    [] c.read_ternary.result) named.inputs c.read_ternary.ensures.tree)
+    (c.read_ternary.ensures.tree (given (profile_under c.args.version).bounds n) (sym (c.bounds-bounds.ensures.value ∙ named.limit)) first.1 second.1 third.1)

@@ -1,6 +1,6 @@
 use Rattle.std.proofs.Common.{codes}
 use Rattle.serde_json.specs.View.{view}
-use Rattle.expr_reader.specs.Node.{tree_at}
+use Rattle.expr_reader.specs.Expression.{expression_at}
 use Rattle.expr_reader.specs.Place.{field, way_of}
 use Rattle.expr_reader.specs.private.Version.{profile_under}
 use Rattle.expr_reader.proofs.Walk.{fault-below}
@@ -8,5 +8,5 @@ use Rattle.expr_reader.proofs.text.read_tree.Goals as goal
 
 pub returns-in-Err : goal.returns-in-Err
 returns-in-Err c = λ n named.
-    fault-below (field (codes "expr")) (tree_at (profile_under c.args.version) n 0 (view c.args.expr.now)) c.in-Err.fault
-    (way_of c.read_node.new.way.items) (c.in-Err.ensures.tree n named)
+    fault-below (field (codes "expr")) (expression_at (profile_under c.args.version) n 0 (view c.args.expr.now)) c.in-Err.fault
+    (way_of c.read_expression.new.way.items) (c.in-Err.ensures.tree n named)
