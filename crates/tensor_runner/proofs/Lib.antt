@@ -1,5 +1,8 @@
 pub mod Counting
+pub mod Held
 pub mod InLines
+pub mod DimsAlone
+pub mod Left
 pub mod Lines
 pub mod Serving
 pub mod Streams

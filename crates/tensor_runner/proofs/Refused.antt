@@ -6,11 +6,11 @@ use Rattle.std.proofs.Math.Nat.{lt_of_not-le}
 use Rattle.std.specs.Cow.{cow_slice_items}
 use Rattle.expr_reader.specs.Contents.{Contents}
 use Rattle.expr_reader.specs.Limits.{most_bytes}
-use Rattle.expr_reader.specs.Request.{Asked, request_of}
+use Rattle.expr_reader.specs.Request.{Asked, asked_tensor, request_of}
 use Rattle.expr_reader.specs.declared.fault.Fault.{Fault}
 use Rattle.expr_reader.specs.declared.request.Request.{Request}
 use Rattle.expr_reader.specs.declared.fault.Fault.TheVariants.{TooLong, NoMemory}
-use Rattle.tensor_runner.specs.Answer.{tensor, fault, answer_of, answer_from, asked_tensor, line_of, tensor_line, fault_line}
+use Rattle.tensor_runner.specs.Answer.{tensor, fault, answer_of, answer_from, line_of, tensor_line, fault_line}
 use Rattle.tensor_runner.specs.Journal.{any_line, Says, steps_in, HasSteps}
 use Rattle.tensor_runner.specs.Limited.{over_limits, refusal, line_unless, limit_line, IsLineWithin}
 use Rattle.tensor_runner.specs.Line.{IsFaultOf, IsFaultLine, IsLineUnder}

@@ -7,8 +7,7 @@ use Rattle.expr_reader.specs.Contents.{Contents}
 use Rattle.expr_reader.specs.Faults.{number_and_name}
 use Rattle.expr_reader.specs.Limits.{most_bytes}
 use Rattle.expr_reader.specs.Place.{unlocated}
-use Rattle.expr_reader.specs.Request.{Asked, request_at}
-use Rattle.expr_reader.specs.Value.{tensor_of}
+use Rattle.expr_reader.specs.Request.{Asked, asked_tensor, request_at}
 use Rattle.expr_reader.specs.declared.fault.Fault.{Fault}
 use Rattle.expr_reader.specs.declared.fault.Fault.TheVariants.{NoMemory}
 use Rattle.tensor_runner.specs.declared.status.Status.{Status}
@@ -19,13 +18,9 @@ pub data Answer : Type 0 where
   tensor : Contents → Answer
   fault : Fault → Answer
 
--- the tensor that a request asks for
-abbrev pub asked_tensor : Asked → Contents
-asked_tensor a = tensor_of a.term a.inputs
-
 -- the tensor of a request, or the first fault of its text
 abbrev pub answer_from : Result Asked Fault → Answer
-answer_from (Ok asked) = tensor (tensor_of asked.term asked.inputs)
+answer_from (Ok asked) = tensor (asked_tensor asked)
 answer_from (Err f) = fault f
 
 abbrev pub answer_of : List ℕ → Answer

@@ -1,12 +1,13 @@
 -- How many steps a request takes, which its dims tell before any of it is worked out.
-use Rattle.std.specs.Prelude.{ℕ, ◌+◌, ◌*◌, List, Bool, if◌then◌else◌}
+use Rattle.std.specs.Prelude.{ℕ, ◌+◌, ◌*◌, List, [], ◌∷◌, ◌++◌, Bool, if◌then◌else◌}
 use Rattle.expr_reader.specs.Contents.{Contents}
 use Rattle.expr_reader.specs.Index.{size_of}
-use Rattle.expr_reader.specs.Request.{Asked}
+use Rattle.expr_reader.specs.Request.{Asked, tensors_of}
 use Rattle.expr_reader.specs.Result.{shape_of}
 use Rattle.expr_reader.specs.Term.{Term, input, unary, binary, ternary}
 use Rattle.expr_reader.specs.Term.{Unary, each, constant, movement, pad, reduce}
 use Rattle.expr_reader.specs.Term.{Binary, pairwise, concat, contract, convolve}
+use Rattle.expr_reader.specs.Value.{tensor_of}
 use Rattle.tensor_reduce.specs.Contraction.{firsts}
 use Rattle.tensor_reduce.specs.Steps.{combines, combines_two}
 use Rattle.tensor_reduce.specs.Merged.{dims_at}
@@ -57,6 +58,16 @@ module _ (inputs : List Contents) where
       (shape_of a inputs) (operations a) (shape_of b inputs) (operations b)
   combined (ternary o a b c) = combined a + combined b + combined c
 
--- the steps of a request: those, and its own operations at each of its places
+  -- the steps of a term that is worked out: those, and its own operations at each of its places
+  abbrev pub steps_over : Term → ℕ
+  steps_over t = combined t + places t * operations t
+
+-- the steps of terms, each over tensors and those of the terms before it
+abbrev pub steps_of_all : List Term → List Contents → ℕ
+steps_of_all [] tensors = 0
+steps_of_all (t ∷ terms) tensors =
+    steps_over tensors t + steps_of_all terms (tensors ++ tensor_of t tensors ∷ [])
+
+-- the steps of a request: those of its bindings, and of its term over all of its tensors
 abbrev pub steps_of : Asked → ℕ
-steps_of a = combined a.inputs a.term + places a.inputs a.term * operations a.term
+steps_of a = steps_of_all a.bindings a.inputs + steps_over (tensors_of a) a.term

@@ -3,7 +3,8 @@
 ghost use Rattle.std.specs.Prelude.{◌≡◌, ℕ, List, Some, None, IfOk, MatchResult};
 ghost use Rattle.std.specs.Cow.{cow_slice_items};
 ghost use Rattle.expr_reader.specs.Asked.{asked_under};
-ghost use Rattle.tensor_runner.specs.Answer.{asked_tensor, tensor_line, fault_line};
+ghost use Rattle.expr_reader.specs.Request.{asked_tensor};
+ghost use Rattle.tensor_runner.specs.Answer.{tensor_line, fault_line};
 ghost use Rattle.tensor_runner.specs.private.Kept.{IsKept};
 ghost use Rattle.tensor_runner.specs.Limited.{limit_line};
 ghost use Rattle.tensor_runner.specs.Line.{entry_of, IsLineUnder, IsFaultOf, IsRefusal};

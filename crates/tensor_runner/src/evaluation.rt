@@ -1,11 +1,16 @@
 //! The tensor of a request.
 
-ghost use Rattle.std.specs.Prelude.{◌≡◌, IfOk};
+ghost use Rattle.std.specs.Prelude.{◌≡◌, ◌+◌, ◌^◌, ◌<◌, length, IfOk, IsOk, IsTrue};
 ghost use Rattle.expr_reader.specs.Asked.{asked_under};
-ghost use Rattle.tensor_runner.specs.Answer.{asked_tensor};
+ghost use Rattle.expr_reader.specs.Request.{asked_tensor};
+ghost use Rattle.expr_reader.specs.Result.{dims_of};
+ghost use Rattle.expr_reader.specs.Term.{has_inputs, nodes_of};
+ghost use Rattle.expr_reader.specs.Tree.{term_of};
+ghost use Rattle.expr_reader.specs.Value.{tensor_of};
 
+use crate::freeing::free_unread;
 use crate::status::RunFault;
-use expr_reader::{Request, Tensor};
+use expr_reader::{Expr, Inputs, Request, Tensor};
 use std::alloc::{AllocError, Global};
 use std::sync::Wait;
 use std::thread::Threads;
@@ -22,8 +27,45 @@ impl From<AllocError> for RunFault {
     }
 }
 
+/// What works out the tensors of a request.
+#[derive(Drop)]
+struct Evaluation<'a, 'i, RT> {
+    rt: &'a RT,
+    alloc: Global,
+    request: &'a Request<'i>,
+}
+
+impl<RT: Threads + Wait + Sync> Evaluation<'_, '_, RT> {
+    /// The tensor of an expression over tensors.
+    fn tensor(&self, expr: &Expr, tensors: &Inputs<'_>) -> Result<Tensor<'static>, RunFault>
+        requires inputs { IsTrue (has_inputs (term_of expr.now) (length tensors.now.tensors)) }
+        requires dims { IsOk (dims_of tensors.now.bounds (term_of expr.now) tensors.now.tensors) }
+        requires few { length tensors.now.tensors + nodes_of (term_of expr.now) < 2 ^ 32 }
+        ensures { IfOk result (λ t. t ≡ tensor_of (term_of expr.now) tensors.now.tensors) }
+    {
+        let plan = Plan::of(self.alloc, expr, tensors)?;
+        let setup = Setup {
+            workers: self.request.workers,
+            partitions: Vec::new(self.alloc),
+        };
+        match run_plan(
+            self.rt,
+            self.alloc,
+            &setup,
+            self.request.block,
+            &plan,
+            tensors,
+        ) {
+            Ok(tensor) => Ok(tensor),
+            Err(ForFault::NoMemory) => Err(RunFault::NoMemory),
+            Err(ForFault::BadBlock | ForFault::Pool(_)) => unreachable!(),
+        }
+    }
+}
+
 /// The tensor that a request asks for, worked out by its workers in blocks of the size that it
-/// names. Neither changes the tensor.
+/// names. Neither changes the tensor. The tensors of its bindings are worked out before, one after
+/// the other, and each is held as long as something left reads it.
 ///
 /// # Errors
 ///
@@ -35,14 +77,17 @@ pub fn eval<RT: Threads + Wait + Sync>(
 ) -> Result<Tensor<'static>, RunFault>
     ensures tensor { IfOk result (λ t. t ≡ asked_tensor (asked_under request.now)) }
 {
-    let plan = Plan::of(alloc, &request.expr, &request.inputs)?;
-    let setup = Setup {
-        workers: request.workers,
-        partitions: Vec::new(alloc),
-    };
-    match run_plan(rt, alloc, &setup, request.block, &plan, &request.inputs) {
-        Ok(tensor) => Ok(tensor),
-        Err(ForFault::NoMemory) => Err(RunFault::NoMemory),
-        Err(ForFault::BadBlock | ForFault::Pool(_)) => unreachable!(),
+    let evaluation = Evaluation { rt, alloc, request };
+    if request.bindings.is_empty() {
+        return evaluation.tensor(&request.expr, &request.inputs);
     }
+    // Says that dims can go as far as the inputs' bounds.
+    let _limit = request.inputs.bounds();
+    let mut tensors = request.inputs.lent(alloc)?.widened();
+    for (done, binding) in request.bindings.iter().enumerate() {
+        let tensor = evaluation.tensor(&binding.expr, &tensors)?;
+        tensors.push(tensor)?;
+        free_unread(request, done, &mut tensors);
+    }
+    evaluation.tensor(&request.expr, &tensors)
 }

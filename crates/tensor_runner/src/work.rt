@@ -1,7 +1,7 @@
 //! How many steps a request takes, counted before any of it is worked out.
 
 ghost use Rattle.std.specs.Prelude.{◌≡◌, ◌+◌, ◌*◌, ◌^◌, ◌<◌, ◌≤◌, length, true, IsTrue, IfOk, Ok, Err};
-ghost use Rattle.std.specs.Prelude.{MatchResult};
+ghost use Rattle.std.specs.Prelude.{MatchResult, IsOk};
 ghost use Rattle.expr_reader.specs.Asked.{asked_under};
 ghost use Rattle.expr_reader.specs.Index.{size_of};
 ghost use Rattle.expr_reader.specs.Legal.{widest};
@@ -13,12 +13,14 @@ ghost use Rattle.tensor_reduce.specs.Reduction.{are_axes};
 ghost use Rattle.tensor_reduce.specs.Steps.{combines, combines_two};
 ghost use Rattle.tensor_reduce.specs.Merged.{dims_at};
 ghost use Rattle.tensor_runner.specs.Limited.{is_over, over_limits};
+ghost use Rattle.tensor_runner.specs.private.Known.{tensors_known};
 ghost use Rattle.tensor_runner.specs.Work.{operations, operations_over, unary_steps, binary_steps};
-ghost use Rattle.tensor_runner.specs.Work.{combined, steps_of};
+ghost use Rattle.tensor_runner.specs.Work.{combined, steps_over, steps_of};
 
+use crate::known::Known;
 use crate::limits::{LimitFault, Limits};
-use expr_reader::{Dims, Expr, Inputs, Request};
-use tensor_ops::{Binary, ExprFault, Node, Unary, WIDEST};
+use expr_reader::{Dims, Expr, Request};
+use tensor_ops::{Binary, ExprFault, Node, Unary};
 use tensor_terms::{dims_at, paired_axes};
 
 /// What is counted of an expression: how many operations each of its places takes, and the steps of
@@ -60,7 +62,22 @@ pub fn steps_of(request: &Request<'_>) -> u128
 {
     // Says that dims can go as far as the inputs' bounds.
     let _limit = request.inputs.bounds();
-    let Ok(found) = counted(&request.inputs, &request.expr) else {
+    let mut steps = 0;
+    for (done, binding) in request.bindings.iter().enumerate() {
+        steps += steps_over(&Known::of(request, done), &binding.expr);
+    }
+    steps + steps_over(&Known::of(request, request.bindings.len()), &request.expr)
+}
+
+/// How many steps an expression takes over tensors whose dims are known.
+fn steps_over(known: &Known<'_, '_>, expr: &Expr) -> u128
+    requires inputs { IsTrue (has_inputs (term_of expr.now) (length (tensors_known known.now))) }
+    requires dims { IsOk (dims_of widest (term_of expr.now) (tensors_known known.now)) }
+    requires few { nodes_of (term_of expr.now) < 2 ^ 32 }
+    ensures value { result ≡ steps_over (tensors_known known.now) (term_of expr.now) }
+    ensures small { result ≤ 2 ^ 63 * nodes_of (term_of expr.now) }
+{
+    let Ok(found) = counted(known, expr) else {
         unreachable!();
     };
     found.combined + worked_out(&found)
@@ -68,43 +85,42 @@ pub fn steps_of(request: &Request<'_>) -> u128
 
 /// What is counted of an expression, whose operands' dims are found once. A sum has at most so many
 /// parts as there are nodes, each far below what would wrap.
-fn counted(inputs: &Inputs, expr: &Expr) -> Result<Count, ExprFault>
-    requires inputs { IsTrue (has_inputs (term_of expr.now) (length inputs.now.tensors)) }
+fn counted(known: &Known<'_, '_>, expr: &Expr) -> Result<Count, ExprFault>
+    requires inputs { IsTrue (has_inputs (term_of expr.now) (length (tensors_known known.now))) }
     requires few { nodes_of (term_of expr.now) < 2 ^ 32 }
     ensures dims { MatchResult result
-        (λ r. dims_of widest (term_of expr.now) inputs.now.tensors ≡ Ok r.dims)
-        (λ fault. dims_of widest (term_of expr.now) inputs.now.tensors ≡ Err fault) }
+        (λ r. dims_of widest (term_of expr.now) (tensors_known known.now) ≡ Ok r.dims)
+        (λ fault. dims_of widest (term_of expr.now) (tensors_known known.now) ≡ Err fault) }
     ensures operations { IfOk result (λ r. r.operations ≡ operations (term_of expr.now)) }
     ensures combined { IfOk result (λ r.
-        r.combined ≡ combined inputs.now.tensors (term_of expr.now)) }
+        r.combined ≡ combined (tensors_known known.now) (term_of expr.now)) }
     ensures few { IfOk result (λ r. r.operations ≤ nodes_of (term_of expr.now)) }
     ensures small { IfOk result (λ r. r.combined ≤ 2 ^ 62 * nodes_of (term_of expr.now)) }
 {
     match expr.node() {
         Node::Input(number) => Ok(Count {
-            dims: inputs.get(number).dims().copied(),
+            dims: known.dims(number),
             operations: 0,
             combined: 0,
         }),
         Node::Unary(operation, a) => {
-            let first = counted(inputs, a)?;
-            let dims = expr.dims_over(WIDEST, inputs, &[first.dims.copied()])?;
+            let first = counted(known, a)?;
+            let dims = known.dims_over(expr, &[first.dims.copied()])?;
             Ok(over_one(operation, dims, &first))
         }
         Node::Binary(operation, a, b) => {
-            let first = counted(inputs, a)?;
-            let second = counted(inputs, b)?;
-            let known = [first.dims.copied(), second.dims.copied()];
-            let dims = expr.dims_over(WIDEST, inputs, &known)?;
+            let first = counted(known, a)?;
+            let second = counted(known, b)?;
+            let dims = known.dims_over(expr, &[first.dims.copied(), second.dims.copied()])?;
             Ok(over_two(operation, dims, &first, &second))
         }
         Node::Ternary(_, a, b, c) => {
-            let first = counted(inputs, a)?;
-            let second = counted(inputs, b)?;
-            let third = counted(inputs, c)?;
+            let first = counted(known, a)?;
+            let second = counted(known, b)?;
+            let third = counted(known, c)?;
             let operations = 1 + (first.operations + second.operations + third.operations);
             let combined = first.combined + second.combined + third.combined;
-            let dims = expr.dims_over(WIDEST, inputs, &[first.dims, second.dims, third.dims])?;
+            let dims = known.dims_over(expr, &[first.dims, second.dims, third.dims])?;
             Ok(Count {
                 dims,
                 operations,
