@@ -12,16 +12,16 @@ use Rattle.std.proofs.lemmas.List.{take_more_set, take_more, map-append, take-ap
 use Rattle.std.proofs.lemmas.List.Concat.{flat_map-append}
 use Rattle.std.specs.Io.KnownBytes.{Appends}
 use Rattle.expr_reader.specs.Asked.{asked_under}
-use Rattle.expr_reader.specs.Frame.{frame_inputs, request_of_frame}
+use Rattle.expr_reader.specs.Frame.{frame_inputs, request_of_frame, values_limit}
 use Rattle.expr_reader.specs.Place.{here, unlocated}
 use Rattle.expr_reader.specs.Contents.{Contents}
 use Rattle.expr_reader.specs.Profile.{frame_profile_of}
-use Rattle.expr_reader.specs.Request.{Asked, text_asked}
+use Rattle.expr_reader.specs.Request.{Asked, asked_tensor, text_asked}
 use Rattle.expr_reader.specs.declared.request.Request.{Request}
-use Rattle.expr_reader.specs.Limits.{most_bytes, most_values}
+use Rattle.expr_reader.specs.Limits.{most_bytes, widest_values}
 use Rattle.expr_reader.specs.declared.fault.Fault.{Fault}
 use Rattle.expr_reader.specs.declared.fault.Fault.TheVariants.{TooLong, NoMemory}
-use Rattle.tensor_runner.specs.Answer.{tensor, fault, answer_from, asked_tensor}
+use Rattle.tensor_runner.specs.Answer.{tensor, fault, answer_from}
 use Rattle.tensor_runner.specs.Journal.{steps_in, HasSteps}
 use Rattle.tensor_runner.specs.Limited.{over_limits, refusal}
 use Rattle.tensor_runner.specs.Work.{steps_of}
@@ -39,6 +39,7 @@ use Rattle.frame_server.specs.private.Taking.{IsTooLong, IsPassed, frame_under}
 use Rattle.frame_server.specs.declared.frame.AnswerFrame.{AnswerFrame}
 use Rattle.frame_server.specs.declared.frame.WholeFrame.{WholeFrame}
 use Rattle.frame_server.proofs.Frames.{length-values_of}
+use Rattle.frame_server.proofs.Limit.{limit-between}
 use Rattle.frame_server.proofs.Written.{length-values}
 
 -- the values behind the sizes and the header
@@ -105,9 +106,10 @@ values-more values first count =
     ∙ ap (λ (l : List ℤ). flat_map value_bytes l) (sym (take-add first count values) ∙ ap (λ (n : ℕ). take n values) sum)
 
 -- a frame that is too long
-request-long : (header : List ℕ) (values : List ℤ) → (most_bytes < length header) ⊎ (most_values < length values) → answer_of (record { header = header; values = values }) ≡ fault TooLong
-request-long header values (inr many) = rw (lt-ltb most_values (length values) many) refl
-request-long header values (inl long) = by_count (nat_lt most_values (length values))
+request-long : (header : List ℕ) (values : List ℤ) → (most_bytes < length header) ⊎ (values_limit header < length values)
+    → answer_of (record { header = header; values = values }) ≡ fault TooLong
+request-long header values (inr many) = rw (lt-ltb (values_limit header) (length values) many) refl
+request-long header values (inl long) = by_count (nat_lt (values_limit header) (length values))
   where
     by_count : (are_many : Bool) → answer_from (unlocated (if are_many then Err (here TooLong) else text_asked frame_profile_of (frame_inputs values) header)) ≡ fault TooLong
     by_count true = refl
@@ -116,14 +118,14 @@ request-long header values (inl long) = by_count (nat_lt most_values (length val
 pub length-header : (bytes : List ℕ) → IsWhole bytes → length (take (header_len bytes) (drop 16 bytes)) ≡ header_len bytes
 length-header bytes whole = length-take-le (header_len bytes) (drop 16 bytes) (omega (arith, whole, length-drop 16 bytes))
 
-too_long : (bytes : List ℕ) → IsWhole bytes → IsTooLong (header_len bytes) (value_count bytes) → answer_of (frame_in bytes) ≡ fault TooLong
+too_long : (bytes : List ℕ) → IsWhole bytes → IsTooLong (frame_in bytes).header (header_len bytes) (value_count bytes) → answer_of (frame_in bytes) ≡ fault TooLong
 too_long bytes whole (inl long) =
     request-long _ _ (inl (subst (λ (n : ℕ). most_bytes < n) (sym (length-header bytes whole)) long))
 too_long bytes whole (inr many) =
-    request-long _ _ (inr (subst (λ (n : ℕ). most_values < n) (sym (length-values_of (value_count bytes) (drop (16 + header_len bytes) bytes))) many))
+    request-long _ _ (inr (subst (λ (n : ℕ). values_limit (frame_in bytes).header < n) (sym (length-values_of (value_count bytes) (drop (16 + header_len bytes) bytes))) many))
 
 -- what answers a frame that was passed over
-pub IsAnswerTo-passed : (bytes : List ℕ) (f : Fault) → IsWhole bytes → IsPassed (header_len bytes) (value_count bytes) f → IsAnswerTo bytes (fault f)
+pub IsAnswerTo-passed : (bytes : List ℕ) (f : Fault) → IsWhole bytes → IsPassed (frame_in bytes).header (header_len bytes) (value_count bytes) f → IsAnswerTo bytes (fault f)
 IsAnswerTo-passed bytes f whole (inl memory) = inr (ap fault memory.0, memory.1)
 IsAnswerTo-passed bytes f whole (inr long) = inl (ap fault long.0 ∙ sym (too_long bytes whole long.1))
 
@@ -228,12 +230,12 @@ pub IsFaultOf-asked : (bytes : List ℕ) (frame : WholeFrame) (f : Fault) → fr
 IsFaultOf-asked bytes frame f same (inl memory) short = inr (ap fault memory, short)
 IsFaultOf-asked bytes frame f same (inr asks) short = inl (sym (ap answer_of (sym same) ∙ ap answer_from asks))
 
--- a header and values that are too long aren't short
-IsShort-long : (header_len value_count : ℕ) → IsTooLong header_len value_count ⊎ IsShort header_len value_count
-IsShort-long header_len value_count = elim (dec_le header_len most_bytes) [
+-- a header and values that aren't short are too long
+IsShort-long : (header : List ℕ) (header_len value_count : ℕ) → IsTooLong header header_len value_count ⊎ IsShort header_len value_count
+IsShort-long header header_len value_count = elim (dec_le header_len most_bytes) [
   | no long ↦ inl (inl (lt_of_not-le long))
-  | yes short ↦ elim (dec_le value_count most_values) [
-    | no many ↦ inl (inr (lt_of_not-le many))
+  | yes short ↦ elim (dec_le value_count widest_values) [
+    | no many ↦ inl (inr (omega (arith, lt_of_not-le many, (limit-between header).1)))
     | yes few ↦ inr (record { header = short; values = few })
   ]
 ]
@@ -244,7 +246,7 @@ fault_of f is = cc
 -- a fault that isn't of a frame that is too long
 pub short-fault : (bytes : List ℕ) (f : Fault) → IsWhole bytes → IsFaultOf bytes f → f ≢ TooLong → IsShort (header_len bytes) (value_count bytes)
 short-fault bytes f whole (inr memory) other = memory.1
-short-fault bytes f whole (inl own) other = elim (IsShort-long (header_len bytes) (value_count bytes)) [
+short-fault bytes f whole (inl own) other = elim (IsShort-long (frame_in bytes).header (header_len bytes) (value_count bytes)) [
   | inl long ↦ absurd (other (fault_of f (own ∙ too_long bytes whole long)))
   | inr short ↦ short
 ]

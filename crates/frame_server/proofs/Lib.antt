@@ -1,4 +1,5 @@
 pub mod Frames
+pub mod Limit
 pub mod Parts
 pub mod Answering
 pub mod Serving

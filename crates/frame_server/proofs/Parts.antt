@@ -5,10 +5,12 @@ use Rattle.std.proofs.lemmas.List.{take_at, drop_at, length-take-le}
 use Rattle.std.specs.Io.KnownBytes.{IsAtEnd}
 use Rattle.message_server.specs.History.{History}
 use Rattle.message_server.specs.Streams.{HasFailed}
-use Rattle.frame_server.specs.Frame.{Frame, IsUnfinished, header_len, value_count}
+use Rattle.expr_reader.specs.Frame.{values_limit}
+use Rattle.expr_reader.specs.declared.fault.Fault.{Fault}
+use Rattle.frame_server.specs.Frame.{Frame, IsUnfinished, frame_in, header_len, value_count}
 use Rattle.frame_server.specs.Answer.{IsShort}
 use Rattle.message_server.specs.Pieces.{IsBelow}
-use Rattle.frame_server.specs.private.Taking.{IsCutOff, IsHeadOf, IsKept, IsKeptRest, IsPassed, values_of}
+use Rattle.frame_server.specs.private.Taking.{IsCutOff, IsHeadOf, IsKept, IsKeptRest, IsPassed, IsRefused, values_of}
 use Rattle.message_server.specs.Pieces.{Takes, FailsIn}
 use Rattle.frame_server.specs.private.Taking.{TakesCount, TakesValues, TakesHead, TakesRest, TakesFrame, StopsInFrame, MovesValues}
 use Rattle.frame_server.specs.declared.frame.Head.{Head}
@@ -92,15 +94,22 @@ TakesRest-whole a b c h k m old mid new head header values next t len v count ke
           ∙ ap (λ (l : List ℤ). framed (take head.header_len (header ++ v.bytes)) l) (sym back));
     }
 
--- of which all is passed over
-pub TakesRest-passed : (a b : Option (List ℕ)) (h k : Option History) (old new : List ℕ) (head : Head) (next : NextFrame) (count : ℕ)
-    → TakesCount count a b h k old new → count ≡ head.header_len + 8 * head.value_count → ((bytes : List ℕ) → IsKeptRest head bytes next)
-    → TakesRest a b h k old new head next
-TakesRest-passed a b h k old new head next count t is kept = record {
-  bytes = t.bytes;
-  takes = t.takes;
-  counted = t.counted ∙ is;
-  kept = kept t.bytes;
+-- what isn't kept behind a header
+pub IsPassed-refused : (header : List ℕ) (header_len value_count : ℕ) (fault : Fault) → IsShort header_len value_count
+    → IsRefused header value_count fault → IsPassed header header_len value_count fault
+IsPassed-refused header header_len value_count fault short (inl memory) = inl (memory, short)
+IsPassed-refused header header_len value_count fault short (inr many) = inr (many.0, inr many.1)
+
+-- a header, and all behind it passed over
+pub TakesRest-behind : (a b c : Option (List ℕ)) (h k m : Option History) (old mid new : List ℕ) (head : Head) (header : List ℕ) (next : NextFrame) (count : ℕ)
+    → Takes a b h k old mid header → length header ≡ head.header_len → TakesCount count b c k m mid new → count ≡ 8 * head.value_count
+    → ((bytes : List ℕ) → take head.header_len bytes ≡ header → IsKeptRest head bytes next)
+    → TakesRest a c h m old new head next
+TakesRest-behind a b c h k m old mid new head header next count t len v is kept = record {
+  bytes = header ++ v.bytes;
+  takes = Takes-then a b c h k m old mid new header v.bytes t v.takes;
+  counted = omega (arith, len, is, v.counted, length-append header v.bytes);
+  kept = kept (header ++ v.bytes) (take_at header v.bytes head.header_len len);
 }
 
 -- what a head says of the whole frame
@@ -113,15 +122,20 @@ on_frame P front bytes head sixteen told holds =
 
 IsKept-head : (front bytes : List ℕ) (head : Head) (next : NextFrame) → length front ≡ 16 → IsHeadOf front head → IsKeptRest head bytes next
     → IsKept (front ++ bytes) next
-IsKept-head front bytes head (Whole frame) sixteen told kept = (
-  kept.0
-      ∙ ap (λ (n : ℕ). framed (take n bytes) (values_of head.value_count (drop n bytes))) told.header
-      ∙ ap (λ (n : ℕ). framed (take (header_len front) bytes) (values_of n (drop (header_len front) bytes))) told.values
-      ∙ sym (frame_in-head front bytes sixteen),
-  on_frame IsShort front bytes head sixteen told kept.1,
-)
+IsKept-head front bytes head (Whole frame) sixteen told kept =
+    let sizes = on_frame (λ h v. IsShort h v × (v ≤ values_limit frame.header.items)) front bytes head sixteen told (kept.1, kept.2) in (
+      kept.0
+          ∙ ap (λ (n : ℕ). framed (take n bytes) (values_of head.value_count (drop n bytes))) told.header
+          ∙ ap (λ (n : ℕ). framed (take (header_len front) bytes) (values_of n (drop (header_len front) bytes))) told.values
+          ∙ sym (frame_in-head front bytes sixteen),
+      sizes.0,
+      sizes.1,
+    )
 IsKept-head front bytes head (Passed fault len) sixteen told passed =
-    on_frame (λ h v. IsPassed h v fault × (len ≡ 16 + h + 8 * v)) front bytes head sixteen told (passed.0, omega (arith, passed.1))
+    let header : take head.header_len bytes ≡ (frame_in (front ++ bytes)).header =
+    ap (λ (n : ℕ). take n bytes) told.header ∙ sym (ap (λ (f : Frame). f.header) (frame_in-head front bytes sixteen)) in
+    on_frame (λ h v. IsPassed (frame_in (front ++ bytes)).header h v fault × (len ≡ 16 + h + 8 * v)) front bytes head sixteen told
+    (subst (λ (l : List ℕ). IsPassed l head.header_len head.value_count fault) header passed.0, omega (arith, passed.1))
 
 -- a frame
 pub TakesFrame-of : (a b c : Option (List ℕ)) (h k m : Option History) (old mid new : List ℕ) (head : Head) (next : NextFrame)

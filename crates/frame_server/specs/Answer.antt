@@ -2,7 +2,7 @@
 use Rattle.std.specs.Prelude.{◌≡◌, ◌⊎◌, ◌≤◌, ℕ, pos, List, [], ◌∷◌, ◌++◌, map, codes, decimal}
 use Rattle.expr_reader.specs.Faults.{fault_number, fault_name}
 use Rattle.expr_reader.specs.Frame.{request_of_frame}
-use Rattle.expr_reader.specs.Limits.{most_bytes, most_values}
+use Rattle.expr_reader.specs.Limits.{most_bytes, widest_values}
 use Rattle.expr_reader.specs.declared.fault.Fault.{Fault}
 use Rattle.expr_reader.specs.declared.fault.Fault.TheVariants.{NoMemory}
 use Rattle.tensor_runner.specs.Answer.{Answer, tensor, fault, answer_from, numbers_text}
@@ -28,13 +28,13 @@ frame_of (fault f) = record { header = fault_text f; values = [] }
 abbrev pub answer_bytes : Answer → List ℕ
 answer_bytes a = frame_bytes (frame_of a)
 
--- a header of this length, with so many values, isn't too long
+-- a header of this length, with so many values, isn't too long, or is so only for its version
 pub record IsShort (header_len value_count : ℕ) : Type 0 where
   pub header : header_len ≤ most_bytes
-  pub values : value_count ≤ most_values
+  pub values : value_count ≤ widest_values
 
 -- the answer of the frame that these bytes are, or want of memory; but never that of a frame that
--- is too long
+-- is too long whatever its version
 abbrev pub IsAnswerTo : List ℕ → Answer → Type 0
 IsAnswerTo bytes a =
     (a ≡ answer_of (frame_in bytes))

@@ -37,7 +37,8 @@ frame_within limits bytes =
     frame_unless (refusal limits (request_in (frame_in bytes)))
     (answer_bytes (answer_of (frame_in bytes)))
 
--- that frame, or that of want of memory; but never this for a frame that is too long
+-- that frame, or that of want of memory; but never this for a frame that is too long whatever its
+-- version
 abbrev pub IsFrameWithin : Limits → List ℕ → List ℕ → Type 0
 IsFrameWithin limits bytes answer =
     (answer ≡ frame_within limits bytes)

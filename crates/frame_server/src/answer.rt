@@ -4,6 +4,7 @@ ghost use Rattle.std.specs.Prelude.{◌≡◌, ◌⊎◌, ℕ, List, Ok, Err, So
 ghost use Rattle.std.specs.Prelude.{MatchResult};
 ghost use Rattle.expr_reader.specs.Asked.{asked_under};
 ghost use Rattle.expr_reader.specs.Frame.{request_of_frame};
+ghost use Rattle.expr_reader.specs.Request.{asked_tensor};
 ghost use Rattle.frame_server.specs.Answer.{answer_bytes, dims_text, fault_text, IsShort};
 ghost use Rattle.frame_server.specs.private.Answering.{front_bytes, bytes_in, entry_of, IsOwnFrame, IsFaultOf};
 ghost use Rattle.frame_server.specs.private.Answering.{IsFrameUnder, IsTensorFrame, IsRefusal};
@@ -11,7 +12,7 @@ ghost use Rattle.frame_server.specs.Frame.{IsWhole, frame_in, header_len, value_
 ghost use Rattle.frame_server.specs.Limited.{limit_frame};
 ghost use Rattle.frame_server.specs.private.Taking.{IsKept, frame_under};
 ghost use Rattle.tensor_runner.specs.Limited.{over_limits};
-ghost use Rattle.tensor_runner.specs.Answer.{fault, asked_tensor};
+ghost use Rattle.tensor_runner.specs.Answer.{fault};
 ghost use Rattle.tensor_runner.specs.Work.{steps_of};
 
 use crate::frame::{AnswerFrame, NextFrame, WholeFrame};

@@ -12,6 +12,31 @@ pub(crate) struct Head {
     pub(crate) value_count: u64,
 }
 
+impl Head {
+    ghost use Rattle.std.specs.Prelude.{◌≡◌, ◌+◌, ◌*◌};
+
+    /// How many bytes the values have.
+    pub(crate) fn values_len(self) -> u128
+        ensures { result ≡ 8 * self.value_count }
+    {
+        8 * u128::from(self.value_count)
+    }
+
+    /// How many bytes stand behind the head.
+    pub(crate) fn rest_len(self) -> u128
+        ensures { result ≡ self.header_len + 8 * self.value_count }
+    {
+        u128::from(self.header_len) + self.values_len()
+    }
+
+    /// How many bytes the frame has.
+    pub(crate) fn frame_len(self) -> u128
+        ensures { result ≡ 16 + (self.header_len + 8 * self.value_count) }
+    {
+        16 + self.rest_len()
+    }
+}
+
 /// A frame of a request.
 #[derive(Drop)]
 pub(crate) struct WholeFrame {

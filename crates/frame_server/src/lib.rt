@@ -8,6 +8,7 @@ mod frame;
 mod frame_protocol;
 mod laws;
 mod reading;
+mod room;
 mod server;
 mod taking;
 mod writing;

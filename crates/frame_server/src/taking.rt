@@ -1,16 +1,16 @@
 //! Takes a client's bytes, frame by frame.
 
 ghost use Rattle.std.specs.Prelude.{◌≡◌, ◌+◌, ◌*◌, ◌≤◌, [], length, IfOk, IfSome, IfErr, OnOk, OnErr};
-ghost use Rattle.std.specs.Prelude.{MatchOption, MatchResult, vec_capacity};
+ghost use Rattle.std.specs.Prelude.{MatchOption, vec_capacity};
 ghost use Rattle.frame_server.specs.Frame.{IsUnfinished};
 ghost use Rattle.message_server.specs.Pieces.{pending_bytes, IsBelow, OwesNothingWhile, FailsIn};
 ghost use Rattle.message_server.specs.Pieces.{Takes};
 ghost use Rattle.frame_server.specs.private.Taking.{IsCutOff, StopsInFrame, TakesCount, TakesHead};
-ghost use Rattle.frame_server.specs.private.Taking.{TakesValues, TakesRest, TakesFrame, Ends, HasRoom, IsPassed};
+ghost use Rattle.frame_server.specs.private.Taking.{TakesValues, TakesRest, TakesFrame, Ends};
 
 use crate::frame::{Head, NextFrame, WholeFrame};
 use crate::reading::{HEAD, VALUE, head_of, move_bytes, move_values};
-use expr_reader::{Fault, MAX_TEXT, MAX_VALUES};
+use crate::room::{header_room, values_room};
 use message_server::{Client, InputBuffer, StreamFault};
 use std::alloc::Global;
 
@@ -74,7 +74,8 @@ fn take_head<C: Client>(
     Err(StreamFault::ReadFault)
 }
 
-/// Takes what stands behind a frame's head, or passes over it.
+/// Takes what stands behind a frame's head, or passes over it. Its header is kept before there is room
+/// for its values, since it says how many there may be.
 fn take_rest<C: Client>(
     alloc: Global,
     client: &mut C,
@@ -96,60 +97,21 @@ fn take_rest<C: Client>(
     ensures read_failures { OnOk result (C.read_failures client.new ≡ C.read_failures client.old) }
     ensures write_failures { C.write_failures client.new ≡ C.write_failures client.old }
 {
-    match room_for(alloc, head) {
-        Ok(room) => take_whole(client, buffer, head, room),
+    let mut header = match header_room(alloc, head) {
+        Ok(header) => header,
         Err(fault) => {
-            let count = u128::from(head.header_len) + 8 * u128::from(head.value_count);
-            pass_over(client, buffer, count)?;
-            Ok(NextFrame::Passed(fault, 16 + count))
+            pass_over(client, buffer, head.rest_len())?;
+            return Ok(NextFrame::Passed(fault, head.frame_len()));
         }
-    }
-}
-
-/// Room for a frame, or why there is none.
-fn room_for(alloc: Global, head: Head) -> Result<WholeFrame, Fault>
-    ensures { MatchResult result (HasRoom head) (IsPassed head.header_len head.value_count) }
-{
-    if head.header_len > MAX_TEXT as u64 || head.value_count > MAX_VALUES as u64 {
-        return Err(Fault::TooLong);
-    }
-    let Ok(header) = Vec::with_capacity(alloc, head.header_len as usize) else {
-        return Err(Fault::NoMemory);
     };
-    let Ok(values) = Vec::with_capacity(alloc, head.value_count as usize) else {
-        return Err(Fault::NoMemory);
-    };
-    Ok(WholeFrame { header, values })
-}
-
-/// Takes a frame's header and values to where there is room for them.
-fn take_whole<C: Client>(
-    client: &mut C,
-    buffer: &mut InputBuffer,
-    head: Head,
-    room: WholeFrame,
-) -> Result<NextFrame, StreamFault>
-    requires room { HasRoom head room }
-    requires owes { IfSome (C.history client.old)
-        (OwesNothingWhile (IsBelow (head.header_len + 8 * head.value_count)) C.owes_nothing
-        (pending_bytes buffer.old)) }
-    ensures rest { IfOk result (TakesRest (C.remaining client.old) (C.remaining client.new)
-        (C.history client.old) (C.history client.new)
-        (pending_bytes buffer.old) (pending_bytes buffer.new) head) }
-    ensures err { IfErr result (λ fault. fault ≡ StreamFault.ReadFault) }
-    ensures fails { OnErr result (FailsIn (IsBelow (head.header_len + 8 * head.value_count))
-        (C.remaining client.old) (C.remaining client.new) (pending_bytes buffer.old)) }
-    ensures cut_off { OnErr result (IsCutOff (C.read_failures client.old)
-        (C.read_failures client.new) (C.remaining client.new)) }
-    ensures contents { C.contents client.new ≡ C.contents client.old }
-    ensures read_failures { OnOk result (C.read_failures client.new ≡ C.read_failures client.old) }
-    ensures write_failures { C.write_failures client.new ≡ C.write_failures client.old }
-{
-    let WholeFrame {
-        mut header,
-        mut values,
-    } = room;
     take_header(client, buffer, &mut header, head.header_len as usize)?;
+    let mut values = match values_room(alloc, &header, head.value_count) {
+        Ok(values) => values,
+        Err(fault) => {
+            pass_over(client, buffer, head.values_len())?;
+            return Ok(NextFrame::Passed(fault, head.frame_len()));
+        }
+    };
     take_values(client, buffer, &mut values, head.value_count as usize)?;
     Ok(NextFrame::Whole(WholeFrame { header, values }))
 }

@@ -3,10 +3,10 @@ use Rattle.std.specs.Prelude.{◌≡◌, ◌≢◌, ◌⊎◌, ℕ, ℤ, List, [
 use Rattle.std.specs.Cow.{cow_slice_items}
 use Rattle.std.specs.List.{flat_map}
 use Rattle.expr_reader.specs.Contents.{Contents}
-use Rattle.expr_reader.specs.Request.{Asked}
+use Rattle.expr_reader.specs.Request.{Asked, asked_tensor}
 use Rattle.expr_reader.specs.declared.fault.Fault.{Fault}
 use Rattle.expr_reader.specs.declared.fault.Fault.TheVariants.{TooLong, NoMemory}
-use Rattle.tensor_runner.specs.Answer.{tensor, fault, asked_tensor}
+use Rattle.tensor_runner.specs.Answer.{tensor, fault}
 use Rattle.tensor_runner.specs.Journal.{HasSteps}
 use Rattle.tensor_runner.specs.declared.journal.AnyFault.{AnyFault}
 use Rattle.tensor_runner.specs.declared.journal.AnyFault.TheVariants.{Request, Limit}

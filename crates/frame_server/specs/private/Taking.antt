@@ -1,10 +1,11 @@
 -- Bytes on the way from a client to a frame, for the private clauses of the server.
 use Rattle.std.specs.Prelude.{◌≡◌, ◌⊎◌, ◌<◌, ◌≤◌, ◌+◌, ◌*◌, ℕ, ℤ, List, [], ◌++◌, length}
 use Rattle.std.specs.Prelude.{take, drop, map}
-use Rattle.std.specs.Prelude.{Option, vec_capacity}
+use Rattle.std.specs.Prelude.{Option}
 use Rattle.std.specs.Io.KnownBytes.{Consumes, IsAtEnd}
 use Rattle.std.specs.Simd.{first_chunks}
-use Rattle.expr_reader.specs.Limits.{most_bytes, most_values}
+use Rattle.expr_reader.specs.Frame.{values_limit}
+use Rattle.expr_reader.specs.Limits.{most_bytes}
 use Rattle.expr_reader.specs.declared.fault.Fault.{Fault}
 use Rattle.expr_reader.specs.declared.fault.Fault.TheVariants.{TooLong, NoMemory}
 use Rattle.message_server.specs.History.{History}
@@ -55,27 +56,25 @@ pub record TakesHead (before after : Option (List ℕ)) (h k : Option History)
   pub counted : length bytes ≡ 16
   pub told : IsHeadOf bytes head
 
--- a header of this length, or so many values, are too many
-abbrev pub IsTooLong : ℕ → ℕ → Type 0
-IsTooLong header_len value_count = (most_bytes < header_len) ⊎ (most_values < value_count)
+-- a header of this length is too long, or so many values are too many behind it
+abbrev pub IsTooLong : List ℕ → ℕ → ℕ → Type 0
+IsTooLong header header_len value_count =
+    (most_bytes < header_len) ⊎ (values_limit header < value_count)
 
--- room for a frame's header and values, which aren't too long
-pub record HasRoom (head : Head) (room : WholeFrame) : Type 0 where
-  pub short : IsShort head.header_len head.value_count
-  pub no_header : room.header.items ≡ []
-  pub no_values : room.values.items ≡ []
-  pub header : head.header_len ≤ vec_capacity room.header
-  pub values : head.value_count ≤ vec_capacity room.values
+-- why so many values aren't kept behind a header
+abbrev pub IsRefused : List ℕ → ℕ → Fault → Type 0
+IsRefused header value_count fault =
+    (fault ≡ NoMemory) ⊎ ((fault ≡ TooLong) × (values_limit header < value_count))
 
 -- the frame as its header and values
 abbrev pub frame_under : WholeFrame → Frame
 frame_under frame = record { header = frame.header.items; values = frame.values.items }
 
--- why nothing is kept of a frame with a header of this length and so many values
-abbrev pub IsPassed : ℕ → ℕ → Fault → Type 0
-IsPassed header_len value_count fault =
+-- why a frame with this header, of this length, and so many values isn't kept
+abbrev pub IsPassed : List ℕ → ℕ → ℕ → Fault → Type 0
+IsPassed header header_len value_count fault =
     ((fault ≡ NoMemory) × IsShort header_len value_count)
-    ⊎ ((fault ≡ TooLong) × IsTooLong header_len value_count)
+    ⊎ ((fault ≡ TooLong) × IsTooLong header header_len value_count)
 
 -- what is kept of a frame's bytes, given what stands behind its head: all, or why nothing is and how
 -- many bytes the frame has
@@ -85,8 +84,9 @@ IsKeptRest head bytes (Whole frame) =
       header = take head.header_len bytes;
       values = values_of head.value_count (drop head.header_len bytes);
     }) × IsShort head.header_len head.value_count
+    × (head.value_count ≤ values_limit frame.header.items)
 IsKeptRest head bytes (Passed fault len) =
-    IsPassed head.header_len head.value_count fault
+    IsPassed (take head.header_len bytes) head.header_len head.value_count fault
     × (len ≡ 16 + (head.header_len + 8 * head.value_count))
 
 -- what stands behind a frame's head was taken
@@ -101,8 +101,10 @@ pub record TakesRest (before after : Option (List ℕ)) (h k : Option History)
 abbrev pub IsKept : List ℕ → NextFrame → Type 0
 IsKept bytes (Whole frame) =
     (frame_under frame ≡ frame_in bytes) × IsShort (header_len bytes) (value_count bytes)
+    × (value_count bytes ≤ values_limit frame.header.items)
 IsKept bytes (Passed fault len) =
-    IsPassed (header_len bytes) (value_count bytes) fault × (len ≡ frame_len bytes)
+    IsPassed (frame_in bytes).header (header_len bytes) (value_count bytes) fault
+    × (len ≡ frame_len bytes)
 
 -- a whole frame was taken
 pub record TakesFrame (before after : Option (List ℕ)) (h k : Option History)
