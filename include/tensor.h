@@ -8,10 +8,10 @@
 
    The values are those of the tensors, one tensor after the other in the order of their names by
    bytes, each column-major: the first index runs fastest. Its version may also be 3, which has
-   operations on whole numbers (docs/FRAMES.md). It asks for what the text asks for in
-   which each tensor also has its values in `data`, however long that text would be, and has the
-   same fault. All work is done on the thread that calls; `workers` and `block` are checked, and
-   change nothing.
+   operations on whole numbers, names for tensors within the expression, and larger tensors
+   (docs/FRAMES.md). It asks for what the text asks for in which each tensor also has its values in
+   `data`, however long that text would be, and has the same fault. All work is done on the thread
+   that calls; `workers` and `block` are checked, and change nothing.
 
    What a caller owes:
    - Each pointer is to as many elements as its length says, aligned as its type is; where the
@@ -45,8 +45,9 @@ extern "C" {
 /* The version of the library, as the file VERSION has it. */
 #define TENSOR_VERSION "2.0.0"
 
-/* The most values of a tensor, and so the most that an answer has. */
-#define TENSOR_MOST_VALUES 1048576
+/* The most values of a tensor, and so the most that an answer has: of version 3. Those of versions 1
+   and 2 have at most 1,048,576. */
+#define TENSOR_MOST_VALUES 268435456
 
 /* The most numbers that `dims` is written with: a rank, and up to 8 dims. */
 #define TENSOR_DIMS_ROOM 9
@@ -55,7 +56,7 @@ extern "C" {
 #define TENSOR_NAME_ROOM 16
 
 /* The most numbers of a plan over so many tensors. */
-#define TENSOR_PLAN_ROOM(tensors) (19003 + 9 * (size_t)(tensors))
+#define TENSOR_PLAN_ROOM(tensors) (190004 + 9 * (size_t)(tensors))
 
 /* What is returned where `out`, `dims`, `name` or `plan` has too little room. */
 #define TENSOR_NO_ROOM (-100)
@@ -113,8 +114,10 @@ int64_t tensor_evaluate_arrays(const uint8_t *header, size_t header_length,
    They are the values of what lies below the outermost operation and isn't worked out place by
    place: of each reduction, contraction and convolution there; and of each operand of one of these,
    the outermost one too, which isn't such a list already. It is one where it is an input, one of
-   these, or a reshape of one; what a contraction takes may also be any movement of one. Not counted
-   are at most 32,768 values that are repeated by a movement, and what a contraction packs.
+   these, or a reshape of one; what a contraction takes may also be any movement of one. Where the
+   header names tensors by `let`, they are also all values of each of these, and the same below its
+   outermost operation. Not counted are at most 32,768 values that are repeated by a movement, and
+   what a contraction packs.
 
    Parts pay where they are few beside a part's own values; or, of a contraction and a convolution,
    beside the products that it adds. So they do for operations on each value and movements of inputs,
@@ -123,11 +126,11 @@ int64_t tensor_shared(const uint8_t *header, size_t header_length,
                       const struct tensor_array *arrays, size_t count);
 
 /* Writes the plan of a header whose tensors have `count` values together, whatever these are, and
-   returns how many numbers it has: 15 for `add` of two tensors of one axis. Faults, and too little
+   returns how many numbers it has: 16 for `add` of two tensors of one axis. Faults, and too little
    room, as of tensor_evaluate; then nothing is written.
 
    A plan is what the header asks for, once it is read and checked: the tensors' dims and the
-   expression, as numbers in the caller's memory. It is no handle, nothing belongs to it, and there
+   expressions, as numbers in the caller's memory. It is no handle, nothing belongs to it, and there
    is nothing to free. It may be copied, and threads run one plan at once, as long as nobody writes
    it. It is for this version of the library, and for this kind of machine. */
 int64_t tensor_prepare(const uint8_t *header, size_t header_length, uint64_t count,

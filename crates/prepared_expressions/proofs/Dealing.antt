@@ -9,9 +9,9 @@ use Rattle.tensor_shape.specs.Legal.{are_legal, bulk_of, IsWithin}
 use Rattle.tensor_shape.specs.declared.bounds.Bounds.{Bounds}
 use Rattle.tensor_terms.specs.Contents.{Contents, AreWithin, input_of}
 use Rattle.prepared_expressions.specs.private.Dealing.{Dealing, One, one_from, after, next_from, all_from}
-use Rattle.prepared_expressions.specs.Prepared.{recorded_dims, all_legal, dims_of_all, values_of_all, before, dealt, Prepared, IsPrepared, IsRecordable, form_of, record_of}
+use Rattle.prepared_expressions.specs.Prepared.{recorded_dims, all_legal, dims_of_all, values_of_all, before, dealt, Prepared, IsPrepared, IsRecordable, form_of, record_of, terms_of}
 use Rattle.tensor_terms.specs.Term.{Term}
-use Rattle.prepared_expressions.specs.Recorded.{recorded}
+use Rattle.prepared_expressions.specs.Recorded.{recorded_all}
 use Rattle.expr_reader.specs.Arrays.{arrays_under}
 use Rattle.expr_reader.specs.declared.array.Array.{Array}
 use Rattle.prepared_expressions.specs.declared.refusal.Refusal.{Refusal}
@@ -203,47 +203,50 @@ same_elements b c first second same =
     elim first.elements [
       | inl text ↦ elim second.elements [
         | inl both ↦ text ∙ sym both
-        | inr other ↦ absurd (one-two (ap form_of (sym text) ∙ same ∙ ap form_of other))
+        | inr other ↦ absurd (three-four (ap form_of (sym text) ∙ same ∙ ap form_of other))
       ]
       | inr wide ↦ elim second.elements [
-        | inl other ↦ absurd (one-two (sym (ap form_of (sym wide) ∙ same ∙ ap form_of other)))
+        | inl other ↦ absurd (three-four (sym (ap form_of (sym wide) ∙ same ∙ ap form_of other)))
         | inr both ↦ wide ∙ sym both
       ]
     ]
   where
-    one-two : ◌≡◌ {A = ℕ} 1 2 → ⊥
-    one-two h = omega arith
+    three-four : ◌≡◌ {A = ℕ} 3 4 → ⊥
+    three-four h = omega arith
 
 same_bounds : (b c : Bounds) → b.rank ≡ c.rank → b.elements ≡ c.elements → b ≡ c
 same_bounds b c rank elements = λ i. record { rank = rank i; elements = elements i }
 
 -- what the beginning of a record says
-pub record Begun (q : Prepared) (arrays : List (List ℤ)) (b : Bounds) (n : ℕ) (rest : List ℕ) : Type 0 where
+pub record Begun (q : Prepared) (arrays : List (List ℤ)) (b : Bounds) (n m : ℕ) (rest : List ℕ) : Type 0 where
   pub bounds : b ≡ q.bounds
   pub count : n ≡ length q.dims
-  pub dealing : n ≡ length arrays → all_from b arrays rest ≡ told (recorded q.term []) (dealt q.dims arrays)
+  pub bindings : m ≡ length q.bindings
+  pub dealing : n ≡ length arrays → all_from b arrays rest ≡ told (recorded_all (terms_of q) []) (dealt q.dims arrays)
 
-pub begun : (q : Prepared) → IsPrepared q → (arrays : List (List ℤ)) (numbers rest : List ℕ) (b : Bounds) (n : ℕ) → IsRecordable b
-    → numbers ≡ form_of b.elements ∷ b.rank ∷ n ∷ rest → numbers ≡ record_of q → Begun q arrays b n rest
-begun q ok arrays numbers rest b n can here is =
-    let both : form_of b.elements ∷ b.rank ∷ n ∷ rest ≡ record_of q = sym here ∙ is in
+pub begun : (q : Prepared) → IsPrepared q → (arrays : List (List ℤ)) (numbers rest : List ℕ) (b : Bounds) (n m : ℕ) → IsRecordable b
+    → numbers ≡ form_of b.elements ∷ b.rank ∷ n ∷ m ∷ rest → numbers ≡ record_of q → Begun q arrays b n m rest
+begun q ok arrays numbers rest b n m can here is =
+    let both : form_of b.elements ∷ b.rank ∷ n ∷ m ∷ rest ≡ record_of q = sym here ∙ is in
     let form : form_of b.elements ≡ form_of q.bounds.elements = cc in
     let rank : b.rank ≡ q.bounds.rank = cc in
     let bounds = same_bounds b q.bounds rank (same_elements b q.bounds can ok.bounds form) in
     let count : n ≡ length q.dims = cc in
-    let behind : rest ≡ recorded_dims q.dims (recorded q.term []) = cc in
+    let bindings : m ≡ length q.bindings = cc in
+    let behind : rest ≡ recorded_dims q.dims (recorded_all (terms_of q) []) = cc in
     record {
       bounds = bounds;
       count = count;
+      bindings = bindings;
       dealing = λ same. ap (λ s. all_from s arrays rest) bounds ∙ ap (all_from q.bounds arrays) behind
-          ∙ all_from-recorded q.bounds arrays q.dims (recorded q.term []) (sym count ∙ same) ok.legal;
+          ∙ all_from-recorded q.bounds arrays q.dims (recorded_all (terms_of q) []) (sym count ∙ same) ok.legal;
     }
 
 -- the numbers of a record, from what was read of them
-pub filled-written : (numbers rest behind left : List ℕ) (b bounds : Bounds) (n : ℕ) (ts us : List Contents) (t : Term)
-    → numbers ≡ form_of b.elements ∷ b.rank ∷ n ∷ rest → rest ≡ recorded_dims (dims_of_all ts) behind → behind ≡ recorded t left → left ≡ []
-    → n ≡ length ts → bounds ≡ b → us ≡ ts
-    → numbers ≡ form_of bounds.elements ∷ bounds.rank ∷ length (dims_of_all us) ∷ recorded_dims (dims_of_all us) (recorded t [])
-filled-written numbers rest behind left b bounds n ts us t here dims tree end count same all =
-    rw (all, same, length-dims_of_all ts, ← count)
-    (here ∙ ap (λ l. form_of b.elements ∷ b.rank ∷ n ∷ l) (dims ∙ ap (recorded_dims (dims_of_all ts)) (tree ∙ ap (recorded t) end)))
+pub filled-written : (numbers rest behind : List ℕ) (b bounds : Bounds) (n m : ℕ) (ts us : List Contents) (bs all : List Term)
+    → numbers ≡ form_of b.elements ∷ b.rank ∷ n ∷ m ∷ rest → rest ≡ recorded_dims (dims_of_all ts) behind → behind ≡ recorded_all all []
+    → n ≡ length ts → m ≡ length bs → bounds ≡ b → us ≡ ts
+    → numbers ≡ form_of bounds.elements ∷ bounds.rank ∷ length (dims_of_all us) ∷ length bs ∷ recorded_dims (dims_of_all us) (recorded_all all [])
+filled-written numbers rest behind b bounds n m ts us bs all here dims trees count many same inputs =
+    rw (inputs, same, length-dims_of_all ts, ← count, ← many)
+    (here ∙ ap (λ l. form_of b.elements ∷ b.rank ∷ n ∷ m ∷ l) (dims ∙ ap (recorded_dims (dims_of_all ts)) trees))

@@ -1,22 +1,37 @@
 -- What the record of a prepared expression gives over arrays.
-use Rattle.std.specs.Prelude.{◌≡◌, ◌⊎◌, ℕ, ℤ, List, length, Ok, Err, Result, MatchResult, IsTrue}
-use Rattle.tensor_terms.specs.Term.{has_inputs}
+use Rattle.std.specs.Prelude.{◌≡◌, ◌⊎◌, ℕ, ℤ, List, [], ◌∷◌, ◌++◌, Ok, Err, Result, MatchResult}
+use Rattle.tensor_terms.specs.Contents.{Contents}
+use Rattle.tensor_terms.specs.Sequence.{worked_out}
+use Rattle.tensor_terms.specs.Term.{Term}
 use Rattle.tensor_terms.specs.Tree.{term_of}
+use Rattle.prepared_expressions.specs.Bindings.{terms_in}
 use Rattle.prepared_expressions.specs.Prepared.{Prepared, IsPrepared, prepared, record_of}
 use Rattle.prepared_expressions.specs.Prepared.{values_of_all, dealt}
-use Rattle.prepared_expressions.specs.declared.prepared.Filled.{Filled}
+use Rattle.prepared_expressions.specs.declared.filled.Filled.{Filled}
 use Rattle.prepared_expressions.specs.declared.refusal.Refusal.{Refusal}
 use Rattle.prepared_expressions.specs.declared.refusal.Refusal.TheVariants.{NoMemory}
 
--- these numbers are the record of the expression, and the values of its inputs are those of the
--- arrays
+-- its terms, each over all before it: those of its bindings, and then its own
+abbrev pub terms_under : Filled → List Term
+terms_under filled = terms_in filled.bindings.items ++ term_of filled.expr ∷ []
+
+-- what is prepared of it
+abbrev pub prepared_under : Filled → Prepared
+prepared_under filled =
+    prepared filled.inputs (terms_in filled.bindings.items) (term_of filled.expr)
+
+-- the tensors that its expression is over: the inputs, and behind them those of the bindings
+abbrev pub tensors_under : Filled → List Contents
+tensors_under filled = worked_out (terms_in filled.bindings.items) filled.inputs.tensors
+
+-- these numbers are its record, and the values of its inputs are those of the arrays
 pub record IsFilled (numbers : List ℕ) (arrays : List (List ℤ)) (filled : Filled) : Type 0 where
-  pub written : numbers ≡ record_of (prepared filled.inputs (term_of filled.expr))
+  pub written : numbers ≡ record_of (prepared_under filled)
   pub values : values_of_all filled.inputs.tensors ≡ arrays
-  pub inputs : IsTrue (has_inputs (term_of filled.expr) (length filled.inputs.tensors))
 
 -- the prepared expression over the arrays that are dealt to its inputs
 pub record IsOver (p : Prepared) (arrays : List (List ℤ)) (filled : Filled) : Type 0 where
+  pub bindings : terms_in filled.bindings.items ≡ p.bindings
   pub term : term_of filled.expr ≡ p.term
   pub bounds : filled.inputs.bounds ≡ p.bounds
   pub tensors : dealt p.dims arrays ≡ Ok filled.inputs.tensors

@@ -1,26 +1,34 @@
 -- A prepared expression, its record, and the arrays that are dealt to its inputs.
-use Rattle.std.specs.Prelude.{◌≡◌, ◌⊎◌, ◌<◌, ◌≤◌, ◌^◌, ◌&&◌, ◌==◌, ℕ, ℤ, Bool, true, List, []}
+use Rattle.std.specs.Prelude.{◌≡◌, ◌⊎◌, ◌<◌, ◌≤◌, ◌^◌, ◌+◌, ◌&&◌, ◌==◌, ℕ, ℤ, Bool, true, List, []}
 use Rattle.std.specs.Prelude.{◌∷◌, ◌++◌, length}
 use Rattle.std.specs.Prelude.{IsTrue, Result, Ok, Err, if◌then◌else◌}
+use Rattle.std.specs.List.{All}
 use Rattle.tensor_shape.specs.Index.{size_of}
 use Rattle.tensor_shape.specs.Legal.{are_legal, text_elements, most_elements}
 use Rattle.tensor_shape.specs.declared.bounds.Bounds.{Bounds}
 use Rattle.tensor_terms.specs.Contents.{Contents, Given}
-use Rattle.tensor_terms.specs.Term.{Term, has_inputs}
-use Rattle.prepared_expressions.specs.Recorded.{recorded, height_of, HasRanges}
+use Rattle.tensor_terms.specs.Term.{Term}
+use Rattle.expr_reader.specs.Bindings.{have_inputs}
+use Rattle.prepared_expressions.specs.Recorded.{recorded_all, height_of, HasRanges}
 use Rattle.prepared_expressions.specs.declared.refusal.Refusal.{Refusal}
 use Rattle.prepared_expressions.specs.declared.refusal.Refusal.TheVariants.{OtherArrays}
 
--- a term, the dims of its inputs, and how large results get
+-- a term over inputs of these dims and over the tensors of bindings, each of which is over the inputs
+-- and the tensors of those before it; and how large results get
 pub record Prepared : Type 0 where
   pub bounds : Bounds
   pub dims : List (List ℕ)
+  pub bindings : List Term
   pub term : Term
 
+-- its terms, each over all before it: those of its bindings, and then its own
+abbrev pub terms_of : Prepared → List Term
+terms_of p = p.bindings ++ p.term ∷ []
+
 -- the number that says how what stands behind it is written, where tensors have at most so many
--- elements: as many as those of a text, or more
+-- elements: as many as those of a text, or more. 1 and 2 said how it was before there were bindings
 abbrev pub form_of : ℕ → ℕ
-form_of elements = if elements == text_elements then 1 else 2
+form_of elements = if elements == text_elements then 3 else 4
 
 -- dims, each with their rank before them
 abbrev pub recorded_dims : List (List ℕ) → List ℕ → List ℕ
@@ -30,8 +38,8 @@ recorded_dims (d ∷ ds) rest = length d ∷ d ++ recorded_dims ds rest
 -- the record: all its numbers
 abbrev pub record_of : Prepared → List ℕ
 record_of p =
-    form_of p.bounds.elements ∷ p.bounds.rank ∷ length p.dims
-    ∷ recorded_dims p.dims (recorded p.term [])
+    form_of p.bounds.elements ∷ p.bounds.rank ∷ length p.dims ∷ length p.bindings
+    ∷ recorded_dims p.dims (recorded_all (terms_of p) [])
 
 -- the most nodes one below the other
 abbrev pub greatest_height : ℕ
@@ -46,14 +54,18 @@ pub record IsRecordable (bounds : Bounds) : Type 0 where
   pub rank : (bounds.rank ≡ 6) ⊎ (bounds.rank ≡ 8)
   pub elements : (bounds.elements ≡ text_elements) ⊎ (bounds.elements ≡ most_elements)
 
+-- a term that a record can say
+pub record IsWritable (t : Term) : Type 0 where
+  pub ranges : HasRanges t
+  pub height : height_of t ≤ greatest_height
+
 -- what may be prepared
 pub record IsPrepared (p : Prepared) : Type 0 where
   pub bounds : IsRecordable p.bounds
-  pub few : length p.dims < 2 ^ 32
+  pub few : length p.dims + length p.bindings < 2 ^ 32
   pub legal : IsTrue (all_legal p.bounds p.dims)
-  pub inputs : IsTrue (has_inputs p.term (length p.dims))
-  pub ranges : HasRanges p.term
-  pub height : height_of p.term ≤ greatest_height
+  pub inputs : IsTrue (have_inputs (terms_of p) (length p.dims))
+  pub writable : All IsWritable (terms_of p)
 
 -- the dims of tensors, and their values
 abbrev pub dims_of_all : List Contents → List (List ℕ)
@@ -64,10 +76,14 @@ abbrev pub values_of_all : List Contents → List (List ℤ)
 values_of_all [] = []
 values_of_all (t ∷ ts) = t.values ∷ values_of_all ts
 
--- what is prepared of a term over inputs
-abbrev pub prepared : Given → Term → Prepared
-prepared inputs t =
-    record { bounds = inputs.bounds; dims = dims_of_all inputs.tensors; term = t }
+-- what is prepared of a term over inputs and the tensors of bindings
+abbrev pub prepared : Given → List Term → Term → Prepared
+prepared inputs bindings t = record {
+  bounds = inputs.bounds;
+  dims = dims_of_all inputs.tensors;
+  bindings = bindings;
+  term = t;
+}
 
 -- one tensor more before those that were dealt
 abbrev pub before : Contents → Result (List Contents) Refusal → Result (List Contents) Refusal

@@ -84,6 +84,11 @@ recorded (binary o a b) rest =
 recorded (ternary select a b c) rest =
     headed (number_of Select) [] (recorded a (recorded b (recorded c rest)))
 
+-- the same of terms, one behind the other
+abbrev pub recorded_all : List Term → List ℕ → List ℕ
+recorded_all [] rest = rest
+recorded_all (t ∷ ts) rest = recorded t (recorded_all ts rest)
+
 -- how many nodes stand one below the other
 abbrev pub height_of : Term → ℕ
 height_of (input n) = 1

@@ -2,3 +2,4 @@
 pub mod Dealing
 pub mod Made
 pub mod Told
+pub mod ToldAll

@@ -3,6 +3,8 @@
 #![tactic(auto)]
 
 mod arguments;
+mod exprs;
+mod filled;
 mod head;
 mod inputs;
 mod kind;
@@ -10,8 +12,10 @@ mod part;
 mod prepared;
 mod refusal;
 mod tree;
+mod worked_out;
 mod written;
 
-pub use part::fill_from;
-pub use prepared::{Filled, prepare, read_over};
+pub use filled::Filled;
+pub use part::{eval_filled, fill_from};
+pub use prepared::{prepare, read_over};
 pub use refusal::Refusal;

@@ -1,59 +1,48 @@
 //! Prepared expressions: written as a record, and read again over arrays.
 
-ghost use Rattle.std.specs.Prelude.{◌≡◌, ◌≢◌, ◌⊎◌, ◌<◌, ◌^◌, ◌++◌, ◌∷◌, ℕ, List, length};
+ghost use Rattle.std.specs.Prelude.{◌≡◌, ◌≢◌, ◌⊎◌, ◌<◌, ◌+◌, ◌^◌, ◌++◌, ◌∷◌, ℕ, List};
 ghost use Rattle.std.specs.Prelude.{IsTrue, IfOk, OnOk, IfSome, IfNone};
 ghost use Rattle.expr_reader.specs.Arrays.{arrays_under};
 ghost use Rattle.tensor_shape.specs.Legal.{text_elements, most_elements, IsPossible};
-ghost use Rattle.tensor_terms.specs.Term.{has_inputs};
-ghost use Rattle.tensor_terms.specs.Tree.{term_of};
-ghost use Rattle.prepared_expressions.specs.Filled.{IsFilled, IsFilledOf};
-ghost use Rattle.prepared_expressions.specs.Prepared.{prepared, record_of, recorded_dims};
+ghost use Rattle.prepared_expressions.specs.Filled.{IsFilled, IsFilledOf, prepared_under};
+ghost use Rattle.prepared_expressions.specs.Prepared.{record_of, recorded_dims};
 ghost use Rattle.prepared_expressions.specs.Prepared.{dims_of_all, all_legal, form_of};
 ghost use Rattle.prepared_expressions.specs.Prepared.{Prepared, IsPrepared, IsRecordable};
 
-use crate::arguments::alone;
+use crate::exprs::read_exprs;
+use crate::filled::Filled;
 use crate::inputs::read_tensors;
 use crate::refusal::Refusal;
-use crate::tree::read_tree;
-use crate::written::{write_list, write_tree};
+use crate::tree::MAX_HEIGHT;
+use crate::written::{write_list, write_tree, write_trees};
 use expr_reader::Array;
 use std::alloc::Global;
 use tensor_shape::{Bounds, Dims, MAX_ELEMENTS, TEXT_ELEMENTS};
-use tensor_terms::{Expr, Inputs};
+use tensor_terms::Inputs;
 
 /// The number that stands first in a record, and says how what stands behind it is written, where
 /// tensors have at most as many elements as those of a text.
-const TEXT_FORM: u64 = 1;
+const TEXT_FORM: u64 = 3;
 
 /// The same where they have as many as they may.
-const WIDE_FORM: u64 = 2;
+const WIDE_FORM: u64 = 4;
 
-/// The most nodes that stand one below the other.
-const MAX_HEIGHT: u32 = 127;
-
-/// An expression, and inputs that arrays fill.
-#[derive(Drop)]
-pub struct Filled<'a> {
-    pub inputs: Inputs<'a>,
-    pub expr: Expr,
-}
-
-/// The record of an expression over inputs with the dims of these. Their values are no part of it.
-pub fn prepare(alloc: Global, inputs: &Inputs<'_>, expr: &Expr) -> Result<Vec<u64>, Refusal>
-    requires { IsTrue (has_inputs (term_of expr.now) (length inputs.now.tensors)) }
+/// The record of an expression over inputs and bindings. The values of the inputs are no part of it.
+pub fn prepare(alloc: Global, filled: &Filled<'_>) -> Result<Vec<u64>, Refusal>
     ensures numbers { IfOk result (λ numbers.
-        numbers.items ≡ record_of (prepared inputs.now (term_of expr.now))) }
-    ensures prepared { IfOk result (λ numbers.
-        IsPrepared (prepared inputs.now (term_of expr.now))) }
+        numbers.items ≡ record_of (prepared_under filled.now)) }
+    ensures prepared { IfOk result (λ numbers. IsPrepared (prepared_under filled.now)) }
 {
-    let bounds = inputs.bounds();
+    let bounds = filled.inputs.bounds();
     let Some(form) = form_of(bounds) else {
         return Err(Refusal::TooLarge);
     };
-    let head = [form, bounds.rank as u64, u64::from(inputs.len())];
-    let mut numbers = Vec::from_slice(alloc, &head)?;
-    write_dims(&mut numbers, inputs, bounds)?;
-    write_tree(alloc, &mut numbers, expr, MAX_HEIGHT)?;
+    let inputs = u64::from(filled.inputs.len());
+    let bindings = filled.bindings.len() as u64;
+    let mut numbers = Vec::from_slice(alloc, &[form, bounds.rank as u64, inputs, bindings])?;
+    write_dims(&mut numbers, &filled.inputs, bounds)?;
+    write_trees(alloc, &mut numbers, &filled.bindings)?;
+    write_tree(alloc, &mut numbers, &filled.expr, MAX_HEIGHT)?;
     Ok(numbers)
 }
 
@@ -86,44 +75,53 @@ pub fn read_over<'a>(
     let Some(start) = read_start(numbers) else {
         return Err(Refusal::NoRecord);
     };
-    let count = start.count as usize;
+    let count = start.inputs as usize;
     if count != arrays.len() {
         return Err(Refusal::OtherArrays);
     }
     let dealt = read_tensors(alloc, start.bounds, start.rest, arrays)?;
-    let read = read_tree(alloc, dealt.rest, start.count, MAX_HEIGHT)?;
-    let expr = alone(read.expr, read.rest)?;
+    let read = read_exprs(alloc, dealt.rest, start.inputs, start.bindings)?;
     let inputs = Inputs::with_bounds(dealt.tensors, start.bounds);
-    Ok(Filled { inputs, expr })
+    Ok(Filled {
+        inputs,
+        bindings: read.bindings,
+        expr: read.expr,
+    })
 }
 
-/// What stands first in a record: how large results get, and the number of inputs.
+/// What stands first in a record: how large results get, and the numbers of inputs and of bindings.
 #[derive(Clone, Copy)]
 struct Start<'n> {
     bounds: Bounds,
-    count: u32,
+    inputs: u32,
+    bindings: u32,
     rest: &'n [u64],
 }
 
 /// What stands first in a record.
 fn read_start(numbers: &[u64]) -> Option<Start<'_>>
-    ensures found { IfSome result (λ s.
-        numbers.now ≡ form_of s.bounds.elements ∷ s.bounds.rank ∷ s.count ∷ s.rest.now) }
+    ensures found { IfSome result (λ s. numbers.now
+        ≡ form_of s.bounds.elements ∷ s.bounds.rank ∷ s.inputs ∷ s.bindings ∷ s.rest.now) }
     ensures bounds { IfSome result (λ s. IsRecordable s.bounds) }
-    ensures few { IfSome result (λ s. s.count < 2 ^ 32) }
+    ensures few { IfSome result (λ s. s.inputs + s.bindings < 2 ^ 32) }
     ensures none { IfNone result ((p : Prepared) → IsPrepared p → numbers.now ≢ record_of p) }
 {
-    let [form, rank, count, rest @ ..] = numbers else {
+    let [form, rank, inputs, bindings, rest @ ..] = numbers else {
         return None;
     };
     let elements = elements_of(*form)?;
-    if (*rank != 6 && *rank != 8) || *count > u64::from(u32::MAX) {
+    if *rank != 6 && *rank != 8 {
+        return None;
+    }
+    let most = u64::from(u32::MAX);
+    if *inputs > most || *bindings > most - *inputs {
         return None;
     }
     let rank = *rank as usize;
     Some(Start {
         bounds: Bounds { rank, elements },
-        count: *count as u32,
+        inputs: *inputs as u32,
+        bindings: *bindings as u32,
         rest,
     })
 }

@@ -13,6 +13,9 @@ use crate::refusal::Refusal;
 use std::alloc::Global;
 use tensor_terms::Expr;
 
+/// The most nodes that stand one below the other.
+pub(crate) const MAX_HEIGHT: u32 = 127;
+
 /// An expression, and the numbers behind those that record it.
 #[derive(Drop)]
 pub(crate) struct Read<'a> {

@@ -1,8 +1,12 @@
 //! Expressions written as numbers.
 
 ghost use Rattle.std.specs.Prelude.{◌≡◌, ◌++◌, ◌∷◌, ◌≤◌, ℕ, List, length, IfOk, OnOk};
+ghost use Rattle.std.specs.List.{All};
+ghost use Rattle.prepared_expressions.specs.Bindings.{terms_in};
 ghost use Rattle.prepared_expressions.specs.Numbers.{headed, number_of};
-ghost use Rattle.prepared_expressions.specs.Recorded.{recorded, height_of, HasRange, HasRanges};
+ghost use Rattle.prepared_expressions.specs.Prepared.{IsWritable};
+ghost use Rattle.prepared_expressions.specs.Recorded.{recorded, recorded_all, height_of};
+ghost use Rattle.prepared_expressions.specs.Recorded.{HasRange, HasRanges};
 ghost use Rattle.prepared_expressions.specs.Recorded.{unary_kind, unary_numbers, binary_kind};
 ghost use Rattle.prepared_expressions.specs.Recorded.{binary_numbers, movement_kind};
 ghost use Rattle.prepared_expressions.specs.Recorded.{movement_numbers, flag_number, pair_numbers};
@@ -10,6 +14,7 @@ ghost use Rattle.tensor_terms.specs.Tree.{term_of, unary_at, binary_at, movement
 
 use crate::kind::{BinaryKind, Kind, UnaryKind};
 use crate::refusal::Refusal;
+use crate::tree::MAX_HEIGHT;
 use std::alloc::{AllocError, Global};
 use tensor_terms::{Binary, Expr, Movement, Node, Ternary, Unary};
 
@@ -54,6 +59,22 @@ pub(crate) fn write_tree(
             write_tree(alloc, numbers, second, height - 1)?;
             write_tree(alloc, numbers, third, height - 1)?;
         }
+    }
+    Ok(())
+}
+
+/// Puts the numbers of expressions, one behind the other, behind those that are there.
+pub(crate) fn write_trees(
+    alloc: Global,
+    numbers: &mut Vec<u64>,
+    exprs: &[Expr],
+) -> Result<(), Refusal>
+    ensures numbers { OnOk result ((rest : List ℕ) → numbers.new.items ++ rest
+        ≡ numbers.old.items ++ recorded_all (terms_in exprs.now) rest) }
+    ensures writable { OnOk result (All IsWritable (terms_in exprs.now)) }
+{
+    for expr in exprs {
+        write_tree(alloc, numbers, expr, MAX_HEIGHT)?;
     }
     Ok(())
 }

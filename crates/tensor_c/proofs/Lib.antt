@@ -1,4 +1,6 @@
+pub mod Bound
 pub mod Dims
+pub mod Filling
 pub mod Parts
 pub mod Plans
 pub mod Planned

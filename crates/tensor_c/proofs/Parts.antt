@@ -8,13 +8,12 @@ use Rattle.std.proofs.lemmas.List.{append-nil, length-drop, drop_all, drop-appen
 use Rattle.std.proofs.lemmas.List.FromFn.{length-map-range_with_len, get_or-map-range_with_len}
 use Rattle.expr_reader.specs.Contents.{Contents}
 use Rattle.expr_reader.specs.Index.{size_of}
-use Rattle.expr_reader.specs.Request.{Asked}
+use Rattle.expr_reader.specs.Request.{Asked, tensors_of, asked_tensor}
 use Rattle.expr_reader.specs.Result.{shape_of}
 use Rattle.expr_reader.specs.Term.{Term}
 use Rattle.expr_reader.specs.Value.{value_of_place, values_from}
 use Rattle.tensor_values.proofs.Runs.{part-read, map-shifted}
 use Rattle.expr_reader.specs.declared.fault.Fault.{Fault}
-use Rattle.tensor_c.specs.Answer.{asked_tensor}
 use Rattle.tensor_c.specs.Call.{begun}
 use Rattle.tensor_c.specs.Part.{part_of, called_for_part}
 
@@ -33,7 +32,7 @@ part-from t inputs first n within =
 -- how many values are asked for, of dims that the tensor has
 pub length-asked : (a : Asked) (dims : List ℕ) → (asked_tensor a).dims ≡ dims → length (asked_tensor a).values ≡ size_of dims
 length-asked a dims shape =
-    length-map-range_with_len (value_of_place a.term a.inputs) 0 (size_of (shape_of a.term a.inputs)) ∙ ap size_of shape
+    length-map-range_with_len (value_of_place a.term (tensors_of a)) 0 (size_of (shape_of a.term (tensors_of a))) ∙ ap size_of shape
 
 -- as many of the first ones as there are
 pub take-length : (k : ℕ) (xs : List ℤ) → take k xs ≡ take (length (take k xs)) xs

@@ -14,19 +14,19 @@ use Rattle.tensor_ops.specs.Bounds.{Bounds}
 use Rattle.expr_reader.specs.Alike.{AskAlike}
 use Rattle.expr_reader.specs.Arrays.{joined, with_all, array_tensor, array_tensors, bad_array, array_inputs, request_of_arrays}
 use Rattle.expr_reader.specs.Contents.{Contents}
+use Rattle.expr_reader.specs.Expression.{Expression, expression_at}
 use Rattle.expr_reader.specs.Fields.{Fields, fields_of, within}
-use Rattle.expr_reader.specs.Frame.{dims_alone, framed_tensor, framed_tensors, bad_framed, frame_inputs, request_of_frame}
+use Rattle.expr_reader.specs.Frame.{dims_alone, framed_tensor, framed_tensors, bad_framed, frame_inputs, values_limit, request_of_frame}
 use Rattle.expr_reader.specs.Frame as frame
 use Rattle.expr_reader.specs.Index.{size_of}
-use Rattle.expr_reader.specs.Limits.{most_values}
-use Rattle.expr_reader.specs.Node.{Tree, tree_at}
 use Rattle.expr_reader.specs.Place.{Step, field, Located, here, at, below, unlocated}
 use Rattle.expr_reader.specs.Profile.{Profile}
 use Rattle.expr_reader.specs.Profile.{frame_profile_of}
-use Rattle.expr_reader.specs.Request.{Asked, profile_in}
+use Rattle.expr_reader.specs.Request.{Asked, asked_tensor, profile_in}
 use Rattle.expr_reader.specs.Request.{fields_asked, data_asked, data_of, text_asked}
 use Rattle.expr_reader.specs.Steps.{and_then}
 use Rattle.expr_reader.specs.Tensors.{Named, dims_in, names_in}
+use Rattle.expr_reader.specs.Sequence.{worked_out}
 use Rattle.expr_reader.specs.Value.{tensor_of}
 use Rattle.expr_reader.specs.declared.fault.Fault.{Fault}
 use Rattle.expr_reader.specs.declared.fault.Fault.TheVariants.{BadField, BadVersion, BadWorkers, BadBlock, BadTensor, TooLong}
@@ -34,7 +34,7 @@ use Rattle.expr_reader.proofs.Chain.{tree_asked, inputs_asked, block_asked, work
 use Rattle.expr_reader.proofs.SameDims.{AskAlike-frame}
 use Rattle.prepared_expressions.specs.Prepared.{dims_of_all, before, dealt}
 use Rattle.prepared_expressions.specs.declared.refusal.Refusal.{Refusal}
-use Rattle.tensor_c.specs.Answer.{or_fault, asked_tensor, answer_of_arrays}
+use Rattle.tensor_c.specs.Answer.{or_fault, answer_of_arrays}
 use Rattle.tensor_c.specs.Plan.{prepared_of, tensor_over, answer_of_plan}
 
 module _ (bounds : Bounds) where
@@ -186,18 +186,20 @@ module _ (bounds : Bounds) where
 -- a request keeps the tensors that it is read over
 tree_asked-inputs : (f : Fields) (p : Profile) (workers block : ℕ) (named : Named) (a : Asked)
     → unlocated (tree_asked f p workers block named) ≡ Ok a → a.inputs ≡ named.tensors
-tree_asked-inputs f p workers block named a is = by_tree (below (field (codes "expr")) (tree_at p named 0 f.expr)) is
+tree_asked-inputs f p workers block named a is = by_expression (below (field (codes "expr")) (expression_at p named 0 f.expr)) is
   where
-    by_tree : (r : Result Tree Located) → unlocated (and_then r (λ tree. Ok (record {
+    by_expression : (r : Result Expression Located) → unlocated (and_then r (λ found. Ok (record {
       workers = workers;
       block = block;
       inputs = named.tensors;
       bounds = p.bounds;
-      term = tree.term;
+      bindings = found.bindings;
+      term = found.tree.term;
     }))) ≡ Ok a → a.inputs ≡ named.tensors
-    by_tree (Err found) is = absurd (cc)
-    by_tree (Ok tree) is =
-        let made : Asked = record { workers = workers; block = block; inputs = named.tensors; bounds = p.bounds; term = tree.term } in
+    by_expression (Err found) is = absurd (cc)
+    by_expression (Ok found) is =
+        let made : Asked =
+        record { workers = workers; block = block; inputs = named.tensors; bounds = p.bounds; bindings = found.bindings; term = found.tree.term } in
         let same : made ≡ a = cc in
         ap (λ b. b.inputs) (sym same)
 
@@ -293,10 +295,10 @@ module _ (values : List ℤ) (arrays : List (List ℤ)) where
       (λ d. Follows-and_then (ok_or (fields_of d) (here BadField)) (fields_asked frame_profile_of (frame_inputs values)) (fields_asked frame_profile_of (array_inputs arrays))
       (fields_asked frame_profile_of (frame_inputs (joined arrays))) Follows-fields)
 
-  pub plan-answers : (header : List ℕ) (a : Asked) → request_of_frame header values ≡ Ok a → length (joined arrays) ≤ most_values
+  pub plan-answers : (header : List ℕ) (a : Asked) → request_of_frame header values ≡ Ok a → length (joined arrays) ≤ values_limit header
       → answer_of_plan (prepared_of a) arrays ≡ answer_of_arrays header arrays
   plan-answers header a is few =
-      by_length (nat_lt most_values (length values)) is
+      by_length (nat_lt (values_limit header) (length values)) is
     where
       y : Result Asked Fault
       y = unlocated (text_asked frame_profile_of (array_inputs arrays) header)
@@ -304,8 +306,8 @@ module _ (values : List ℤ) (arrays : List (List ℤ)) where
       z : Result Asked Fault
       z = unlocated (text_asked frame_profile_of (frame_inputs (joined arrays)) header)
 
-      short : nat_lt most_values (length (joined arrays)) ≡ false
-      short = le-ltb most_values (length (joined arrays)) few
+      short : nat_lt (values_limit header) (length (joined arrays)) ≡ false
+      short = le-ltb (values_limit header) (length (joined arrays)) few
 
       apart : request_of_arrays header arrays ≡ y
       apart = rw short refl
@@ -314,11 +316,11 @@ module _ (values : List ℤ) (arrays : List (List ℤ)) where
       behind = rw short refl
 
       by_answer : (us : List Contents) (r : Result Asked Fault) → ((b : Asked) → r ≡ Ok b → b.inputs ≡ us) → AskAlike (Ok a) r
-          → Ok (tensor_of a.term us) ≡ or_fault asked_tensor r
+          → Ok (tensor_of a.term (worked_out a.bindings us)) ≡ or_fault asked_tensor r
       by_answer us (Err g) inputs alike = absurd alike
-      by_answer us (Ok b) inputs alike = rw (alike.term, inputs b refl) refl
+      by_answer us (Ok b) inputs alike = rw (alike.term, alike.bindings, inputs b refl) refl
 
-      by_dealt : (r : Result (List Contents) Refusal) → FollowsBy r y z → tensor_over a.term r ≡ or_fault asked_tensor y
+      by_dealt : (r : Result (List Contents) Refusal) → FollowsBy r y z → tensor_over (prepared_of a) r ≡ or_fault asked_tensor y
       by_dealt (Err f) other = ap (or_fault asked_tensor) (sym other)
       by_dealt (Ok us) asked =
           let alike : AskAlike (request_of_frame header values) (request_of_frame header (joined arrays)) =

@@ -1,5 +1,5 @@
 -- Arrays that are dealt to the inputs of a plan.
-use Rattle.std.proofs.Common.{◌≡◌, ◌==◌, ℕ, zero, suc, ℤ, Bool, true, false, List, [], ◌∷◌, length, Result, Ok, Err}
+use Rattle.std.proofs.Common.{◌≡◌, ◌==◌, ℕ, ℤ, Bool, true, false, List, [], ◌∷◌, length, map, Result, Ok, Err}
 use Rattle.std.proofs.Common.{if◌then◌else◌, refl, ap, sym, ◌∙◌}
 use Rattle.expr_reader.specs.Alike.{HaveSameDims}
 use Rattle.expr_reader.specs.Contents.{Contents}
@@ -42,10 +42,10 @@ dealt-err (d ∷ ds) (vs ∷ arrays) f is = by_size (length vs == size_of d) (λ
     by_size true behind (Err g) rest is =
         let same : g ≡ f = cc in sym same ∙ behind g rest
 
--- tensors of these dims, one by one
+-- tensors of these dims
+dims_of_all-map : (ts : List Contents) → dims_of_all ts ≡ map (λ t. t.dims) ts
+dims_of_all-map [] = refl
+dims_of_all-map (t ∷ ts) = ap (λ ds. t.dims ∷ ds) (dims_of_all-map ts)
+
 pub HaveSameDims-all : (ts us : List Contents) → dims_of_all ts ≡ dims_of_all us → HaveSameDims ts us
-HaveSameDims-all [] [] is n = refl
-HaveSameDims-all [] (u ∷ us) is n = absurd (cc)
-HaveSameDims-all (t ∷ ts) [] is n = absurd (cc)
-HaveSameDims-all (t ∷ ts) (u ∷ us) is zero = cc
-HaveSameDims-all (t ∷ ts) (u ∷ us) is (suc n) = HaveSameDims-all ts us (cc) n
+HaveSameDims-all ts us is = sym (dims_of_all-map ts) ∙ is ∙ dims_of_all-map us

@@ -3,8 +3,7 @@ use Rattle.std.specs.Prelude.{ℕ, ℤ, List, Result, Ok, Err}
 use Rattle.expr_reader.specs.Arrays.{request_of_arrays}
 use Rattle.expr_reader.specs.Contents.{Contents}
 use Rattle.expr_reader.specs.Frame.{request_of_frame}
-use Rattle.expr_reader.specs.Request.{Asked}
-use Rattle.expr_reader.specs.Value.{tensor_of}
+use Rattle.expr_reader.specs.Request.{asked_tensor}
 use Rattle.expr_reader.specs.declared.fault.Fault.{Fault}
 
 -- what f makes of what was found, or the fault
@@ -12,10 +11,7 @@ abbrev pub or_fault : {A B : Type 0} → (A → B) → Result A Fault → Result
 or_fault f (Ok x) = Ok (f x)
 or_fault f (Err fault) = Err fault
 
--- the tensor that a request asks for
-abbrev pub asked_tensor : Asked → Contents
-asked_tensor a = tensor_of a.term a.inputs
-
+-- the tensor that a frame asks for
 abbrev pub answer_of_frame : List ℕ → List ℤ → Result Contents Fault
 answer_of_frame header values = or_fault asked_tensor (request_of_frame header values)
 

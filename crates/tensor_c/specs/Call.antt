@@ -4,7 +4,7 @@ use Rattle.std.specs.Prelude.{length, drop, nat_le, nat_lt, Result, Ok, Err, if�
 use Rattle.expr_reader.specs.Contents.{Contents}
 use Rattle.expr_reader.specs.Faults.{fault_number}
 use Rattle.expr_reader.specs.Index.{size_of}
-use Rattle.expr_reader.specs.Limits.{most_bytes, most_values}
+use Rattle.expr_reader.specs.Limits.{most_bytes, widest_values}
 use Rattle.expr_reader.specs.declared.fault.Fault.{Fault}
 use Rattle.expr_reader.specs.declared.fault.Fault.TheVariants.{NoMemory}
 
@@ -48,9 +48,9 @@ called (Ok t) out dims =
     else record { result = no_room; out = out; dims = dims }
 called (Err f) out dims = record { result = fault_result f; out = out; dims = dims }
 
--- a header of more bytes, or more values, than there may be
+-- a header of more bytes, or more values, than there may be whatever its version is
 abbrev pub IsTooLong : List ℕ → ℕ → Type 0
-IsTooLong header count = (most_bytes < length header) ⊎ (most_values < count)
+IsTooLong header count = (most_bytes < length header) ⊎ (widest_values < count)
 
 -- what a call does is what the answer says, or it finds no memory
 abbrev pub IsCall : Result Contents Fault → List ℤ → List ℕ → Called → Type 0

@@ -1,15 +1,16 @@
 -- Plans: what a call that prepares a header writes, and what one that runs its numbers returns.
 use Rattle.std.specs.Prelude.{◌≡◌, ◌⊎◌, ℕ, ℤ, pos, neg_ℤ, List, length, replicate, nat_le, Result}
-use Rattle.std.specs.Prelude.{Ok, Err, IsOk, if◌then◌else◌}
+use Rattle.std.specs.Prelude.{Ok, Err, if◌then◌else◌}
 use Rattle.expr_reader.specs.Contents.{Contents}
 use Rattle.expr_reader.specs.Frame.{request_of_frame}
 use Rattle.expr_reader.specs.Request.{Asked}
-use Rattle.expr_reader.specs.Result.{dims_of}
-use Rattle.expr_reader.specs.Term.{Term}
+use Rattle.expr_reader.specs.Sequence.{worked_out}
 use Rattle.expr_reader.specs.Value.{tensor_of}
 use Rattle.expr_reader.specs.declared.fault.Fault.{Fault}
 use Rattle.expr_reader.specs.declared.fault.Fault.TheVariants.{BadTensor, NoMemory}
-use Rattle.prepared_expressions.specs.Prepared.{Prepared, IsPrepared, record_of, dims_of_all, dealt}
+use Rattle.prepared_expressions.specs.Bindings.{HaveDims}
+use Rattle.prepared_expressions.specs.Prepared.{Prepared, IsPrepared, terms_of, record_of}
+use Rattle.prepared_expressions.specs.Prepared.{dims_of_all, dealt}
 use Rattle.prepared_expressions.specs.declared.refusal.Refusal.{Refusal}
 use Rattle.prepared_expressions.specs.declared.refusal.Refusal.TheVariants as refusal
 use Rattle.tensor_c.specs.Answer.{or_fault}
@@ -18,7 +19,12 @@ use Rattle.tensor_c.specs.Part.{CalledForPart}
 
 -- what is prepared of what a header asks for
 abbrev pub prepared_of : Asked → Prepared
-prepared_of a = record { bounds = a.bounds; dims = dims_of_all a.inputs; term = a.term }
+prepared_of a = record {
+  bounds = a.bounds;
+  dims = dims_of_all a.inputs;
+  bindings = a.bindings;
+  term = a.term;
+}
 
 -- what a header asks for over so many values, each of which is zero
 abbrev pub asked_over : List ℕ → ℕ → Result Asked Fault
@@ -46,19 +52,19 @@ abbrev pub IsPlanCall : Result (List ℕ) Fault → List ℕ → CalledForPlan �
 IsPlanCall answer plan call =
     (call ≡ called_for_plan answer plan) ⊎ (call ≡ called_for_plan (Err NoMemory) plan)
 
--- what may be prepared, and has result dims over whatever arrays fit
+-- what may be prepared, and of which each term has result dims over whatever arrays fit
 pub record IsPlan (p : Prepared) : Type 0 where
   pub prepared : IsPrepared p
-  pub has_dims : (arrays : List (List ℤ)) (tensors : List Contents)
-      → dealt p.dims arrays ≡ Ok tensors → IsOk (dims_of p.bounds p.term tensors)
+  pub have_dims : (arrays : List (List ℤ)) (tensors : List Contents)
+      → dealt p.dims arrays ≡ Ok tensors → HaveDims p.bounds (terms_of p) tensors
 
 -- what it answers over arrays: its tensor, or the fault of arrays that don't fit
-abbrev pub tensor_over : Term → Result (List Contents) Refusal → Result Contents Fault
-tensor_over t (Ok tensors) = Ok (tensor_of t tensors)
-tensor_over t (Err f) = Err BadTensor
+abbrev pub tensor_over : Prepared → Result (List Contents) Refusal → Result Contents Fault
+tensor_over p (Ok tensors) = Ok (tensor_of p.term (worked_out p.bindings tensors))
+tensor_over p (Err f) = Err BadTensor
 
 abbrev pub answer_of_plan : Prepared → List (List ℤ) → Result Contents Fault
-answer_of_plan p arrays = tensor_over p.term (dealt p.dims arrays)
+answer_of_plan p arrays = tensor_over p (dealt p.dims arrays)
 
 -- what is returned for numbers that are no plan
 abbrev pub no_plan : ℤ

@@ -1,9 +1,11 @@
 -- How many values each part of an answer works out anew, as lists, before its first one.
-use Rattle.std.specs.Prelude.{◌≡◌, ◌⊎◌, ℕ, ℤ, pos, ◌+◌, Bool, true, false, ◌&&◌, ◌||◌, List}
+use Rattle.std.specs.Prelude.{◌≡◌, ◌⊎◌, ℕ, ℤ, pos, ◌+◌, Bool, true, false, ◌&&◌, ◌||◌}
+use Rattle.std.specs.Prelude.{List, [], ◌∷◌}
 use Rattle.std.specs.Prelude.{Result, Ok, Err, if◌then◌else◌}
 use Rattle.expr_reader.specs.Arrays.{request_of_arrays}
 use Rattle.expr_reader.specs.Contents.{Contents}
 use Rattle.expr_reader.specs.Index.{size_of}
+use Rattle.expr_reader.specs.Request.{Asked, tensors_of}
 use Rattle.expr_reader.specs.Result.{shape_of}
 use Rattle.expr_reader.specs.Term.{Term, input, unary, binary, ternary}
 use Rattle.expr_reader.specs.Term.{Unary, each, constant, movement, pad, reduce}
@@ -111,9 +113,20 @@ module _ (inputs : List Contents) where
       shared a + shared b + shared c
       + (combined_size a (size_in a) + combined_size b (size_in b) + combined_size c (size_in c))
 
--- the same of what a header asks for over arrays, or its first fault
+  -- what is worked out of terms whole: all their values, and what lies below the last operation of
+  -- each
+  abbrev pub shared_whole : List Term → ℕ
+  shared_whole [] = 0
+  shared_whole (t ∷ ts) = size_in t + shared t + shared_whole ts
+
+-- what is worked out of what is asked for: its bindings whole, and what lies below the last operation
+-- of its term
+abbrev pub asked_shared : Asked → ℕ
+asked_shared a = shared_whole (tensors_of a) a.bindings + shared (tensors_of a) a.term
+
+-- the same of a header and arrays, or its first fault
 abbrev pub shared_over : List ℕ → List (List ℤ) → Result ℕ Fault
-shared_over header arrays = or_fault (λ a. shared a.inputs a.term) (request_of_arrays header arrays)
+shared_over header arrays = or_fault asked_shared (request_of_arrays header arrays)
 
 -- what a call returns that counts: the number, or a fault's
 abbrev pub called_for_count : Result ℕ Fault → ℤ

@@ -7,6 +7,7 @@ ghost use Rattle.tensor_c.specs.Answer.{answer_of_arrays, dims_of_arrays};
 ghost use Rattle.tensor_c.specs.Call.{IsTooLong};
 ghost use Rattle.tensor_c.specs.Part.{called_for_part, IsPartCall};
 
+use crate::asked::dims_asked;
 use crate::faults::result_of;
 use crate::part::put_part_of;
 use expr_reader::{Array, Dims, Fault, read_arrays};
@@ -42,8 +43,5 @@ pub(crate) fn dims_over(alloc: Global, header: &[u8], arrays: &[Array<'_>]) -> R
         → IsErrOf result Fault.TooLong }
 {
     let request = read_arrays(alloc, header, arrays)?;
-    match request.expr.dims(&request.inputs) {
-        Ok(dims) => Ok(dims),
-        Err(_) => unreachable!(),
-    }
+    Ok(dims_asked(&request).copied())
 }

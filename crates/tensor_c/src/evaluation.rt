@@ -4,14 +4,18 @@ ghost use Rattle.std.specs.Prelude.{◌≡◌, ◌⊎◌, ℤ, List, Ok, Err, le
 ghost use Rattle.std.specs.Prelude.{MatchResult, IfOk, IfErr, IsErrOf, pos, replicate};
 ghost use Rattle.expr_reader.specs.Asked.{asked_under};
 ghost use Rattle.expr_reader.specs.Frame.{request_of_frame};
-ghost use Rattle.tensor_c.specs.Answer.{answer_of_frame, answer_dims, asked_tensor};
+ghost use Rattle.expr_reader.specs.Request.{asked_tensor};
+ghost use Rattle.tensor_c.specs.Answer.{answer_of_frame, answer_dims};
 ghost use Rattle.tensor_c.specs.Call.{IsCall, IsTooLong, called, has_room, no_room};
 
+use crate::asked::{dims_asked, filled_of};
 use crate::faults::result_of;
 use crate::room::{NO_ROOM, has_room, put_tensor};
-use expr_reader::{Dims, Fault, MAX_TEXT, MAX_VALUES, Request, read_frame};
+use expr_reader::{
+    Dims, Fault, MAX_TEXT, MAX_VALUES, Request, Tensor, WIDEST_VALUES, read_frame, values_limit,
+};
+use prepared_expressions::eval_filled;
 use std::alloc::Global;
-use tensor_ops::eval_plain;
 
 /// Writes the tensor of a frame, and returns how many values it has, or what stands for a fault or
 /// for too little room.
@@ -29,28 +33,39 @@ pub(crate) fn put_answer(
         ≡ called (Err Fault.TooLong) out.old dims.old }
 {
     match read_frame(alloc, header, values) {
-        Ok(request) => put_asked(alloc, &request, out, dims),
+        Ok(request) => put_asked(alloc, request, out, dims),
         Err(fault) => result_of(fault),
     }
 }
 
 /// Writes the tensor that a request asks for. Room is looked at before memory is asked for, so want
 /// of memory never stands for too little room.
-fn put_asked(alloc: Global, request: &Request<'_>, out: &mut [i64], dims: &mut [u64]) -> i64
-    ensures call { IsCall (Ok (asked_tensor (asked_under request.now))) out.old dims.old
+fn put_asked(alloc: Global, request: Request<'_>, out: &mut [i64], dims: &mut [u64]) -> i64
+    ensures call { IsCall (Ok (asked_tensor (asked_under request.entry))) out.old dims.old
         (record { result = result; out = out.new; dims = dims.new }) }
-    ensures no_room { has_room (asked_tensor (asked_under request.now)) out.old dims.old ≡ false
+    ensures no_room { has_room (asked_tensor (asked_under request.entry)) out.old dims.old ≡ false
         → result ≡ no_room }
 {
-    let Ok(sizes) = request.expr.dims(&request.inputs) else {
-        unreachable!();
-    };
-    if !has_room(&sizes, out, dims) {
+    if !has_room(dims_asked(&request), out, dims) {
         return NO_ROOM;
     }
-    match eval_plain(alloc, &request.expr, &request.inputs) {
+    match tensor_asked(alloc, request) {
         Ok(tensor) => put_tensor(&tensor, out, dims),
-        Err(_) => result_of(Fault::NoMemory),
+        Err(fault) => result_of(fault),
+    }
+}
+
+/// The tensor that a request asks for.
+fn tensor_asked(alloc: Global, request: Request<'_>) -> Result<Tensor<'static>, Fault>
+    ensures { MatchResult result (λ tensor. tensor ≡ asked_tensor (asked_under request.entry))
+        (λ fault. fault ≡ Fault.NoMemory) }
+{
+    let Ok(filled) = filled_of(alloc, request) else {
+        return Err(Fault::NoMemory);
+    };
+    match eval_filled(alloc, &filled) {
+        Ok(tensor) => Ok(tensor),
+        Err(_) => Err(Fault::NoMemory),
     }
 }
 
@@ -64,10 +79,7 @@ pub(crate) fn dims_of(alloc: Global, header: &[u8], count: u64) -> Result<Dims, 
 {
     let zeroes = zeroes_for(alloc, header, count)?;
     let request = read_frame(alloc, header, zeroes.as_slice())?;
-    match request.expr.dims(&request.inputs) {
-        Ok(dims) => Ok(dims),
-        Err(_) => unreachable!(),
-    }
+    Ok(dims_asked(&request).copied())
 }
 
 /// Zeroes in the place of so many values behind a header, where neither is too long.
@@ -78,7 +90,10 @@ pub(crate) fn zeroes_for(alloc: Global, header: &[u8], count: u64) -> Result<Vec
         → request_of_frame header.now values ≡ Err fault)) }
     ensures too_long { IsTooLong header.now count → IsErrOf result Fault.TooLong }
 {
-    if header.len() > MAX_TEXT || count > MAX_VALUES as u64 {
+    if header.len() > MAX_TEXT || count > WIDEST_VALUES as u64 {
+        return Err(Fault::TooLong);
+    }
+    if count > MAX_VALUES as u64 && count > values_limit(alloc, header)? {
         return Err(Fault::TooLong);
     }
     match Vec::from_elem(alloc, 0i64, count as usize) {

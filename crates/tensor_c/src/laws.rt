@@ -3,8 +3,7 @@
 ghost use Rattle.std.specs.Prelude.{◌≡◌, ◌≤◌, ◌+◌, ◌++◌, ℕ, ℤ, List, length, Result, Ok};
 ghost use Rattle.expr_reader.specs.Arrays.{joined};
 ghost use Rattle.expr_reader.specs.Contents.{Contents};
-ghost use Rattle.expr_reader.specs.Frame.{request_of_frame};
-ghost use Rattle.expr_reader.specs.Limits.{most_values};
+ghost use Rattle.expr_reader.specs.Frame.{request_of_frame, values_limit};
 ghost use Rattle.expr_reader.specs.Request.{Asked};
 ghost use Rattle.expr_reader.specs.declared.fault.Fault.{Fault};
 ghost use Rattle.tensor_c.specs.Answer.{answer_of_arrays};
@@ -31,9 +30,9 @@ pub fn calls_for_parts_are_one()
 {}
 
 /// A plan answers over arrays what its header does over them, whatever the values were that it was
-/// prepared over, where the arrays have no more values than a frame may have.
+/// prepared over, where the arrays have no more values than may stand behind the header.
 pub fn plans_answer_for_headers()
     ensures { (header : List ℕ) (values : List ℤ) (arrays : List (List ℤ)) (a : Asked)
-        → request_of_frame header values ≡ Ok a → length (joined arrays) ≤ most_values
+        → request_of_frame header values ≡ Ok a → length (joined arrays) ≤ values_limit header
         → answer_of_plan (prepared_of a) arrays ≡ answer_of_arrays header arrays }
 {}

@@ -4,6 +4,7 @@
 #![tactic(auto)]
 
 mod arrays;
+mod asked;
 mod evaluation;
 mod faults;
 mod laws;

@@ -1,15 +1,17 @@
 //! A part of an answer, written where the caller wants it.
 
-ghost use Rattle.std.specs.Prelude.{◌≡◌, length, IsTrue, IsOk, Ok, Err};
+ghost use Rattle.std.specs.Prelude.{◌≡◌, length, Ok, Err};
 ghost use Rattle.expr_reader.specs.Asked.{asked_under};
-ghost use Rattle.expr_reader.specs.Result.{dims_of};
-ghost use Rattle.expr_reader.specs.Term.{has_inputs};
+ghost use Rattle.expr_reader.specs.Request.{asked_tensor};
 ghost use Rattle.expr_reader.specs.Tree.{term_of};
 ghost use Rattle.expr_reader.specs.Value.{tensor_of};
-ghost use Rattle.tensor_c.specs.Answer.{answer_of_frame, asked_tensor};
+ghost use Rattle.prepared_expressions.specs.Bindings.{HaveDims};
+ghost use Rattle.prepared_expressions.specs.Filled.{terms_under, tensors_under};
+ghost use Rattle.tensor_c.specs.Answer.{answer_of_frame};
 ghost use Rattle.tensor_c.specs.Call.{IsTooLong};
 ghost use Rattle.tensor_c.specs.Part.{called_for_part, IsPartCall};
 
+use crate::asked::filled_of;
 use crate::faults::{result_of, result_of_refusal};
 use expr_reader::{Fault, Request, read_frame};
 use prepared_expressions::{Filled, fill_from};
@@ -42,19 +44,17 @@ pub(crate) fn put_part_of(alloc: Global, request: Request<'_>, first: u64, out: 
     ensures { IsPartCall (Ok (asked_tensor (asked_under request.entry))) first out.old
         (record { result = result; out = out.new }) }
 {
-    let filled = Filled {
-        inputs: request.inputs,
-        expr: request.expr,
-    };
-    put_filled(alloc, &filled, first, out)
+    match filled_of(alloc, request) {
+        Ok(filled) => put_filled(alloc, &filled, first, out),
+        Err(_) => result_of(Fault::NoMemory),
+    }
 }
 
-/// Writes the same of an expression over its inputs.
+/// Writes the same of an expression over its tensors.
 pub(crate) fn put_filled(alloc: Global, filled: &Filled<'_>, first: u64, out: &mut [i64]) -> i64
-    requires { IsTrue (has_inputs (term_of filled.now.expr) (length filled.now.inputs.tensors)) }
-    ensures call { IsOk (dims_of filled.now.inputs.bounds (term_of filled.now.expr)
-        filled.now.inputs.tensors)
-        → IsPartCall (Ok (tensor_of (term_of filled.now.expr) filled.now.inputs.tensors)) first
+    ensures call { HaveDims filled.now.inputs.bounds (terms_under filled.now)
+        filled.now.inputs.tensors
+        → IsPartCall (Ok (tensor_of (term_of filled.now.expr) (tensors_under filled.now))) first
         out.old (record { result = result; out = out.new }) }
     ensures len { length out.new ≡ length out.old }
 {

@@ -10,6 +10,7 @@ ghost use Rattle.tensor_c.specs.Part.{IsPartCall};
 ghost use Rattle.tensor_c.specs.Plan.{asked_over, plan_over, prepared_of, called_for_plan};
 ghost use Rattle.tensor_c.specs.Plan.{IsPlan, IsPlanCall, answer_of_plan, IsRefused};
 
+use crate::asked::filled_of;
 use crate::evaluation::zeroes_for;
 use crate::faults::{result_of, result_of_refusal};
 use crate::part::put_filled;
@@ -45,7 +46,10 @@ fn plan_of(alloc: Global, header: &[u8], count: u64) -> Result<Vec<u64>, Fault>
 {
     let zeroes = zeroes_for(alloc, header, count)?;
     let request = read_frame(alloc, header, zeroes.as_slice())?;
-    match prepare(alloc, &request.inputs, &request.expr) {
+    let Ok(filled) = filled_of(alloc, request) else {
+        return Err(Fault::NoMemory);
+    };
+    match prepare(alloc, &filled) {
         Ok(numbers) => Ok(numbers),
         Err(_) => Err(Fault::NoMemory),
     }

@@ -1,15 +1,20 @@
 //! How many values each part of an answer works out anew, before its first one.
 
-ghost use Rattle.std.specs.Prelude.{◌≡◌, ◌<◌, ◌≤◌, ◌+◌, ◌*◌, ◌^◌, length, IsTrue, Err, Ok};
+ghost use Rattle.std.specs.Prelude.{◌≡◌, ◌<◌, ◌≤◌, ◌+◌, ◌*◌, ◌^◌, length, map, IsTrue, Err, Ok};
 ghost use Rattle.std.specs.Prelude.{IfOk, MatchResult};
 ghost use Rattle.expr_reader.specs.Arrays.{arrays_under, joined};
+ghost use Rattle.expr_reader.specs.Asked.{asked_under};
+ghost use Rattle.expr_reader.specs.Bindings.{terms_under, nodes_in};
+ghost use Rattle.expr_reader.specs.Contents.{input_of};
 ghost use Rattle.expr_reader.specs.Index.{size_of};
 ghost use Rattle.expr_reader.specs.Legal.{widest, most_elements};
-ghost use Rattle.expr_reader.specs.Result.{dims_of};
+ghost use Rattle.expr_reader.specs.Request.{tensors_of};
+ghost use Rattle.expr_reader.specs.Result.{dims_of, operand_dims};
 ghost use Rattle.expr_reader.specs.Term.{has_inputs, nodes_of};
 ghost use Rattle.expr_reader.specs.Tree.{term_of, unary_at, binary_at, movement_at};
 ghost use Rattle.tensor_c.specs.Call.{IsTooLong};
-ghost use Rattle.tensor_c.specs.Shared.{shared, shared_over, called_for_count, IsCountCall};
+ghost use Rattle.tensor_c.specs.Shared.{shared, shared_whole, asked_shared, shared_over};
+ghost use Rattle.tensor_c.specs.Shared.{called_for_count, IsCountCall};
 ghost use Rattle.tensor_c.specs.Shared.{combines, combines_two, is_movement, is_reshape};
 ghost use Rattle.tensor_c.specs.Shared.{is_combined, is_listed, is_moved_list, keeps_places};
 ghost use Rattle.tensor_c.specs.Shared.{combined_size, whole_size, operand_size, either_size};
@@ -17,7 +22,7 @@ ghost use Rattle.tensor_c.specs.Shared.{combined_size, whole_size, operand_size,
 use crate::faults::result_of;
 use expr_reader::{Array, Fault, Request, read_arrays};
 use std::alloc::Global;
-use tensor_ops::{Binary, Dims, Expr, ExprFault, Inputs, Movement, Node, Unary, WIDEST};
+use tensor_ops::{Binary, Dims, Expr, ExprFault, Movement, Node, Unary, WIDEST};
 
 /// The dims of an expression, and how many values are worked out below its last operation.
 #[derive(Drop)]
@@ -39,64 +44,112 @@ pub(crate) fn shared_by_parts(alloc: Global, header: &[u8], arrays: &[Array<'_>]
     }
 }
 
-/// The same of a request.
+/// The same of a request: its bindings whole, and what lies below the last operation of its
+/// expression.
 fn shared_of(request: &Request<'_>) -> u64
-    ensures value { result ≡ shared request.now.inputs.tensors (term_of request.now.expr) }
+    ensures value { result ≡ asked_shared (asked_under request.now) }
     ensures small { result < 2 ^ 63 }
 {
     // Says that dims can go as far as the inputs' bounds.
     let _limit = request.inputs.bounds();
-    let Ok(found) = counted(&request.inputs, &request.expr) else {
+    let bindings = shared_whole(request);
+    let Ok(found) = counted(request, &request.expr) else {
         unreachable!();
     };
-    found.shared
+    bindings + found.shared
 }
 
-/// An expression's dims, of which each operand's are found once, and what is worked out below its
-/// last operation: of each node there at most as many values as a tensor has, so no sum wraps.
-fn counted(inputs: &Inputs, expr: &Expr) -> Result<Found, ExprFault>
-    requires inputs { IsTrue (has_inputs (term_of expr.now) (length inputs.now.tensors)) }
+/// How many values of the tensors of bindings, and how many are worked out below the last operation
+/// of each.
+fn shared_whole(request: &Request<'_>) -> u64
+    ensures value { result ≡ shared_whole (tensors_of (asked_under request.now))
+        (terms_under request.now.bindings.items) }
+    ensures small { result ≤ most_elements * nodes_in (terms_under request.now.bindings.items) }
+{
+    // Says that dims can go as far as the inputs' bounds.
+    let _limit = request.inputs.bounds();
+    let mut shared = 0;
+    for binding in &request.bindings {
+        let Ok(found) = counted(request, &binding.expr) else {
+            unreachable!();
+        };
+        shared += found.dims.size() + found.shared;
+    }
+    shared
+}
+
+/// The dims of an expression over a request's tensors, of which each operand's are found once, and
+/// what is worked out below its last operation: of each node there at most as many values as a tensor
+/// has, so no sum wraps.
+fn counted(request: &Request<'_>, expr: &Expr) -> Result<Found, ExprFault>
+    requires inputs { IsTrue (has_inputs (term_of expr.now)
+        (length request.now.inputs.tensors + length request.now.bindings.items)) }
     requires few { nodes_of (term_of expr.now) < 2 ^ 32 }
     ensures dims { MatchResult result
-        (λ r. dims_of widest (term_of expr.now) inputs.now.tensors ≡ Ok r.dims)
-        (λ fault. dims_of widest (term_of expr.now) inputs.now.tensors ≡ Err fault) }
+        (λ r. dims_of widest (term_of expr.now) (tensors_of (asked_under request.now)) ≡ Ok r.dims)
+        (λ fault. dims_of widest (term_of expr.now) (tensors_of (asked_under request.now))
+        ≡ Err fault) }
     ensures shared { IfOk result (λ r.
-        r.shared ≡ shared inputs.now.tensors (term_of expr.now)) }
+        r.shared ≡ shared (tensors_of (asked_under request.now)) (term_of expr.now)) }
     ensures small { IfOk result (λ r.
         r.shared + most_elements ≤ most_elements * nodes_of (term_of expr.now)) }
 {
     match expr.node() {
         Node::Input(number) => {
-            let dims = inputs.get(number).dims().copied();
+            let dims = dims_known(request, number).copied();
             Ok(Found { dims, shared: 0 })
         }
         Node::Unary(operation, a) => {
-            let first = counted(inputs, a)?;
+            let first = counted(request, a)?;
             let shared = first.shared + operand_size(operation, a, &first.dims);
-            let dims = expr.dims_over(WIDEST, inputs, &[first.dims])?;
+            let dims = operation_dims(request, expr, &[first.dims])?;
             Ok(Found { dims, shared })
         }
         Node::Binary(operation, a, b) => {
-            let first = counted(inputs, a)?;
-            let second = counted(inputs, b)?;
+            let first = counted(request, a)?;
+            let second = counted(request, b)?;
             let own = either_size(operation, a, &first.dims)
                 + either_size(operation, b, &second.dims);
             let shared = first.shared + second.shared + own;
-            let dims = expr.dims_over(WIDEST, inputs, &[first.dims, second.dims])?;
+            let dims = operation_dims(request, expr, &[first.dims, second.dims])?;
             Ok(Found { dims, shared })
         }
         Node::Ternary(_, a, b, c) => {
-            let first = counted(inputs, a)?;
-            let second = counted(inputs, b)?;
-            let third = counted(inputs, c)?;
+            let first = counted(request, a)?;
+            let second = counted(request, b)?;
+            let third = counted(request, c)?;
             let own = combined_size(a, &first.dims)
                 + combined_size(b, &second.dims)
                 + combined_size(c, &third.dims);
             let shared = first.shared + second.shared + third.shared + own;
-            let dims = expr.dims_over(WIDEST, inputs, &[first.dims, second.dims, third.dims])?;
+            let dims = operation_dims(request, expr, &[first.dims, second.dims, third.dims])?;
             Ok(Found { dims, shared })
         }
     }
+}
+
+/// The dims of the tensor of a number: of an input, or behind these of a binding.
+fn dims_known<'a>(request: &'a Request<'_>, number: u32) -> &'a Dims
+    requires { number < length request.now.inputs.tensors + length request.now.bindings.items }
+    ensures { result.now ≡ (input_of (tensors_of (asked_under request.now)) number).dims }
+{
+    // Says that dims can go as far as the inputs' bounds.
+    let _limit = request.inputs.bounds();
+    let count = request.inputs.len();
+    if number < count {
+        return request.inputs.get(number).dims();
+    }
+    &request.bindings[(number - count) as usize].dims
+}
+
+/// The dims of an operation over a request's tensors, where those of its operands are these.
+fn operation_dims(request: &Request<'_>, expr: &Expr, operands: &[Dims]) -> Result<Dims, ExprFault>
+    requires some { 0 < length operands.now }
+    requires operands { operand_dims widest (term_of expr.now) (tensors_of (asked_under request.now))
+        ≡ map Ok operands.now }
+    ensures { result ≡ dims_of widest (term_of expr.now) (tensors_of (asked_under request.now)) }
+{
+    expr.dims_by(WIDEST, operands)
 }
 
 /// How many values an operation has worked out of an operand of these dims.

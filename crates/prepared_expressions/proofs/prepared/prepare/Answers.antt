@@ -1,36 +1,54 @@
-use Rattle.std.proofs.Common.{◌≡◌, ◌++◌, ◌∷◌, ◌<◌, ◌^◌, [], length, ap, sym, ◌∙◌, arith}
-use Rattle.std.proofs.lemmas.List.{append-nil}
+use Rattle.std.proofs.Common.{◌≡◌, ◌++◌, ◌∷◌, [], length, true, ap, sym, subst, ◌∙◌, arith}
+use Rattle.std.proofs.lemmas.List.{append-nil, length-map}
+use Rattle.std.specs.List.{All}
 use Rattle.tensor_shape.specs.declared.bounds.Bounds.{Bounds}
 use Rattle.tensor_terms.specs.Tree.{term_of}
-use Rattle.prepared_expressions.specs.Prepared.{recorded_dims, dims_of_all, form_of}
-use Rattle.prepared_expressions.specs.Recorded.{recorded}
+use Rattle.expr_reader.specs.Bindings.{have_inputs}
+use Rattle.prepared_expressions.specs.Bindings.{terms_in}
+use Rattle.prepared_expressions.specs.Filled.{terms_under}
+use Rattle.prepared_expressions.specs.Prepared.{recorded_dims, dims_of_all, form_of, IsWritable}
+use Rattle.prepared_expressions.specs.Recorded.{recorded, recorded_all}
 use Rattle.prepared_expressions.proofs.Dealing.{length-dims_of_all}
+use Rattle.prepared_expressions.proofs.TermLists.{recorded_all-append, writable-push}
 use Rattle.prepared_expressions.proofs.prepared.prepare.Goals as goal
 
 pub returns-clause-numbers : goal.returns-clause-numbers
 returns-clause-numbers c =
-    let ts = c.args.inputs.now.tensors in
-    let behind = recorded_dims (dims_of_all ts) (recorded (term_of c.args.expr.now) []) in
-    let b : Bounds = c.args.inputs.now.bounds in
+    let filled = c.args.filled.now in
+    let ds = dims_of_all filled.inputs.tensors in
+    let es = filled.bindings.items in
+    let t = term_of filled.expr in
+    let b : Bounds = filled.inputs.bounds in
     let bounds : c.bounds-bounds.result ≡ b = c.bounds-bounds.ensures.value in
     let form : c.in-Some.form ≡ form_of b.elements = c.in-Some.ensures.form ∙ ap (λ x. form_of x.elements) bounds in
-    let count : c.from.result ≡ length (dims_of_all ts) = c.from.ensures ∙ c.len.ensures ∙ sym (length-dims_of_all ts) in
-    let head : c.in_ok-numbers.numbers.items ≡ form_of b.elements ∷ b.rank ∷ length (dims_of_all ts) ∷ [] =
-    c.in_ok-numbers.ensures.items ∙ ap (λ f. f ∷ c.bounds-bounds.result.rank ∷ c.from.result ∷ []) form
-    ∙ ap (λ x. form_of b.elements ∷ x.rank ∷ c.from.result ∷ []) bounds ∙ ap (λ n. form_of b.elements ∷ b.rank ∷ n ∷ []) count in
+    let count : c.from-inputs.result ≡ length ds = c.from-inputs.ensures ∙ c.len.ensures ∙ sym (length-dims_of_all filled.inputs.tensors) in
+    let many : c.len-bindings.result ≡ length (terms_in es) = omega (arith, c.len-bindings.ensures, filled.bindings.ok.0, length-map es term_of) in
+    let head : c.in_ok-numbers.numbers.items ≡ form_of b.elements ∷ b.rank ∷ length ds ∷ length (terms_in es) ∷ [] =
+    c.in_ok-numbers.ensures.items ∙ ap (λ f. f ∷ c.bounds-bounds.result.rank ∷ c.from-inputs.result ∷ c.len-bindings.result ∷ []) form
+    ∙ ap (λ x. form_of b.elements ∷ x.rank ∷ c.from-inputs.result ∷ c.len-bindings.result ∷ []) bounds
+    ∙ ap (λ n. form_of b.elements ∷ b.rank ∷ n ∷ c.len-bindings.result ∷ []) count
+    ∙ ap (λ n. form_of b.elements ∷ b.rank ∷ length ds ∷ n ∷ []) many in
+    let bound : recorded_all (terms_in c.deref.result.now) (recorded t []) ≡ recorded_all (terms_under filled) [] =
+    ap (λ l. recorded_all (terms_in l) (recorded t [])) c.deref.ensures.value ∙ sym (recorded_all-append (terms_in es) (t ∷ []) []) in
     sym (append-nil c.write_tree.new.numbers.items)
-    ∙ c.in_ok-write_tree.ensures.numbers [] ∙ c.in_ok-write_dims.ensures.numbers (recorded (term_of c.args.expr.now) [])
-    ∙ ap (λ l. l ++ behind) head
+    ∙ c.in_ok-write_tree.ensures.numbers [] ∙ c.in_ok-write_trees.ensures.numbers (recorded t [])
+    ∙ c.in_ok-write_dims.ensures.numbers (recorded_all (terms_in c.deref.result.now) (recorded t []))
+    ∙ ap (λ l. l ++ recorded_dims ds (recorded_all (terms_in c.deref.result.now) (recorded t []))) head
+    ∙ ap (λ rest. form_of b.elements ∷ b.rank ∷ length ds ∷ length (terms_in es) ∷ recorded_dims ds rest) bound
 
 pub returns-clause-prepared : goal.returns-clause-prepared
 returns-clause-prepared c =
-    let ts = c.args.inputs.now.tensors in
-    let low : c.len.result < 2 ^ 32 = omega arith in
+    let filled = c.args.filled.now in
+    let ts = filled.inputs.tensors in
+    let es = filled.bindings.items in
+    let long : length (dims_of_all ts) ≡ length ts = length-dims_of_all ts in
+    let first : All IsWritable (terms_in es) =
+    subst (λ l. All IsWritable (terms_in l)) c.deref.ensures.value c.in_ok-write_trees.ensures.writable in
     record {
       bounds = rw c.bounds-bounds.ensures.value at c.in-Some.ensures.bounds;
-      few = omega (arith, length-dims_of_all ts, c.len.ensures, low);
+      few = omega (arith, long, length-map es term_of, filled.few);
       legal = rw c.bounds-bounds.ensures.value at c.in_ok-write_dims.ensures.legal;
-      inputs = rw (length-dims_of_all ts) c.requires;
-      ranges = c.in_ok-write_tree.ensures.ranges;
-      height = c.in_ok-write_tree.ensures.height;
+      inputs = subst (λ n. have_inputs (terms_under filled) n ≡ true) (sym long) filled.have_inputs;
+      writable = writable-push (terms_in es) (term_of filled.expr) first
+          (record { ranges = c.in_ok-write_tree.ensures.ranges; height = c.in_ok-write_tree.ensures.height });
     }

@@ -1,7 +1,8 @@
 use Rattle.std.proofs.Common.{◌≡◌, ℤ, pos, List, Ok, length, replicate, sym, ◌∙◌, inl, inr, ap, refl}
 use Rattle.std.proofs.lemmas.List.{length-replicate}
 use Rattle.std.proofs.lemmas.Result.{err_from_is_err_and}
-use Rattle.tensor_c.specs.Answer.{or_fault, asked_tensor}
+use Rattle.expr_reader.specs.Request.{asked_tensor}
+use Rattle.tensor_c.specs.Answer.{or_fault}
 use Rattle.tensor_c.proofs.Dims.{answer_dims-same}
 use Rattle.tensor_c.proofs.evaluation.dims_of.Goals as goal
 
@@ -29,4 +30,5 @@ returns-clause-dims c = λ values long.
     let zeroes : List ℤ = c.as_slice.result.now in
     let are : zeroes ≡ replicate c.args.count (pos 0) = c.as_slice.ensures.value ∙ c.in_ok-zeroes.ensures.zeroes in
     let same : length values ≡ length zeroes = long ∙ sym (ap length are ∙ length-replicate c.args.count (pos 0)) in
-    answer_dims-same c.args.header.now values zeroes same ∙ rw c.in_ok-request.ensures.request (ap Ok c.in-Ok.ensures.shape)
+    answer_dims-same c.args.header.now values zeroes same
+    ∙ rw c.in_ok-request.ensures.request (ap Ok (sym c.dims_asked.ensures ∙ sym c.copied.ensures))

@@ -4,6 +4,7 @@ use Rattle.expr_reader.specs.Index.{size_of}
 use Rattle.expr_reader.specs.Result.{shape_of}
 use Rattle.expr_reader.specs.Tree.{term_of}
 use Rattle.expr_reader.specs.Value.{values_from}
+use Rattle.prepared_expressions.specs.Filled.{tensors_under}
 use Rattle.tensor_c.specs.Call.{begun}
 use Rattle.tensor_c.specs.Part.{part_of}
 use Rattle.tensor_c.proofs.Parts.{length-part, part-many}
@@ -12,7 +13,7 @@ use Rattle.tensor_c.proofs.part.put_filled.Goals as goal
 pub returns-in-Ok-clause-call : goal.returns-in-Ok-clause-call
 returns-in-Ok-clause-call c = λ has_dims.
     let t = term_of c.args.filled.now.expr in
-    let inputs = c.args.filled.now.inputs.tensors in
+    let inputs = tensors_under c.args.filled.now in
     let first = c.args.first in
     let out : List ℤ = c.args.out.now in
     let count = c.in-Ok.count in

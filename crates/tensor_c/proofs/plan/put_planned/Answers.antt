@@ -1,14 +1,13 @@
 use Rattle.std.proofs.Common.{inl, inr, refl}
 use Rattle.expr_reader.specs.Arrays.{arrays_under}
-use Rattle.expr_reader.specs.Tree.{term_of}
-use Rattle.prepared_expressions.specs.Prepared.{prepared}
+use Rattle.prepared_expressions.specs.Filled.{prepared_under}
 use Rattle.tensor_c.proofs.Plans.{dealt-err}
 use Rattle.tensor_c.proofs.plan.put_planned.Goals as goal
 
 pub returns-in-Ok-clause-no_plan : goal.returns-in-Ok-clause-no_plan
 returns-in-Ok-clause-no_plan c = λ none.
     let filled = c.in-Ok.filled in
-    absurd (none (prepared filled.inputs (term_of filled.expr)) c.in-Ok.ensures.found.written)
+    absurd (none (prepared_under filled) c.in-Ok.ensures.found.written)
 
 pub returns-in-Err-clause-call : goal.returns-in-Err-clause-call
 returns-in-Err-clause-call c = λ p plan is.

@@ -5,13 +5,13 @@ use Rattle.tensor_ops.specs.Result.{shape_of}
 use Rattle.tensor_ops.specs.Tree.{term_of}
 use Rattle.tensor_ops.specs.Value.{values_from}
 use Rattle.tensor_ops.specs.Evaluator.{term_evaluated, inputs_evaluated}
-use Rattle.prepared_expressions.proofs.part.fill_from.Goals as goal
+use Rattle.prepared_expressions.proofs.worked_out.WorkedOut.fill.Goals as goal
 
 pub returns-then-count-eq0-clause-part : goal.returns-then-count-eq0-clause-part
 returns-then-count-eq0-clause-part c =
     let e = c.in_ok-evaluator.evaluator in
-    let t = term_of c.args.filled.now.expr in
-    let inputs = c.args.filled.now.inputs.tensors in
+    let t = term_of c.args.expr.now in
+    let inputs = c.args.self.now.tensors.tensors in
     let shape : shape_of (term_evaluated e) (inputs_evaluated e) ≡ shape_of t inputs =
     ap (λ u. shape_of u (inputs_evaluated e)) c.in_ok-evaluator.ensures.term ∙ ap (shape_of t) c.in_ok-evaluator.ensures.inputs in
     let size : c.size.result ≡ size_of (shape_of t inputs) = c.size.ensures.value ∙ ap size_of (c.dims-2.ensures ∙ shape) in
@@ -24,8 +24,8 @@ returns-then-count-eq0-clause-part c =
 pub returns-clause-part : goal.returns-clause-part
 returns-clause-part c =
     let e = c.in_ok-evaluator.evaluator in
-    let t = term_of c.args.filled.now.expr in
-    let inputs = c.args.filled.now.inputs.tensors in
+    let t = term_of c.args.expr.now in
+    let inputs = c.args.self.now.tensors.tensors in
     let first = c.args.first in
     let out = c.args.out.now in
     let n = c.count_from-count.result in

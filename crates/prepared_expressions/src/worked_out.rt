@@ -1,0 +1,99 @@
+//! The tensors that an expression is over: inputs, and behind them those of bindings, worked out.
+
+ghost use Rattle.std.specs.Prelude.{◌≡◌, ◌⊎◌, ◌<◌, ◌≤◌, ◌+◌, ◌-◌, min, length};
+ghost use Rattle.std.specs.Prelude.{IsTrue, IsOk, IsErr, IfOk, IfErr};
+ghost use Rattle.tensor_ops.specs.Result.{dims_of};
+ghost use Rattle.tensor_ops.specs.Term.{has_inputs};
+ghost use Rattle.tensor_ops.specs.Tree.{term_of};
+ghost use Rattle.tensor_ops.specs.Value.{tensor_of};
+ghost use Rattle.prepared_expressions.specs.Bindings.{HaveDims};
+ghost use Rattle.prepared_expressions.specs.Filled.{terms_under, tensors_under};
+ghost use Rattle.prepared_expressions.specs.Part.{IsPart};
+
+use crate::filled::Filled;
+use crate::refusal::Refusal;
+use std::alloc::Global;
+use tensor_ops::{Expr, Inputs, Tensor, TensorEvaluator, eval_plain};
+
+/// Inputs, whose values are lent, and behind them the tensors of bindings. Results over them may be
+/// as large as any.
+#[derive(Drop)]
+pub(crate) struct WorkedOut<'a> {
+    alloc: Global,
+    pub(crate) tensors: Inputs<'a>,
+}
+
+impl<'a> WorkedOut<'a> {
+    /// The tensors of an expression: of the bindings each is worked out once, over all before it.
+    pub(crate) fn of(alloc: Global, filled: &'a Filled<'_>) -> Result<WorkedOut<'a>, Refusal>
+        ensures tensors { IfOk result (λ r. r.tensors.tensors ≡ tensors_under filled.now) }
+        ensures refused { IfErr result (λ f. (f ≡ Refusal.NoMemory) ⊎ ((f ≡ Refusal.NoDims)
+            × (HaveDims filled.now.inputs.bounds (terms_under filled.now) filled.now.inputs.tensors
+            → ⊥))) }
+        ensures inputs { IfOk result (λ r.
+            IsTrue (has_inputs (term_of filled.now.expr) (length r.tensors.tensors))) }
+        ensures dims { IfOk result (λ r. HaveDims filled.now.inputs.bounds (terms_under filled.now)
+            filled.now.inputs.tensors
+            → IsOk (dims_of r.tensors.bounds (term_of filled.now.expr) r.tensors.tensors)) }
+    {
+        // Says that dims can go as far as the inputs' bounds.
+        let _limit = filled.inputs.bounds();
+        let mut tensors = filled.inputs.lent(alloc)?.widened();
+        for binding in &filled.bindings {
+            let Ok(_) = binding.dims(&tensors) else {
+                return Err(Refusal::NoDims);
+            };
+            let tensor = eval_plain(alloc, binding, &tensors)?;
+            tensors.push(tensor)?;
+        }
+        Ok(WorkedOut { alloc, tensors })
+    }
+
+    /// Writes values of an expression over them, from the one at a place on, as many as there are and
+    /// as `out` has room for, and answers how many. Want of memory leaves anything in `out`.
+    pub(crate) fn fill(&self, expr: &Expr, first: u64, out: &mut [i64]) -> Result<usize, Refusal>
+        requires { IsTrue (has_inputs (term_of expr.now) (length self.now.tensors.tensors)) }
+        ensures len { length out.new ≡ length out.old }
+        ensures part { IfOk result (λ count. IsPart (term_of expr.now) self.now.tensors.tensors
+            first out.old count out.new) }
+        ensures refused { IfErr result (λ f. (f ≡ Refusal.NoMemory) ⊎ ((f ≡ Refusal.NoDims)
+            × IsErr (dims_of self.now.tensors.bounds (term_of expr.now)
+            self.now.tensors.tensors))) }
+    {
+        let Ok(_) = expr.dims(&self.tensors) else {
+            return Err(Refusal::NoDims);
+        };
+        let evaluator = TensorEvaluator::of(self.alloc, expr, &self.tensors)?;
+        let count = count_from(evaluator.dims().size(), first, out.len());
+        if count == 0 {
+            return Ok(0);
+        }
+        evaluator.fill(first, &mut out[..count])?;
+        Ok(count)
+    }
+
+    /// The tensor of an expression over them.
+    pub(crate) fn eval(&self, expr: &Expr) -> Result<Tensor<'static>, Refusal>
+        requires { IsTrue (has_inputs (term_of expr.now) (length self.now.tensors.tensors)) }
+        ensures tensor { IfOk result (λ t.
+            t ≡ tensor_of (term_of expr.now) self.now.tensors.tensors) }
+        ensures refused { IfErr result (λ f. (f ≡ Refusal.NoMemory) ⊎ ((f ≡ Refusal.NoDims)
+            × IsErr (dims_of self.now.tensors.bounds (term_of expr.now)
+            self.now.tensors.tensors))) }
+    {
+        let Ok(_) = expr.dims(&self.tensors) else {
+            return Err(Refusal::NoDims);
+        };
+        let tensor = eval_plain(self.alloc, expr, &self.tensors)?;
+        Ok(tensor)
+    }
+}
+
+/// How many of so many values stand from a place on, where there is room for so many.
+fn count_from(size: u64, first: u64, room: usize) -> usize
+    ensures count { result ≡ min (size - first) room }
+    ensures room { result ≤ room }
+    ensures inside { 0 < result → first + result ≤ size }
+{
+    size.saturating_sub(first).min(room as u64) as usize
+}
