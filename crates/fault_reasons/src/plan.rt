@@ -1,5 +1,6 @@
 //! The steps that a request without a fault is worked out in.
 
+ghost use Rattle.expr_reader.specs.Asked.{IsUnbound};
 ghost use Rattle.std.specs.Prelude.{IfOk};
 ghost use Rattle.fault_reasons.specs.Explained.{TellsOfNone};
 
@@ -30,7 +31,9 @@ fn steps_of(alloc: Global, parsed: &Parsed) -> Result<String, AllocError> {
 }
 
 /// The same of a request.
-fn steps(alloc: Global, request: &Request) -> Result<String, AllocError> {
+fn steps(alloc: Global, request: &Request) -> Result<String, AllocError>
+    requires { IsUnbound request.now }
+{
     let mut lines = String::new(alloc);
     if let Ok(dims) = request.expr.dims(&request.inputs) {
         lines.push_str(format!(in alloc; "dims {:?}\n", dims.as_slice())?.as_str())?;

@@ -1,5 +1,7 @@
 //! The line that answers a text, worked out in three ways.
 
+ghost use Rattle.expr_reader.specs.Asked.{IsUnbound};
+
 use expr_reader::{Fault, Request, read_request};
 use std::alloc::{AllocError, Global};
 use std::sync::Wait;
@@ -51,7 +53,9 @@ pub(crate) fn by_ranges(alloc: Global, text: &str) -> Result<String, AllocError>
 }
 
 /// The line of a request's tensor, place by place.
-fn each_place(alloc: Global, request: &Request<'_>) -> Result<String, AllocError> {
+fn each_place(alloc: Global, request: &Request<'_>) -> Result<String, AllocError>
+    requires { IsUnbound request.now }
+{
     let Ok(dims) = request.expr.dims(&request.inputs) else {
         return "no dims".to_string(alloc);
     };
@@ -64,7 +68,9 @@ fn each_place(alloc: Global, request: &Request<'_>) -> Result<String, AllocError
 }
 
 /// The line of a request's tensor, range by range.
-fn each_range(alloc: Global, request: &Request<'_>) -> Result<String, AllocError> {
+fn each_range(alloc: Global, request: &Request<'_>) -> Result<String, AllocError>
+    requires { IsUnbound request.now }
+{
     let evaluator = TensorEvaluator::of(alloc, &request.expr, &request.inputs)?;
     let size = evaluator.dims().size();
     let mut values = Vec::new(alloc);

@@ -1,5 +1,6 @@
 //! Tensors of requests, and of expressions that are made again, node by node, with ample memory.
 
+ghost use Rattle.expr_reader.specs.Asked.{IsUnbound};
 ghost use Rattle.std.specs.Prelude.{◌≡◌, IfOk};
 ghost use Rattle.tensor_ops.specs.Tree.{term_of};
 
@@ -153,7 +154,8 @@ fn plainly_has(
     sizes: &[u64],
     values: &[i64],
 ) -> Result<(), Fail>
-    requires { term_of expr.now ≡ term_of request.now.expr }
+    requires unbound { IsUnbound request.now }
+    requires same { term_of expr.now ≡ term_of request.now.expr }
 {
     let tensor = eval_plain(alloc, expr, &request.inputs)?;
     expect(rt, sizes, &tensor.dims().as_slice(), &sizes);
@@ -162,7 +164,9 @@ fn plainly_has(
 }
 
 /// The request of an expression.
-fn asked(alloc: Global, over: Over, expr: &str) -> Result<Request, Fail> {
+fn asked(alloc: Global, over: Over, expr: &str) -> Result<Request, Fail>
+    ensures { IfOk result IsUnbound }
+{
     let (version, inputs, _) = over.parts();
     let text = request(alloc, version, inputs, expr)?;
     Ok(read_request(alloc, text.as_bytes())?)

@@ -1,6 +1,8 @@
 //! Values that are written where they are wanted, and those of lists, for each way in which the last
 //! operation of an expression is worked out: at each length, and at drawn sizes and places.
 
+ghost use Rattle.expr_reader.specs.Asked.{IsUnbound};
+
 use crate::drawn::{Drawn, grids};
 use crate::texts::request;
 use crate::told::expect;
@@ -72,7 +74,9 @@ pub(crate) fn range_is(
 }
 
 /// Each range of the whole has its values, of each length, from a place that goes with it.
-fn has_each_length(rt: &impl Abort, alloc: Global, request: &Request) -> Result<(), Fail> {
+fn has_each_length(rt: &impl Abort, alloc: Global, request: &Request) -> Result<(), Fail>
+    requires { IsUnbound request.now }
+{
     let whole = eval_plain(alloc, &request.expr, &request.inputs)?;
     let values = whole.values();
     let evaluator = TensorEvaluator::of(alloc, &request.expr, &request.inputs)?;
@@ -102,7 +106,9 @@ fn has_drawn_ranges<RT: Threads + Wait + Abort + Sync>(
     alloc: Global,
     request: &Request,
     drawn: &mut Drawn,
-) -> Result<(), Fail> {
+) -> Result<(), Fail>
+    requires { IsUnbound request.now }
+{
     let whole = eval_plain(alloc, &request.expr, &request.inputs)?;
     let values = whole.values();
     let evaluator = TensorEvaluator::of(alloc, &request.expr, &request.inputs)?;

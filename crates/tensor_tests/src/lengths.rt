@@ -1,6 +1,8 @@
 //! Values of each number from none to 12,543, with ample memory: of operations on single values, of
 //! a reduction and of a contraction.
 
+ghost use Rattle.expr_reader.specs.Asked.{IsUnbound};
+
 use crate::drawn::grids;
 use crate::fills::range_is;
 use crate::texts::request;
@@ -26,7 +28,9 @@ const SHARES: usize = 8;
 
 /// Ranges of the whole have its values, of each length with this rest, from a place that goes with
 /// it.
-fn has_lengths(rt: &impl Abort, alloc: Global, request: &Request, rest: usize) -> Result<(), Fail> {
+fn has_lengths(rt: &impl Abort, alloc: Global, request: &Request, rest: usize) -> Result<(), Fail>
+    requires { IsUnbound request.now }
+{
     let whole = eval_plain(alloc, &request.expr, &request.inputs)?;
     let values = whole.values();
     let evaluator = TensorEvaluator::of(alloc, &request.expr, &request.inputs)?;

@@ -1,5 +1,7 @@
 //! Plans of each number of steps, with ample memory.
 
+ghost use Rattle.expr_reader.specs.Asked.{IsUnbound};
+
 use crate::texts::{places, request};
 use crate::told::expect;
 use expr_reader::{Request, read_request};
@@ -51,7 +53,9 @@ fn has_steps<RT: Threads + Wait + Abort + Sync>(
     request: &Request,
     count: u32,
     values: &[i64],
-) -> Result<(), Fail> {
+) -> Result<(), Fail>
+    requires { IsUnbound request.now }
+{
     let plan = Plan::of(alloc, &request.expr, &request.inputs)?;
     expect(rt, count, &plan.steps().len(), &(count as usize));
     let tensor = eval(rt, alloc, request)?;

@@ -2,7 +2,8 @@
 
 ghost use Rattle.std.specs.Prelude.{◌≡◌, ◌+◌, ◌<◌, ◌^◌, length, IfOk, OnOk, IsTrue};
 ghost use Rattle.tensor_ops.specs.Legal.{widest};
-ghost use Rattle.tensor_reduce.specs.Plan.{terms_in, worked_out, AreReady};
+ghost use Rattle.tensor_ops.specs.Sequence.{worked_out};
+ghost use Rattle.tensor_reduce.specs.Plan.{terms_in, AreReady};
 ghost use Rattle.tensor_reduce.specs.Term.{has_inputs};
 ghost use Rattle.tensor_reduce.specs.Tree.{term_of};
 

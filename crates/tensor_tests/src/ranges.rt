@@ -1,5 +1,7 @@
 //! The values of ranges of places across pieces and inside one, and those of the whole.
 
+ghost use Rattle.expr_reader.specs.Asked.{IsUnbound};
+
 use crate::texts::{places, request};
 use crate::told::expect;
 use expr_reader::{Request, read_request};
@@ -15,7 +17,9 @@ fn range_gives(
     request: &Request,
     first: u32,
     values: &[i64],
-) -> Result<(), Fail> {
+) -> Result<(), Fail>
+    requires { IsUnbound request.now }
+{
     let evaluator = TensorEvaluator::of(alloc, &request.expr, &request.inputs)?;
     let last = u64::from(first) + values.len() as u64;
     assert!(rt; last <= evaluator.dims().size());
@@ -33,7 +37,9 @@ fn whole_gives(
     request: &Request,
     first: u32,
     values: &[i64],
-) -> Result<(), Fail> {
+) -> Result<(), Fail>
+    requires { IsUnbound request.now }
+{
     let whole = eval_plain(alloc, &request.expr, &request.inputs)?;
     let first = first as usize;
     let found = whole.values().get(first..first + values.len());
