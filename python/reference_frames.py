@@ -18,11 +18,11 @@ sys.dont_write_bytecode = True
 
 from fuzzing import reference, sharing
 from fuzzing.operations import size
-from fuzzing.rules import FAULTS, FRAME_VERSIONS
+from fuzzing.rules import FAULTS, FRAME_VERSIONS, is_list_of, is_size
 
 SIZES = struct.Struct("<QQ")
 MOST, MOST_PLACES = 16_777_216, 10_000_000
-TOO_LONG, BAD_TENSOR, NO_ROOM = b"error 1 TooLong", b"error 7 BadTensor", -100
+TOO_LONG, NO_ROOM = b"error 1 TooLong", -100
 # What the first number of a plan of the reference is.
 PLAN = 67
 
@@ -31,30 +31,30 @@ def numbers_of(data):
     return list(struct.unpack(f"<{len(data) // 8}q", data))
 
 
-def filled(header, values):
-    """The text that says what a frame does; None where its values aren't its tensors'."""
-    request, begin = json.loads(header), 0
-    for name in sorted(request["inputs"], key=str.encode):
-        it = request["inputs"][name]
-        if it.keys() != {"dims"}:
-            return None
+def filled(fields, values):
+    """What a header's JSON value says, with the values that stand behind it as `data`; without its
+    inputs where those aren't its tensors'."""
+    if not isinstance(fields, dict) or not isinstance(fields.get("inputs"), dict):
+        return fields
+    begin, inputs = 0, fields["inputs"]
+    for name in sorted(inputs, key=str.encode):
+        it = inputs[name]
+        if not isinstance(it, dict) or it.keys() != {"dims"} or not is_list_of(it["dims"], is_size):
+            return {**fields, "inputs": None}
         end = begin + size(it["dims"])
         it["data"], begin = values[begin:end], end
-    return json.dumps(request).encode() if begin == len(values) else None
+    return fields if begin == len(values) else {**fields, "inputs": None}
 
 
 def answered(header, values):
     """The header and the values of the answer to a frame."""
-    if len(header) > MOST or len(values) > MOST:
+    if len(header) > MOST or len(values) > reference.values_limit(header):
         return TOO_LONG, []
-    try:
-        text = filled(header, values)
-    except (ValueError, RecursionError):
-        # No JSON, or nested too deep, with or without values.
-        text = header
-    if text is None:
-        return BAD_TENSOR, []
-    line = reference.answer(text, MOST_PLACES, FRAME_VERSIONS)[0].rstrip(b"\n")
+    line, _ = reference.line_of(
+        lambda: reference.asked(filled(reference.parse(header), values), FRAME_VERSIONS),
+        MOST_PLACES,
+    )
+    line = line.rstrip(b"\n")
     if line.startswith(b"error "):
         return line, []
     found = json.loads(line)

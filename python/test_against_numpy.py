@@ -8,7 +8,7 @@ import tensor_client as client
 from tensor_client import GREATEST, LEAST, concat, contract, full, tensor, where
 from tensor_client.rules import slid
 from asking import OneWay, each_way
-from test_asked import documented, method
+from test_asked import TEXTS, documented, method
 
 try:
     import numpy
@@ -138,7 +138,7 @@ class AgainstNumpy(OneWay):
                 self.agree(expr, wanted(*arrays), source)
 
     def test_on_integers(self):
-        if self.way in ("process", "lines"):
+        if self.way in TEXTS:
             self.skipTest("no text has them")
         for operation, wanted in ON_INTEGERS.items():
             for source in self.each_trial(operation):

@@ -114,7 +114,7 @@ class Built(unittest.TestCase):
             (client.ShapeMismatch, lambda: where(x > 1, x, y)),
             (client.ShapeMismatch, lambda: x.broadcast(2)),
             (client.OutOfRange, lambda: x.broadcast(2, 0)),
-            (client.TooLarge, lambda: x.broadcast(2**20, 1)),
+            (client.TooLarge, lambda: x.broadcast(2**27, 1)),
             (client.ShapeMismatch, lambda: x.slice([0], [1])),
             (client.OutOfRange, lambda: x.slice([0, 2], [1, 2])),
             (client.BadArgument, lambda: x.slice([0, -1], [1, 1])),
@@ -272,14 +272,15 @@ class Built(unittest.TestCase):
         many = [tensor(range(2**20 - it)) for it in range(4)]
         with self.assertRaisesRegex(client.TooLong, "bytes.* values in it: the library"):
             client.request(sum((it.sum() for it in many), tensor(0)))
-        lots = [tensor(range(2**20 - it)).sum() for it in range(17)]
-        with self.assertRaisesRegex(client.TooLong, "values in all.* run a part"):
-            framed(client.concatenate([it.reshape(1) for it in lots]), Settings())
+        lots = client.concatenate([tensor(range(2**20 - it)).sum().reshape(1) for it in range(17)])
+        with self.assertRaisesRegex(client.TooLong, "values in all.* 16,777,216: run a part"):
+            framed(lots, Settings(version=2))
+        self.assertIn(b'{"version":3,', framed(lots, Settings()).header[:14])
         for wrong, said in (
-            (lambda: client.sort(range(3000)), "order along an axis takes all pairs"),
-            (lambda: client.take(range(5000), [7, 5, 6] * 9999), "taking 29,997 offsets of 5,000"),
-            (lambda: full((99, 99, 99), 1) @ full((99, 99, 99), 1), "stacks of matrices"),
-            (lambda: full((1024, 1025), 1), "run a part at a time"),
+            (lambda: client.sort(range(17_000)), "order along an axis takes all pairs"),
+            (lambda: client.take(range(10**6), [7, 5, 6] * 9999), "taking 29,997 offsets of 1,000"),
+            (lambda: full((300, 99, 99), 1) @ full((300, 99, 99), 1), "stacks of matrices"),
+            (lambda: full((16_384, 16_385), 1), "run a part at a time"),
             (lambda: full([1] * 9, 1), "reshape some into one"),
         ):
             with self.assertRaisesRegex(client.TooLarge, said):

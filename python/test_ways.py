@@ -229,7 +229,7 @@ class Explained(Shell):
         self.assertEqual(self.told(f"echo '{said}'", known), "error 9 UnknownOp: why")
 
     def test_what_is_too_large_or_nests_too_deep(self):
-        deep, wide = tensor(1), client.concatenate([[it] for it in range(501)])
+        deep, wide = tensor(1), client.concatenate([[it] for it in range(5_001)])
         for _ in range(200):
             deep = -deep
         with self.here(TENSOR_EXPLAIN="/no/such/program"):

@@ -9,6 +9,7 @@ import inspect
 import struct
 from typing import Any, Callable, Dict, Iterable, List, Sequence, Tuple
 
+from .bindings import with_others
 from .explaining import explain
 from .expressions import Expr
 from .faults import Fault, ShapeMismatch
@@ -16,7 +17,7 @@ from .library import Library, arrays_of, library_of
 from .length import MOST_NODES
 from .memory import INT64, VALUE, as_memory, memory_for, numbers, place_of
 from .requests import Settings, framed
-from .results import Result, checked_out, memory_of_out
+from .results import Result, checked_out, lies_as_it_is, memory_of_out
 from .rules import Dims, product
 from .running import run
 from .tensors import Placeholder, Tensor, an_expr, placeholder, tensor
@@ -70,27 +71,6 @@ def placeholders_of(expr: Expr) -> List[Placeholder]:
     return [found[it] for it in sorted(found)]
 
 
-def filled(expr: Expr, given: Dict[int, Tensor]) -> Expr:
-    """An expression with tensors in the place of its placeholders, by their numbers."""
-    made: Dict[int, Expr] = {}
-    left = [expr]
-    while left:
-        it = left[-1]
-        missing = [operand for operand in it.operands if id(operand) not in made]
-        if missing and id(it) not in made:
-            left += missing
-            continue
-        left.pop()
-        if isinstance(it, Placeholder):
-            made[id(it)] = given[it.number]
-        elif it.operands:
-            operands = [made[id(operand)] for operand in it.operands]
-            made[id(it)] = Expr(it.operation, operands, it.arguments, it.dims, it.truth)
-        else:
-            made[id(it)] = it
-    return made[id(expr)]
-
-
 class Plan:
     """What the library has prepared for an expression whose inputs lie in these orders, and what it
     is handed beside the arrays of a call: those that stand in the expression itself, as they lie
@@ -105,13 +85,15 @@ class Plan:
             result.turned = False
         self.is_turned, self.truth = result.turned, expr.truth
         expr = result.asked(expr)
-        frame = framed(expr, settings)
-        self.dims = library.dims_of(frame)
+        frame = framed(expr, settings, settings.workers > 1)
+        parts = [as_memory(it) for it in frame.held]
+        arrays = arrays_of(parts)
+        self.dims = library.dims_over(frame.header, arrays, len(parts))
         self.size, self.numbers = product(self.dims), library.prepared(frame)
         self.length = len(self.numbers)
 
         def shared() -> int:
-            return library.shared(frame, arrays_of([as_memory(it) for it in frame.held]))
+            return library.shared(frame, arrays)
 
         self.places = shares(expr, self.size, settings.workers, shared)
         self.room = ctypes.c_int64 * self.size
@@ -139,9 +121,8 @@ class Compiled:
     def __init__(self, expr: Expr, inputs: Sequence[Placeholder], settings: Settings) -> None:
         self.expr, self.inputs, self.settings = expr, list(inputs), settings
         self.dims: List[Dims] = [it.dims or () for it in inputs]
-        # Each input that lies in numpy's order is a node more; where there are too many it is
-        # copied into the request's.
-        self.as_they_lie = 2 * (expr.nodes + 1) <= MOST_NODES
+        # Where there are too many nodes, what lies in numpy's order is copied into the request's.
+        self.as_they_lie = lies_as_it_is(expr, MOST_NODES)
         self.library = library_of()
         self.plans: Dict[Any, Plan] = {}
 
@@ -182,12 +163,12 @@ class Compiled:
 
     def _filled(self, tensors: Iterable[Tensor]) -> Expr:
         """The expression over tensors in the place of its placeholders."""
-        given = {}
+        given: Dict[int, Expr] = {}
         for it, found in zip(self.inputs, tensors):
             if found.dims != it.dims:
                 raise ShapeMismatch(f"an array of dims {found.dims} for {it!r}")
-            given[it.number] = found
-        return filled(self.expr, given)
+            given[id(it)] = found
+        return with_others(self.expr, given)
 
     def _lying(self, value: Any, dims: Dims) -> Tuple[int, Any, bool]:
         """Where a value of a call lies, what keeps it there, and whether it lies in numpy's order;

@@ -5,10 +5,11 @@ from __future__ import annotations
 import re
 import subprocess
 
+from .bindings import bindings_of
 from .expressions import Expr
 from .faults import Fault, NotJson, ProgramFailed, TooLarge
 from .finding import EXPLAIN, built, environment
-from .length import MOST_NODES, too_many_nodes
+from .length import most_nodes, too_many_nodes
 from .requests import DEEPEST, Settings, fault_of, request
 
 SECONDS = 10
@@ -21,8 +22,10 @@ def explain(fault: Fault, expr: Expr, settings: Settings) -> None:
     Whatever goes wrong on the way, the fault stays what it is."""
     if isinstance(fault, NotJson) and not fault.why:
         fault.tell(f"it nests {expr.depth:,} deep, and may about {DEEPEST}: run it in parts")
-    if isinstance(fault, TooLarge) and not fault.why and expr.nodes > MOST_NODES:
-        fault.tell(too_many_nodes(expr))
+    if isinstance(fault, TooLarge) and not fault.why:
+        most = most_nodes(settings.version)
+        if bindings_of(expr).nodes > most:
+            fault.tell(too_many_nodes(expr, most))
     # Behind these come want of memory and streams that fail, which no text tells of.
     if not fault.why and fault.number <= TooLarge.number:
         ask(fault, expr, settings)

@@ -7,8 +7,7 @@ from typing import TYPE_CHECKING, Any, Optional, Sequence
 
 from . import rules
 from .methods import NumpyMethods
-from .rules import Dims
-from .spreading import alike
+from .rules import Dims, alike
 from .values import flag, is_bool, listed, value_of, whole
 
 MANY = 1_000_000_000
@@ -50,7 +49,7 @@ class Expr(NumpyMethods):
 
     def __repr__(self) -> str:
         dims = "dims not known" if self.dims is None else f"dims {self.dims}"
-        nodes = f"{self.nodes} nodes" if self.nodes <= MANY else "too many nodes"
+        nodes = f"{self.nodes} nodes" if self.nodes <= MANY else "many nodes"
         return f"<{self.operation}, {dims}, {nodes}>"
 
     if not TYPE_CHECKING:

@@ -9,18 +9,21 @@ import os
 from typing import Any, Dict, List, Optional, Tuple
 
 from . import finding
+from .bindings import bindings_of, with_others
 from .expressions import Expr
 from .faults import Fault, ProgramFailed, fault_made
+from .length import most_nodes
 from .memory import LARGE, VALUE, Bytes, as_memory, joined, place_of
 from .requests import Framed, Settings, framed
 from .results import Result
 from .rules import MOST_ELEMENTS, Dims, product
 from .tensors import Tensor
-from .threads import each, shares
+from .threads import FEWEST, each, shares
 
 # As include/tensor.h has them.
 NO_ROOM, DIMS_ROOM, NAME_ROOM = -100, 9, 16
-PLAN_ROOM, PLAN_ROOM_EACH = 19_003, 9
+# How much room there is for a plan: enough for some hundred nodes, and else more.
+PLAN_ROOMS = 1 << 14, 1 << 18, 1 << 24
 POINTER, SIZE, NUMBER = ctypes.c_void_p, ctypes.c_size_t, ctypes.c_uint64
 DIMS, NAME = NUMBER * DIMS_ROOM, ctypes.c_uint8 * NAME_ROOM
 # A function that is handed arrays, and what it is handed before these: a header, or a plan.
@@ -43,7 +46,6 @@ class Library:
             self.evaluate: Any = opened.tensor_evaluate
             self.evaluate_arrays: Any = opened.tensor_evaluate_arrays
             self.shared_by_parts: Any = opened.tensor_shared
-            self.dims: Any = opened.tensor_dims
             self.dims_of_arrays: Any = opened.tensor_dims_of_arrays
             self.prepare: Any = opened.tensor_prepare
             self.run_plan: Any = opened.tensor_run
@@ -53,7 +55,7 @@ class Library:
         self.evaluate.argtypes = [POINTER, SIZE] * 4
         self.evaluate_arrays.argtypes = [POINTER, SIZE, POINTER, SIZE, NUMBER, POINTER, SIZE]
         self.shared_by_parts.argtypes = [POINTER, SIZE] * 2
-        self.dims.argtypes = self.prepare.argtypes = [POINTER, SIZE, NUMBER, POINTER, SIZE]
+        self.prepare.argtypes = [POINTER, SIZE, NUMBER, POINTER, SIZE]
         self.dims_of_arrays.argtypes = [POINTER, SIZE] * 3
         self.run_plan.argtypes = self.evaluate_arrays.argtypes
         self.fault_name.argtypes = [ctypes.c_uint32, POINTER, SIZE]
@@ -61,7 +63,6 @@ class Library:
             self.evaluate,
             self.evaluate_arrays,
             self.shared_by_parts,
-            self.dims,
             self.dims_of_arrays,
             self.prepare,
             self.run_plan,
@@ -78,8 +79,10 @@ class Library:
             if found is not None:
                 found.truth = expr.truth
                 return found
-        result = Result(expr, out)
+        result = Result(expr, out, most=most_nodes(settings.version))
         expr = result.asked(expr)
+        if settings.workers > 1:
+            expr = self.with_parts(expr, settings)
         asked = framed(expr, settings)
         parts = [as_memory(it) for it in asked.held]
         arrays, dims = arrays_of(parts), expr.dims
@@ -97,6 +100,17 @@ class Library:
         self.fill(by_header, arrays, len(parts), values, places)
         return result.tensor(values, dims, expr.truth)
 
+    def with_parts(self, expr: Expr, settings: Settings) -> Expr:
+        """An expression with the tensors of those parts that a request would bind, where some have
+        many values: each thread would work them out anew, and here all do together."""
+        bound = bindings_of(expr).bound
+        if not any(product(it.dims or ()) >= FEWEST for it in (*bound, expr)):
+            return expr
+        found: Dict[int, Expr] = {}
+        for it in bound:
+            found[id(it)] = self.run(with_others(it, found), settings)
+        return with_others(expr, found) if bound else expr
+
     def answered_at_once(self, asked: Framed, room: int) -> Optional[Tensor]:
         """The tensor of a frame of few values, if it has no more values than there is room for."""
         header, values, dims = asked.header, joined(asked.held), DIMS()
@@ -112,13 +126,9 @@ class Library:
             raise self.fault(-count)
         return Tensor(out[:count], dims[1 : 1 + dims[0]])
 
-    def dims_of(self, asked: Framed) -> Dims:
-        """The dims of the tensor of a frame; none of its values is worked out."""
-        header, dims = asked.header, DIMS()
-        return self.told(self.dims(header, len(header), asked.size, dims, DIMS_ROOM), dims)
-
     def dims_over(self, header: bytes, arrays: Any, many: int) -> Dims:
-        """The same of a header and so many arrays, for which no memory is taken."""
+        """The dims of the tensor of a header and so many arrays; none of its values is worked out,
+        and no memory is taken for the arrays'."""
         dims = DIMS()
         size = self.dims_of_arrays(header, len(header), arrays, many, dims, DIMS_ROOM)
         return self.told(size, dims)
@@ -140,10 +150,13 @@ class Library:
     def prepared(self, asked: Framed) -> Any:
         """The plan of a frame: what its header asks for, as an array of numbers."""
         header = asked.header
-        room = (NUMBER * (PLAN_ROOM + PLAN_ROOM_EACH * len(asked.held)))()
-        length: int = self.prepare(header, len(header), asked.size, room, len(room))
+        for size in PLAN_ROOMS:
+            room = (NUMBER * size)()
+            length: int = self.prepare(header, len(header), asked.size, room, size)
+            if length != NO_ROOM:
+                break
         if length < 0:
-            raise self.fault(-length)
+            raise self.failed(length)
         return (NUMBER * length).from_buffer_copy(room)
 
     def fill(

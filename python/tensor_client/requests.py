@@ -5,24 +5,39 @@ from __future__ import annotations
 import json
 from functools import lru_cache
 from operator import itemgetter
-from typing import Any, Callable, Dict, Iterable, List, NamedTuple, Optional, Tuple, Union
+from typing import (
+    Any,
+    Callable,
+    Dict,
+    Iterable,
+    List,
+    NamedTuple,
+    Optional,
+    Set,
+    Tuple,
+    Union,
+)
 
+from .bindings import FEWEST, Bindings, bindings_of
 from .expressions import Expr
 from .faults import BadVersion, Fault, TooLong, fault_made
 from .length import (
+    FIRST_NODES,
+    FIRST_VALUES,
     MAX_TEXT,
     MAX_VALUES,
-    MOST_NODES,
+    most_nodes,
     too_long_text,
     too_many_nodes,
     too_many_values,
 )
 from .memory import Held
-from .rules import Dims
+from .rules import FIRST_ELEMENTS, MOST_ELEMENTS, Dims, places
 from .tensors import Placeholder, Tensor, an_expr
 from .values import whole
 
-# What version 1 of the request allows; more is asked for by version 2.
+# What version 1 of the request allows; more is asked for by version 2, and more elements, places of a
+# block and nodes by version 3.
 FIRST_RANK, FIRST_WORKERS = 6, 64
 # The version of a request that has an operation, where that isn't 1; frames alone have the third.
 VERSIONS = dict.fromkeys("stride pad concat convolve".split(), 2)
@@ -32,8 +47,9 @@ VERSIONS.update(
     )
 )
 LAST_OF_TEXTS = 2
-# So many arrays in one another a text may have, its own object and an argument's two left out.
-DEEPEST = 120
+# So many arrays in one another a text may have, its own object and an argument's two left out; and
+# with all arrays.
+DEEPEST, MOST_NESTED = 120, 126
 # So many bytes a node of an expression has in a text at least: a name, and a comma behind it.
 LEAST_NODE = 5
 SUMS = frozenset(("add", "sub"))
@@ -68,14 +84,39 @@ def dims_text(dims: Dims) -> str:
     return f'"dims":[{commas(dims)}]'
 
 
-def links(expr: Expr) -> Tuple[List[Expr], List[Expr]]:
+@lru_cache(maxsize=1000)
+def version_of(dims: Dims) -> int:
+    """The first version that has tensors of these dims.
+
+    >>> version_of((1_048_576,)), version_of((2,) * 7), version_of((2_097_152, 0))
+    (1, 2, 3)
+    """
+    if FIRST_ELEMENTS < places(dims) <= MOST_ELEMENTS:
+        return 3
+    return 2 if len(dims) > FIRST_RANK else 1
+
+
+def nested(text: str) -> int:
+    """How many arrays of a text stand in one another.
+
+    >>> nested('["sum","x0",[0]]')
+    2
+    """
+    depth = found = 0
+    for it in text:
+        depth += (it == "[") - (it == "]")
+        found = max(found, depth)
+    return found
+
+
+def links(expr: Expr, bound: Dict[int, str]) -> Tuple[List[Expr], List[Expr]]:
     """The operands of a chain of one operation, in their order: x, y and z of (x + y) + z; and
-    apart from them those that are taken away, as z of (x + y) - z."""
+    apart from them those that are taken away, as z of (x + y) - z. What is bound is no chain."""
     found: Tuple[List[Expr], List[Expr]] = [], []
     chained, left = GROUPED[expr.operation], [(expr, 0)]
     while left:
         it, taken = left.pop()
-        if it.operation in chained and len(it.operands) == 2:
+        if it.operation in chained and len(it.operands) == 2 and id(it) not in bound:
             x, y = it.operands
             left += (y, taken ^ (it.operation == "sub")), (x, taken)
         else:
@@ -93,26 +134,54 @@ def in_pairs(operation: str, level: List[Expr]) -> Expr:
     return level[0]
 
 
-def balanced(expr: Expr) -> Expr:
+def balanced(expr: Expr, bound: Dict[int, str]) -> Expr:
     """A chain of one operation as trees of pairs: of sums and differences what is taken away is
     summed, and taken away once."""
     operation = "add" if expr.operation in SUMS else expr.operation
-    kept, taken = links(expr)
+    kept, taken = links(expr, bound)
     found = in_pairs(operation, kept)
     return Expr("sub", [found, in_pairs(operation, taken)], dims=expr.dims) if taken else found
 
 
 class Text:
-    """An expression's text, as it is put together: its inputs get names by the order in which
-    they stand, and its version is the least that has all its operations. It goes down a tree by a
-    list of what is left, so that no depth is too great for it."""
+    """An expression's text, as it is put together, with its bindings in front: its inputs get names
+    by the order in which they stand, and its version is the least that has all its operations and
+    dims. It goes down a tree by a list of what is left, so that no depth is too great for it.
 
-    def __init__(self, expr: Expr, as_they_lie: bool = False) -> None:
+    Where it looks for what stands again, it ends at the first such operation."""
+
+    def __init__(
+        self,
+        expr: Expr,
+        bindings: Optional[Bindings] = None,
+        most: int = 0,
+        looks: bool = False,
+    ) -> None:
+        parts, nodes, depth = bindings or ((), expr.nodes, expr.depth)
         self.names: Dict[int, Tuple[str, Tensor]] = {}
-        self.version, self.balance = 1, expr.depth > DEEPEST
-        # Each input that is turned back is a node more.
-        self.as_they_lie = as_they_lie and 2 * expr.nodes <= MOST_NODES
+        # The names of what is bound, as the text has them.
+        self.bound: Dict[int, str] = {}
+        self.version, self.nodes, self.balance = 1, nodes, depth > DEEPEST
+        # Inputs are taken as they lie in memory where each has a node more and these are so few.
+        self.as_they_lie = 2 * nodes <= most
+        self.seen: Optional[Set[int]] = set() if looks else None
+        self.stands_again, self.dims = False, expr.dims
         pieces: List[str] = []
+        for number, part in enumerate(parts):
+            name = f',"y{number}"'
+            pieces.append(f',["let"{name}')
+            self.put(part, pieces)
+            self.bound[id(part)] = name
+        self.see(expr.dims)
+        self.put(expr, pieces)
+        if self.bound:
+            pieces.append("]" * len(self.bound))
+        # Each piece but an end begins with a comma.
+        self.text = "".join(pieces)[1:]
+
+    def put(self, expr: Expr, pieces: List[str]) -> None:
+        """Puts the text of an expression behind what is there."""
+        bound, seen = self.bound, self.seen
         left: List[Union[Expr, str]] = [expr]
         while left:
             it = left.pop()
@@ -120,19 +189,25 @@ class Text:
                 pieces.append(self.name_of(it))
             elif isinstance(it, str):
                 pieces.append(it)
+            elif bound and id(it) in bound:
+                pieces.append(bound[id(it)])
             else:
+                if seen is not None:
+                    if id(it) in seen:
+                        self.stands_again = True
+                        return
+                    seen.add(id(it))
                 pieces.append(self.begun(it, left))
-        # Each piece but an end begins with a comma.
-        self.text = "".join(pieces)[1:]
 
     def name_of(self, it: Tensor) -> str:
         """The name of an input, which is a new one where it hasn't stood before."""
         found = self.names.get(id(it))
         if found is None:
-            if len(it.dims or ()) > FIRST_RANK:
-                self.ask_for(2)
+            if it.dims is not self.dims:
+                self.see(it.dims)
             found = self.names[id(it)] = f',"x{len(self.names)}"', it
         if self.as_they_lie and it.turned:
+            self.nodes += 1
             axes = commas(reversed(range(len(it.dims or ()))))
             return f',["shuffle"{found[0]},[{axes}]]'
         return found[0]
@@ -146,18 +221,22 @@ class Text:
         """The text that an operation begins with; what stands behind that is put on the list."""
         if isinstance(it, Placeholder):
             raise TypeError(f"{it!r} has no values: compile(..) takes them at each call")
-        high = it.dims is not None and len(it.dims) > FIRST_RANK
-        if high or it.operation in VERSIONS:
-            self.ask_for(VERSIONS.get(it.operation, 2))
+        if it.dims is not self.dims:
+            self.see(it.dims)
+        if it.operation in VERSIONS:
+            self.version = max(self.version, VERSIONS[it.operation])
         if self.balance and it.operation in GROUPED and len(it.operands) == 2:
-            it = balanced(it)
+            it = balanced(it, self.bound)
         arguments = "".join(["," + compact(more) for more in it.arguments]) if it.arguments else ""
         left.append(arguments + "]")
         left.extend(reversed(it.operands))
         return opening(it.operation)
 
-    def ask_for(self, version: int) -> None:
-        self.version = max(self.version, version)
+    def see(self, dims: Optional[Dims]) -> None:
+        """Asks for the version that has these dims, which are other than the last ones."""
+        self.dims = dims
+        if dims is not None:
+            self.version = max(self.version, version_of(dims))
 
 
 class Settings(NamedTuple):
@@ -169,12 +248,30 @@ class Settings(NamedTuple):
     version: Optional[int] = None
 
 
-def text_of(expr: Expr, as_they_lie: bool = False) -> Text:
-    """An expression's text, if it isn't too long already; over inputs as they lie in memory, or
-    over their values column-major."""
-    if expr.nodes > MAX_TEXT // LEAST_NODE:
-        raise TooLong(too_many_nodes(expr))
-    return Text(expr, as_they_lie)
+def text_of(expr: Expr, bindings: Optional[Bindings] = None, most: int = 0) -> Text:
+    """An expression's text, if it isn't too long already; over inputs as they lie in memory, where
+    so many nodes are enough for that, or over their values column-major."""
+    nodes = expr.nodes if bindings is None else bindings.nodes
+    if nodes > MAX_TEXT // LEAST_NODE:
+        raise TooLong(too_many_nodes(expr, most or FIRST_NODES))
+    return Text(expr, bindings, most)
+
+
+def text_of_frame(expr: Expr, version: Optional[int], is_apart: bool) -> Text:
+    """The same of a frame, which has bindings where its version does; but none where it nests too
+    deep with them, and is short without."""
+    most = most_nodes(version)
+    if most == FIRST_NODES:
+        return text_of(expr, None, most)
+    found = Text(expr, None, most, looks=expr.nodes >= FEWEST)
+    if not found.stands_again:
+        return found
+    bindings = bindings_of(expr, is_apart)
+    found = text_of(expr, bindings, most)
+    is_deep = bindings.bound and found.balance and nested(found.text) > MOST_NESTED
+    if is_deep and 2 * expr.nodes <= most:
+        return text_of(expr, None, most)
+    return found
 
 
 def whole_text(found: Text, settings: Settings, inputs: Iterable[str]) -> str:
@@ -193,14 +290,16 @@ def whole_text(found: Text, settings: Settings, inputs: Iterable[str]) -> str:
 
 def request(expr: Any, workers: int = 1, block: int = 4096, version: Optional[int] = None) -> str:
     """The text that asks for an expression. Its version is the least that has its operations and
-    ranks, and so many workers.
+    dims, and so many workers. A part that stands twice in the expression stands twice in the text.
 
     >>> print(request(tensor(5)))
     {"version":1,"workers":1,"block":4096,"inputs":{"x0":{"dims":[],"data":[5]}},"expr":"x0"}
     """
-    found = text_of(an_expr(expr))
+    asked = an_expr(expr)
+    found = text_of(asked)
     if version is None and found.version > LAST_OF_TEXTS:
-        raise BadVersion(f"no text has version {found.version}: the library and frames do")
+        why = f"operations on integers, or more than {FIRST_ELEMENTS:,} places"
+        raise BadVersion(f"no text has version {found.version}, {why}: the library and frames do")
     inputs = (
         f'{name[1:]}:{{{dims_text(it.dims or ())},"data":[{commas(it.values)}]}}'
         for name, it in found.names.values()
@@ -217,13 +316,14 @@ class Framed(NamedTuple):
     held: List[Held]
 
 
-def framed(expr: Expr, settings: Settings) -> Framed:
-    """The frame that asks for an expression: its tensors stand in the order of their names.
+def framed(expr: Expr, settings: Settings, is_apart: bool = False) -> Framed:
+    """The frame that asks for an expression: its tensors stand in the order of their names. Its
+    answer may be worked out apart, by threads that each take a part of it.
 
     >>> framed(tensor([5, 7]), Settings()).header
     b'{"version":1,"workers":1,"block":4096,"inputs":{"x0":{"dims":[2]}},"expr":"x0"}'
     """
-    found = text_of(expr, as_they_lie=True)
+    found = text_of_frame(expr, settings.version, is_apart)
     named = list(found.names.values())
     if len(named) > 10:
         # Behind "x1" stands "x10".
@@ -234,8 +334,12 @@ def framed(expr: Expr, settings: Settings) -> Framed:
         held.append(values)
         inputs.append(f"{name[1:]}:{{{dims_text(dims)}}}")
         size += len(values)
-    if size > MAX_VALUES:
-        raise TooLong(too_many_values(size))
+    is_more = size > FIRST_VALUES or settings.block > FIRST_ELEMENTS
+    if is_more or found.bound or found.nodes > FIRST_NODES:
+        found.version = 3
+    most = FIRST_VALUES if settings.version in (1, 2) else MAX_VALUES
+    if size > most:
+        raise TooLong(too_many_values(size, most))
     return Framed(whole_text(found, settings, inputs).encode(), size, held)
 
 

@@ -5,6 +5,7 @@ from __future__ import annotations
 
 from typing import Any, Optional, Sequence
 
+from .bindings import bindings_of
 from .expressions import Expr
 from .length import MOST_NODES
 from .memory import INT64, Held, memory_for, overlap
@@ -20,13 +21,18 @@ class Result:
     the last axis fastest: then the expression is asked for with its axes in reverse order, which
     gives them so."""
 
-    def __init__(self, expr: Expr, out: Any = None, turned: Optional[bool] = None) -> None:
+    def __init__(
+        self,
+        expr: Expr,
+        out: Any = None,
+        turned: Optional[bool] = None,
+        most: int = MOST_NODES,
+    ) -> None:
         self.out: Any = None if out is None else checked_out(out)
         if turned is not None:
             self.turned = turned
             return
-        # Its axes in reverse order are a node more, as is each input that is turned back.
-        can_be_turned = expr.dims is not None and 2 * (expr.nodes + 1) <= MOST_NODES
+        can_be_turned = expr.dims is not None and lies_as_it_is(expr, most)
         is_wanted = are_turned(expr) if self.out is None else not self.out.flags.f_contiguous
         self.turned = can_be_turned and is_wanted
 
@@ -84,6 +90,17 @@ class Result:
             if isinstance(values, list) or not overlap(own, values):
                 self.out[...] = found.array()
         return found
+
+
+def lies_as_it_is(expr: Expr, most: int) -> bool:
+    """Whether an expression has so few nodes that its inputs can be taken in numpy's common order,
+    and its answer be given so: its axes in reverse order are a node more, and so is each input that
+    is turned back.
+
+    >>> lies_as_it_is(tensor([1, 2]) + 1, 10)
+    True
+    """
+    return 2 * (expr.nodes + 1) <= most or 2 * (bindings_of(expr).nodes + 1) <= most
 
 
 def are_turned(expr: Expr) -> bool:

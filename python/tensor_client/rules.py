@@ -1,19 +1,26 @@
 """The result dims of each operation, or the fault that its operands have: docs/REQUEST.md's rules,
-looked at where an expression is written. The program looks at them again."""
+looked at where an expression is written. The program looks at them again. And expressions repeated
+over the dims that numpy's rule gives for several."""
 
 from __future__ import annotations
 
-from typing import List, Sequence, Tuple
+from typing import TYPE_CHECKING, List, Sequence, Tuple
 
 from .faults import BadArgument, OutOfRange, ShapeMismatch, TooLarge
+
+if TYPE_CHECKING:
+    from .expressions import Expr
 
 Dims = Tuple[int, ...]
 Pairs = Sequence[Sequence[int]]
 
-MOST_ELEMENTS = 1_048_576
+# What version 3 of the request allows; the earlier ones allow less (requests.py).
+MOST_ELEMENTS = 268_435_456
 MOST_PRODUCTS = 1_073_741_824
-# What version 2 of the request allows; version 1 allows less (requests.py).
 MOST_RANK = 8
+# So many elements each version has: what takes all pairs of places takes so many of these at a time,
+# and more where there would be more pieces.
+FIRST_ELEMENTS, MOST_PIECES = 1_048_576, 50
 
 
 def product(numbers: Sequence[int]) -> int:
@@ -28,18 +35,37 @@ def product(numbers: Sequence[int]) -> int:
     return found
 
 
+def places(dims: Sequence[int]) -> int:
+    """The product, in which a 0 counts as 1: as many elements a tensor of these dims counts for.
+
+    >>> places([2, 0, 3])
+    6
+    """
+    found = 1
+    for it in dims:
+        found *= it or 1
+    return found
+
+
 def legal(dims: Sequence[int]) -> Dims:
-    """Dims that a tensor may have: a 0 counts as 1 where the elements are counted."""
+    """Dims that a tensor may have."""
     if len(dims) > MOST_RANK:
         raise TooLarge(f"{len(dims)} axes, and there may be {MOST_RANK}: reshape some into one")
-    places = 1
-    for it in dims:
-        places *= it or 1
-    if places > MOST_ELEMENTS:
+    if places(dims) > MOST_ELEMENTS:
         raise TooLarge(
             f"dims {tuple(dims)} have more than {MOST_ELEMENTS:,} places: run a part at a time"
         )
     return tuple(dims)
+
+
+def piece(count: int, others: int) -> int:
+    """How many of so many places are taken at a time, where each stands beside so many others.
+
+    >>> piece(3_000_000, 10), piece(100_000_000, 10), piece(1_000, 1_000_000)
+    (104857, 2000000, 20)
+    """
+    few, most = (max(it // max(others, 1), 1) for it in (FIRST_ELEMENTS, MOST_ELEMENTS))
+    return min(max(few, -(-count // MOST_PIECES)), most)
 
 
 def sizes(numbers: Sequence[int]) -> List[int]:
@@ -164,3 +190,26 @@ def slid(dims: Dims, kernel: Dims, axes: Sequence[int]) -> Dims:
             f"a convolution of more than {MOST_PRODUCTS:,} products: run a part at a time"
         )
     return found
+
+
+def spread(expr: Expr, dims: Dims) -> Expr:
+    """An expression, repeated over dims that it fits by numpy's rule."""
+    if expr.dims is None or expr.dims == dims:
+        return expr
+    own = (1,) * (len(dims) - len(expr.dims)) + expr.dims
+    wide = expr if own == expr.dims else expr.in_dims(own)
+    counts = [dim if have == 1 else 1 for have, dim in zip(own, dims)]
+    if 0 in counts:
+        # One place, repeated no times: none of it is taken.
+        wide = wide.slice([0] * len(dims), [min(it) for it in zip(own, dims)])
+        counts = [max(it, 1) for it in counts]
+    return wide if set(counts) <= {1} else wide.broadcast(counts)
+
+
+def alike(*exprs: Expr) -> List[Expr]:
+    """Expressions, each repeated over the dims that numpy's rule gives for all."""
+    shapes = [it.dims for it in exprs]
+    if None in shapes or shapes.count(shapes[0]) == len(shapes):
+        return list(exprs)
+    dims = fitted(*[it for it in shapes if it is not None])
+    return [spread(it, dims) for it in exprs]

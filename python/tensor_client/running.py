@@ -8,8 +8,9 @@ from typing import Any, Optional
 
 from .expressions import Expr
 from .explaining import explain
-from .faults import Fault, ProgramFailed
+from .faults import Fault, ProgramFailed, TooLarge
 from .finding import FRAMES, LINES, ONE, built, found, no_library, program_of
+from .length import FIRST_NODES, most_nodes, too_many_nodes
 from .library import Library, library_named, library_of
 from .processes import Connection, Process, answered_once
 from .requests import Settings, answer, framed, header_answer, request
@@ -75,7 +76,19 @@ def answered(
         tried = "; ".join((no_library(), FRAMES.tried(), ONE.tried()))
         raise ProgramFailed(f"nothing is found that answers: {tried}")
     text = request(asked, *settings)
-    return written(answer(answered_once(program_of(program, ONE), text, timeout)), asked, out)
+    line = answered_once(program_of(program, ONE), text, timeout)
+    return written(answer_of_text(line, asked), asked, out)
+
+
+def answer_of_text(line: str, asked: Expr) -> Tensor:
+    """The tensor of the line that answers an expression's text, where nothing is bound; a fault of
+    too many nodes says so."""
+    try:
+        return answer(line)
+    except TooLarge as fault:
+        if asked.nodes > FIRST_NODES:
+            fault.tell(too_many_nodes(asked, FIRST_NODES))
+        raise
 
 
 def library_asked(named: Any, timeout: Optional[float]) -> Library:
@@ -171,8 +184,8 @@ class Session:
             raise
 
     def keep(self, expr: Any) -> Tensor:
-        """The tensor of an expression that others are made of more than once: a request can't
-        share its parts, so that each would have it worked out again.
+        """The tensor of an expression that several requests are made of: each would have it worked
+        out again. What stands several times in one request is worked out once there, by frames.
 
         >>> with Session() as s:
         ...     part = s.keep(tensor([1, 2]) + 1)
@@ -189,9 +202,9 @@ class Session:
             text = request(expr, *settings)
             with self.turn, self.stream:
                 line = line_asked(self.stream, text, Deadline(seconds))
-            return written(answer(line), expr, out)
+            return written(answer_of_text(line, expr), expr, out)
         # Without an array the values stand column-major, as they come.
-        result = Result(expr, out, False if out is None else None)
+        result = Result(expr, out, False if out is None else None, most_nodes(settings.version))
         asked = framed(result.asked(expr), settings)
         place = result.place_of_frame(asked.held)
         with self.turn, self.stream:

@@ -10,9 +10,10 @@ import time
 from typing import Any, List, NamedTuple, Optional, Tuple
 
 from .faults import ProgramFailed, TimedOut
-from .length import MAX_TEXT, MAX_VALUES
+from .length import MAX_TEXT
 from .memory import FEW, VALUE, Bytes, Held, few_of, memory_for, memory_of, parts_of
 from .requests import Framed
+from .rules import MOST_ELEMENTS
 
 SIZES = struct.Struct("<QQ")
 # So many bytes are read at once, and so many parts written.
@@ -172,7 +173,7 @@ def frame_asked(
     while len(found) < SIZES.size:
         found += stream.read(deadline)
     length, count = SIZES.unpack_from(found)
-    if length > MAX_TEXT or count > MAX_VALUES:
+    if length > MAX_TEXT or count > MOST_ELEMENTS:
         raise ProgramFailed(f"{stream.name} answers no frame: {found[:40]!r}")
     while len(found) < SIZES.size + length:
         found += stream.read(deadline)

@@ -10,8 +10,10 @@ from typing import Callable, List, Optional
 from .expressions import Expr
 from .rules import product
 
-# So many values a part has at least: a thread is handed one in some 50 microseconds.
+# So many values a part has at least: a thread is handed one in some 50 microseconds; so many an
+# answer of two parts.
 LEAST = 1 << 15
+FEWEST = 2 * LEAST
 
 POOL: Optional[ThreadPoolExecutor] = None
 

@@ -17,9 +17,8 @@ __all__ = [
 ]
 
 
-# So many pieces a list of offsets is taken in at most, each some ten nodes; and so many nodes what
-# is taken in parts may have.
-MOST_PIECES, MOST_IN_PARTS = 50, 150
+# So many nodes what is taken in parts may have.
+MOST_IN_PARTS = 150
 Run = Tuple[int, int, int]
 
 
@@ -102,9 +101,8 @@ def at_offsets(expr: Expr, at: Expr, axis: int) -> Expr:
     count, length = at.size, expr.shape[axis]
     if not count:
         return part(expr, axis, 0, 0)
-    # As many offsets at a time as have no more pairs with the axis than a tensor may have places.
-    piece = max(rules.MOST_ELEMENTS // max(length, 1), 1)
-    if count > piece * MOST_PIECES:
+    piece = rules.piece(count, length)
+    if count > piece * rules.MOST_PIECES:
         raise TooLarge(f"taking {count:,} offsets of {length:,}: run a part of them at a time")
     numbers, pieces = tensor(range(length)), []
     for begin in range(0, count, piece):

@@ -1,6 +1,6 @@
 """Values counted, found and ordered, as numpy's functions of these names do it: by comparisons with
 all that they may be, whose sums are numbers. So they are for as many pairs as a tensor may have
-places, 1,048,576; where one side is longer it is taken in pieces."""
+places, 268,435,456; where one side is longer it is taken in pieces."""
 
 from __future__ import annotations
 
@@ -21,7 +21,7 @@ def summed(line: Expr, others: int, each: Callable[[Expr, int], Expr]) -> Expr:
     """What is counted of all values of a list, each beside so many others: in pieces, where the
     pairs are more than a tensor may have. `each` counts a piece, from an offset on."""
     length = line.shape[0]
-    piece = max(rules.MOST_ELEMENTS // max(others, 1), 1)
+    piece = rules.piece(length, others)
     found: List[Expr] = [
         each(part(line, 0, at, min(at + piece, length)), at)
         for at in range(0, max(length, 1), piece)
@@ -158,7 +158,7 @@ def argsort(a: Any, axis: Any = -1, kind: Any = None) -> Expr:
 
 
 def sort(a: Any, axis: Any = -1, kind: Any = None) -> Expr:
-    """The values along an axis in order: by all pairs of two, which are up to 1,048,576.
+    """The values along an axis in order: by all pairs of two, which are up to 268,435,456.
 
     >>> run(sort([30, 10, 20])).values
     [10, 20, 30]

@@ -21,7 +21,7 @@ Named = Tuple[str, Expr]
 def einsum(labels: str, *operands: Any) -> Expr:
     """The sums of the products over all axes whose letter isn't in the result. Two operands are
     contracted where the letters of both are summed over; a letter of both that is in the result
-    takes all products, of which there are up to 1,048,576 then.
+    takes all products, of which there are up to 268,435,456 then.
 
     >>> run(einsum("ij,kj->ki", [[1, 2], [3, 4]], [[5, 6]])).nested()
     [[17, 39]]

@@ -6,7 +6,7 @@ from typing import Any, Sequence
 
 from ..expressions import Expr
 from ..faults import ShapeMismatch
-from ..spreading import alike
+from ..rules import alike
 from ..tensors import an_expr
 from ..values import is_several, numbers_of, whole
 from .common import all_pairs
@@ -153,8 +153,8 @@ def cross(a: Any, b: Any, axis: int = -1) -> Expr:
 
 
 def matrix_power(a: Any, n: int) -> Any:
-    """A matrix, or each of a stack, times itself so often. A request shares no parts, so the matrix
-    stands so often in it: large powers are run by squares, as the program of powers does.
+    """A matrix, or each of a stack, times itself so often, by its squares. A text has the matrix so
+    often: there large powers are run by squares, as the program of powers does.
 
     >>> run(matrix_power([[1, 1], [1, 0]], 10)).nested()
     [[89, 55], [55, 34]]

@@ -7,9 +7,8 @@ from typing import Any, List, Optional, Sequence, Tuple
 
 from .. import rules
 from ..expressions import Expr
-from ..faults import ShapeMismatch, TooLarge
-from ..rules import Dims
-from ..spreading import alike, spread
+from ..faults import ShapeMismatch
+from ..rules import Dims, alike, spread
 from ..tensors import an_expr
 from ..values import numbers_of, whole
 from .common import beside_axis, flat, moved, named_axes, part
@@ -345,11 +344,10 @@ def rolled(expr: Expr, shift: int, axis: int) -> Expr:
     begin = -shift % dims[axis] if dims[axis] else 0
     if not begin:
         return expr
-    try:
-        twice = expr.broadcast([2 if it == axis else 1 for it in range(len(dims))])
-    except TooLarge:
+    if 2 * rules.places(dims) > rules.FIRST_ELEMENTS:
         end = part(expr, axis, begin, dims[axis])
         return end.concat(part(expr, axis, 0, begin), axis)
+    twice = expr.broadcast([2 if it == axis else 1 for it in range(len(dims))])
     return part(twice, axis, begin, begin + dims[axis])
 
 

@@ -6,10 +6,9 @@ from typing import Any, NamedTuple
 
 from .. import rules
 from ..expressions import Expr
-from ..faults import TooLarge
 from ..tensors import an_expr, where
 from ..values import GREATEST, LEAST
-from .common import as_dtype, flat, moved, part
+from .common import all_pairs, as_dtype, flat, moved, part
 from .matrices import tri
 
 __all__ = [
@@ -29,7 +28,7 @@ def cumsum(a: Any, axis: Any = None, dtype: Any = None, out: None = None) -> Exp
 
 def cumprod(a: Any, axis: Any = None, dtype: Any = None, out: None = None) -> Expr:
     """The product of each value and all before it along an axis, or in all values: over all pairs
-    of two places, in two steps where these are more than 1,048,576.
+    of two places, in two steps where these are more than 1,048,576 and may be fewer.
 
     >>> run(cumprod([1, 2, 3])).values
     [1, 2, 6]
@@ -103,44 +102,50 @@ def scanned(scan: Scan, a: Any, axis: Any, dtype: Any = None, out: None = None) 
     if out is not None:
         raise TypeError("an expression is written nowhere: run(it, out=..)")
     expr, along = flat(a, axis)
-    first = moved(expr, along, 0)
-    try:
-        found = scan.upto(first)
-    except TooLarge as fault:
-        row = row_length(first.shape[0], rules.product(first.shape[1:]) if scan.is_repeated else 0)
-        if not row:
-            fault.tell(f"going over an axis takes all pairs of places: {fault.why}")
-            raise
-        found = in_rows(scan, first, row)
+    with all_pairs("going over an axis"):
+        found = over_first(scan, moved(expr, along, 0))
     asked: Expr = as_dtype(moved(found, 0, along), dtype)
     return asked
 
 
+def over_first(scan: Scan, x: Expr) -> Expr:
+    """The same of the first axis: over all pairs of its places, or in rows where these are many."""
+    length, lines = x.shape[0], rules.product(x.shape[1:]) or 1
+    pairs = length * length * (lines if scan.is_repeated else 1)
+    is_much = pairs > rules.FIRST_ELEMENTS or length * length * lines > rules.MOST_PRODUCTS
+    row = row_length(length, lines, scan.is_repeated) if is_much else 0
+    return in_rows(scan, x, row) if row else scan.upto(x)
+
+
 def in_rows(scan: Scan, x: Expr, row: int) -> Expr:
-    """The same in two steps: over rows of the first axis, and over what whole rows come to."""
+    """The same in steps: over rows of the first axis, and over what whole rows come to."""
     length, *rest = x.shape
     rows, others = -(-length // row), [(0, 0)] * len(rest)
     filled = x.pad([(0, rows * row - length), *others], constant_values=scan.none)
     inner = scan.upto(filled.in_dims([row, rows, *rest]))
-    totals = scan.upto(part(inner, 0, row - 1, row).in_dims([rows, *rest]))
+    totals = over_first(scan, part(inner, 0, row - 1, row).in_dims([rows, *rest]))
     # Before each row stands what all rows before it come to.
     before = part(totals, 0, 0, rows - 1).pad([(1, 0), *others], constant_values=scan.none)
     found = getattr(inner, scan.two)(before.in_dims([1, rows, *rest]))
     return part(found.in_dims([rows * row, *rest]), 0, 0, length)
 
 
-def row_length(length: int, lines: int) -> int:
-    """How long rows are, so that the pairs of two places of a row, and of two rows, are as many as
-    a tensor may have, also for each of so many lines; 0 where no length does.
+def row_length(length: int, lines: int, is_repeated: bool) -> int:
+    """How long rows are, about as long as there are rows, or less: where each line is repeated over
+    the pairs of two places of a row, so that these are few, or else as many as a tensor may have;
+    for sums, so that those of a row are few, and the products no more than there may be. 0 where
+    no length does.
 
-    >>> row_length(5_000, 0), row_length(5_000, 1), row_length(5_000, 1_000)
-    (128, 128, 0)
+    >>> row_length(5_000, 1, False), row_length(9_000, 1, True), row_length(5_000, 99_999, True)
+    (128, 64, 0)
     """
+    places = max(length * lines, 1)
+    if is_repeated:
+        few = rules.FIRST_ELEMENTS // places
+        most = few if few > 1 else rules.MOST_ELEMENTS // places
+    else:
+        most = min(1 << rules.FIRST_ELEMENTS.bit_length() // 2, rules.MOST_PRODUCTS // places)
     row = 1 << (length.bit_length() + 1) // 2
-    while row > 1:
-        rows = -(-length // row)
-        pairs = max(row * row * (rows * lines or 1), rows * rows * (lines or 1))
-        if pairs <= rules.MOST_ELEMENTS:
-            return row
+    while row > most or row >= length > 0:
         row //= 2
-    return 0
+    return row if row > 1 else 0
