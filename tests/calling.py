@@ -2,9 +2,11 @@
 
 import ctypes
 import math
+import mmap
 import random
 
-MOST = 16_777_216
+# How many values a frame has at most, in the versions of texts and in version 3.
+MOST, WIDEST = 16_777_216, 4_294_967_296
 LEAST, GREATEST = -(2**63), 2**63 - 1
 DIMS_ROOM, NO_ROOM, NO_PLAN, SPARE, SENTINEL = 9, -100, -101, 3, 77
 CALLS = ("evaluate", "evaluate_part", "evaluate_arrays", "shared", "prepare", "run", "dims")
@@ -13,11 +15,11 @@ TWO = '"a":{"dims":[2]},"b":{"dims":[2]}'
 ENDS = [LEAST, GREATEST, -1, 1]
 
 
-def header(inputs, expr):
-    return f'{{"version":1,"workers":1,"block":1,"inputs":{{{inputs}}},"expr":{expr}}}'
+def header(inputs, expr, version=1):
+    return f'{{"version":{version},"workers":1,"block":1,"inputs":{{{inputs}}},"expr":{expr}}}'
 
 
-LINE, SQUARE, ONE = [1_048_576], [1_024, 1_024], [1]
+LINE, SQUARE, ONE, LONG = [1_048_576], [1_024, 1_024], [1], [2_097_153]
 # Frames of many values whose parts share none: an expression, how many values its answer has, how
 # many of an operand are packed, and the dims of `a` and of `b`.
 LARGE = [
@@ -29,6 +31,7 @@ LARGE = [
     ('["shuffle","a",[2,0,1]]', 1_048_576, 0, [64, 128, 128], ONE),
     ('["contract","a","b",[[1,0]]]', 262_144, 262_144, [512, 512], [512, 512]),
     ('["convolve","a","b",[0,1]]', 1_009 * 1_009, 0, SQUARE, [16, 16]),
+    ('["bit_xor",["reverse","a",[true]],"b"]', 2_097_153, 0, LONG, LONG),
 ]
 
 
@@ -38,7 +41,7 @@ def large_frame(expr, _, __, *dims):
     count, source = sum(map(math.prod, dims)), random.Random(expr)
     drawn = [source.randint(LEAST, GREATEST) for _ in range(1_009)]
     values = (drawn * (count // len(drawn) + 1))[:count]
-    return header(inputs, expr).replace('"version":1', '"version":2'), values
+    return header(inputs, expr, 3 if LONG in dims else 2), values
 
 
 class Array(ctypes.Structure):
@@ -193,6 +196,37 @@ def array_calls(library):
     yield "little room for dims of arrays", (result, *little), (NO_ROOM, SENTINEL)
 
 
+def wide_calls(library):
+    """Calls over more values than the versions of texts have: zeros, in memory that is reserved and
+    takes none, since what is written there is nothing."""
+    # MAP_NORESERVE, which Python names in some versions alone.
+    flags = mmap.MAP_PRIVATE | mmap.MAP_ANONYMOUS | 0x4000
+    reserved = mmap.mmap(-1, 8 * (WIDEST + 1), flags=flags)
+    zeros = ctypes.addressof(ctypes.c_char.from_buffer(reserved))
+    total, first = '"a":{"dims":[16777217]}', '["chip","a",16777216,0]'
+    for name, text, lengths, wanted in (
+        ("the sum of more", header(total, '["sum","a",[0]]', 3), [MOST + 1], 1),
+        ("the last of more", header(total, first, 3), [MOST + 1], 1),
+        ("more for another tensor", header(TWO, '"a"', 3), [MOST, 1], -7),
+        ("more, of version 2", header(total, first, 2), [MOST + 1], -1),
+        ("more, of two tensors of version 2", header(TWO, '"a"', 2), [MOST, 1], -1),
+        ("more, of version 4", header(TWO, '"a"', 4), [MOST, 1], -1),
+        ("as many as there may be", header(TWO, '"a"', 3), [WIDEST, 0], -7),
+        ("one too many", header(TWO, '"a"', 3), [WIDEST + 1, 0], -1),
+        ("one too many together", header(TWO, '"a"', 3), [WIDEST, 1], -1),
+    ):
+        arrays = (Array * len(lengths))(*[(zeros, it) for it in lengths])
+        out, dims = (ctypes.c_int64 * 1)(SENTINEL), (ctypes.c_uint64 * 1)(SENTINEL)
+        result = library.call("tensor_evaluate_arrays", bytes_of(text), arrays, 0, out)
+        left = 0 if wanted > 0 else SENTINEL
+        yield f"arrays of many values: {name}", (result, *out), (wanted, left)
+        result = library.call("tensor_dims_of_arrays", bytes_of(text), arrays, dims)
+        yield f"dims of many values: {name}", (result, *dims), (wanted, left)
+        if wanted < 0:
+            result = library.call("tensor_shared", bytes_of(text), arrays)
+            yield f"shared by many values: {name}", result, wanted
+
+
 # Expressions over a and b of dims [2, 3] and c of dims [3], and how many values each part works out
 # anew, counted by hand.
 SHARED = [
@@ -223,14 +257,24 @@ SHARED = [
     ('["select","c",["sum",["add","a","b"],[0]],"c"]', 6 + 3),
     ('["constant",["sum","a",[0]],7]', 3),
 ]
+# The same with lets, whose values each part works out.
+SHARED_BY_LETS = [
+    ('["let","y",["neg","a"],["add","y","y"]]', 6),
+    ('["let","y",["neg","a"],["sum","y",[0]]]', 6),
+    ('["let","y",["neg","a"],"b"]', 6),
+    ('["let","y",["sum",["neg","a"],[0]],["mul","y","y"]]', 6 + 3),
+    ('["let","y",["sum","a",[0]],["neg",["sum",["mul","y","c"],[0]]]]', 3 + 3 + 1),
+    ('["let","y",["neg","a"],["let","z",["contract","y","y",[[0,0]]],["mul","z","z"]]]', 6 + 9),
+    ('["let","y",["neg",["sum","a",[0]]],["contract","a","y",[[1,0]]]]', 3 + 3),
+]
 THREE = '"a":{"dims":[2,3]},"b":{"dims":[2,3]},"c":{"dims":[3]}'
 
 
 def shared_calls(library):
     """Calls that tell how many values the parts of an answer share."""
     three = arrays_of([0] * 6, [0] * 6, [0] * 3)
-    for expr, wanted in SHARED:
-        text = header(THREE, expr).replace('"version":1', '"version":2')
+    for expr, wanted in SHARED + SHARED_BY_LETS:
+        text = header(THREE, expr, 3 if "let" in expr else 2)
         yield f"shared by {expr}", library.call("tensor_shared", bytes_of(text), three), wanted
     two, long = bytes_of(header(TWO, '["add","a","b"]')), (ctypes.c_uint8 * (MOST + 1))()
     many = arrays_of([5, 7], (ctypes.c_int64 * (MOST - 1))())

@@ -39,6 +39,11 @@ MAKERS_OF = {1: MAKERS, 2: MAKERS + ["stride", "pad", "concat", "convolution"] *
 MAKERS_OF[3] = MAKERS_OF[2] + ["binary"] * 5
 # Counts of a shift: from below 0 to past 63.
 COUNTS = range(-2, 67)
+# How many lets stand in front in version 3, and what else their names may be.
+LETS = [0, 0, 0, 1, 1, 2, 3, 4]
+LET_NAMES = [*NAMES, "let", "y0"]
+# The calls that make what stands behind them.
+ABOVE_LETS = ["node", "binary", "chain", "chain", "select"]
 
 
 def value(random):
@@ -52,10 +57,10 @@ def value(random):
 
 
 class Grammar:
-    """The inputs of one request, which grow as its expression does."""
+    """The inputs of one request, which grow as its expression does, and the dims of its lets."""
 
     def __init__(self, random, version):
-        self.random, self.version, self.inputs = random, version, {}
+        self.random, self.version, self.inputs, self.bound = random, version, {}, {}
         self.places = MANY if random.random() < OF_MANY else FEW
         self.sizes = SIZES + LARGE_SIZES * (self.places == MANY)
 
@@ -73,15 +78,46 @@ class Grammar:
 
     def leaf(self, dims):
         """The name of an input of these dims, an old one where there is one."""
+        if self.is_bound(dims, 0.8):
+            return self.one_bound(dims)
         old = [name for name, it in self.inputs.items() if it["dims"] == dims]
         if old and self.random.random() < 0.6:
             return self.random.choice(old)
-        name = self.random.choice(NAMES)
-        while name in self.inputs:
-            name += self.random.choice("abxyz")
+        name = self.new_name(NAMES)
         data = [self.value() for _ in range(math.prod(dims))]
         self.inputs[name] = {"dims": dims, "data": data}
         return name
+
+    def new_name(self, names):
+        """One of these names, or a longer one where it is there already."""
+        name = self.random.choice(names)
+        while name in self.inputs or name in self.bound:
+            name += self.random.choice("abxyz")
+        return name
+
+    def is_bound(self, dims, chance):
+        """Whether a let's name is to stand here, where one has these dims; else nothing is drawn."""
+        return dims in self.bound.values() and self.random.random() < chance
+
+    def one_bound(self, dims):
+        """A let's name, of a tensor of these dims."""
+        return self.random.choice([name for name, it in self.bound.items() if it == dims])
+
+    def whole(self, dims, depth):
+        """A whole expression of these dims, in front of which lets may stand: of an input or of
+        more, of its own dims or of others, each used or not."""
+        count = self.random.choice(LETS) if self.version.has_let else 0
+        front = []
+        for _ in range(count):
+            own = self.random.choice([dims, dims, dims, self.dims()])
+            first = self.node(own, self.random.randint(0, depth))
+            front.append(["let", self.new_name(LET_NAMES), first])
+            self.bound[front[-1][1]] = own
+        maker = self.random.choice(ABOVE_LETS) if front else "node"
+        expr = getattr(self, maker)(dims, depth)
+        for it in reversed(front):
+            expr = [*it, expr]
+        return expr
 
     def value(self):
         """A value of an input, in version 3 at times one that counts places."""
@@ -95,6 +131,8 @@ class Grammar:
 
     def node(self, dims, depth):
         """An expression of these dims."""
+        if self.is_bound(dims, 0.2):
+            return self.one_bound(dims)
         if depth == 0 or self.random.random() < 0.1:
             return self.leaf(dims)
         maker = self.random.choice(MAKERS_OF[self.version.number])
@@ -231,14 +269,14 @@ def request(random, versions=VERSIONS):
     """A valid request of one of these versions, as a JSON value."""
     version = random.choice(list(versions.values()))
     grammar = Grammar(random, version)
-    expr = grammar.node(grammar.dims(), random.randint(1, DEEPEST))
+    expr = grammar.whole(grammar.dims(), random.randint(1, DEEPEST))
     while random.random() < 0.2:
         grammar.leaf(grammar.dims())
     most = version.most_workers
     return {
         "version": version.number,
         "workers": random.choice([*WORKERS, most, random.randint(1, most)]),
-        "block": random.choice([*BLOCKS, random.randint(1, 1_048_576)]),
+        "block": random.choice([*BLOCKS, random.randint(1, version.most_places)]),
         "inputs": grammar.inputs,
         "expr": expr,
     }

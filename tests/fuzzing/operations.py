@@ -27,6 +27,8 @@ def size(dims):
 
 def index_lists(dims):
     """All index lists, the first index fastest."""
+    if 0 in dims:
+        return
     for falling in itertools.product(*map(range, reversed(dims))):
         yield falling[::-1]
 

@@ -10,7 +10,7 @@ import math
 import re
 
 from .operations import OPERATIONS_OF, contract_dims, others
-from .rules import FORMS, MOST_NODES, MOST_PLACES, MOST_PRODUCTS, VALUES, VERSIONS, is_value
+from .rules import FORMS, MOST_PRODUCTS, VALUES, VERSIONS, is_value
 from .wording import COUNTS, FORM_WORDS, ITEMS, MEANT, NAMES_OF
 
 MOST_SHOWN = 60
@@ -60,11 +60,11 @@ def illegal(version, dims):
         past = f"are past the highest rank of version {version.number}, {version.most_rank}"
         return f"dims of rank {len(dims)} {past}"
     product = math.prod(max(it, 1) for it in dims)
-    if product <= MOST_PLACES:
+    if product <= version.most_places:
         return None
     zero = ", a 0 counted as 1," if 0 in dims else ""
     many = f"at least {MOST_WORD}" if product >= MOST_WORD else product
-    return f"the product of the dims {dims}{zero} is {many}, and at most {MOST_PLACES}"
+    return f"the product of the dims {dims}{zero} is {many}, and at most {version.most_places}"
 
 
 def tensor(version, value):
@@ -176,7 +176,7 @@ def result(version, dims):
     for axis, it in enumerate(dims):
         if it > MOST_WORD:
             along = f"along axis {axis} the result has more than {MOST_WORD} places"
-            return f"{along}, and the product of its dims is at most {MOST_PLACES}"
+            return f"{along}, and the product of its dims is at most {version.most_places}"
     return illegal(version, dims)
 
 
@@ -327,8 +327,9 @@ def of_node(number, version, request, steps):
         return arity(version, node)
     if number == 11:
         return argument(version, at_end(request, steps[:-1]), steps[-1])
-    if number == 14 and nodes_before(request["expr"], steps[1:]) >= MOST_NODES:
-        return f"this is the {MOST_NODES + 1}st node, and an expression has at most {MOST_NODES}"
+    most = version.most_nodes
+    if number == 14 and nodes_before(request["expr"], steps[1:]) >= most:
+        return f"this is the {most + 1}st node, and an expression has at most {most}"
     return own_checks(version, request["inputs"], node)
 
 

@@ -1,8 +1,10 @@
-"""The line that answers a request text, worked out plainly from the rules of docs/REQUEST.md.
+"""The line that answers a request text, worked out plainly from the rules of docs/REQUEST.md and,
+of version 3, docs/FRAMES.md.
 
 Nothing here is shared with the program.
 """
 
+import functools
 import json
 import math
 
@@ -11,14 +13,14 @@ from .rules import (
     FAULTS,
     FIELDS,
     FORMS,
-    MOST_BLOCK,
+    FRAME_VERSIONS,
     MOST_BYTES,
     MOST_NESTING,
-    MOST_NODES,
     VERSIONS,
     WORDS,
     Fault,
     are_legal,
+    is_let,
     is_list_of,
     is_value,
     is_whole,
@@ -103,18 +105,38 @@ class Walk:
 
     def __init__(self, version, inputs):
         self.version, self.operations = version, OPERATIONS_OF[version.number]
-        self.inputs, self.nodes, self.places = inputs, 0, 0
+        self.nodes, self.places = 0, 0
+        # By name the dims of an input or of a let's tensor, and a function that gives the tensor.
+        self.known = {name: self.input(it) for name, it in inputs.items()}
+
+    @staticmethod
+    def input(it):
+        return it["dims"], lambda: Tensor(it["dims"], it["data"])
+
+    def whole(self, tree):
+        """The same as of a node, of the whole expression or of what is left of it behind a let."""
+        if not is_let(self.version, tree):
+            return self.node(tree)
+        self.count()
+        need(len(tree) == 4, 10)
+        _, name, first, rest = tree
+        need(isinstance(name, str) and name not in self.known, 11)
+        dims, work = self.node(first)
+        self.known[name] = dims, functools.lru_cache(None)(work)
+        return self.whole(rest)
 
     def node(self, tree):
         """Result dims, and a function that works the tensor out."""
-        self.nodes += 1
-        need(self.nodes <= MOST_NODES, 14)
+        self.count()
         return self.name(tree) if isinstance(tree, str) else self.operation(tree)
 
+    def count(self):
+        self.nodes += 1
+        need(self.nodes <= self.version.most_nodes, 14)
+
     def name(self, name):
-        need(name in self.inputs, 8)
-        it = self.inputs[name]
-        return it["dims"], lambda: Tensor(it["dims"], it["data"])
+        need(name in self.known, 8)
+        return self.known[name]
 
     def operation(self, tree):
         need(isinstance(tree, list) and tree and isinstance(tree[0], str), 9)
@@ -131,25 +153,45 @@ class Walk:
         return dims, lambda: work(dims, *(then() for _, then in below), *arguments)
 
 
+def values_limit(header):
+    """How many values a frame may have behind this header."""
+    try:
+        fields = parse(header)
+    except Fault:
+        fields = None
+    is_request = isinstance(fields, dict) and fields.keys() == FIELDS
+    is_third = is_request and is_whole(fields["version"], 3, 3)
+    return FRAME_VERSIONS[3 if is_third else 1].most_values
+
+
 def read(text, versions=VERSIONS):
     """The dims of a text's answer, the function that works it out, and the walk over its tree."""
-    fields = parse(text)
+    return asked(parse(text), versions)
+
+
+def asked(fields, versions):
+    """The same of a text's JSON value."""
     need(isinstance(fields, dict) and fields.keys() == FIELDS, 3)
     need(is_whole(fields["version"], min(versions), max(versions)), 4)
     version = versions[fields["version"]]
     need(is_whole(fields["workers"], 1, version.most_workers), 5)
-    need(is_whole(fields["block"], 1, MOST_BLOCK), 6)
+    need(is_whole(fields["block"], 1, version.most_places), 6)
     inputs = fields["inputs"]
     need(isinstance(inputs, dict) and all(is_tensor(version, it) for it in inputs.values()), 7)
     walk = Walk(version, inputs)
-    return *walk.node(fields["expr"]), walk
+    return *walk.whole(fields["expr"]), walk
 
 
 def answer(text, most_places, versions=VERSIONS):
     """The line that answers a text, and its status; None for one of more places than are wanted.
     A frame of the same values has the versions of a frame."""
+    return line_of(lambda: read(text, versions), most_places)
+
+
+def line_of(reading, most_places):
+    """The same of a function that reads."""
     try:
-        dims, work, walk = read(text, versions)
+        dims, work, walk = reading()
     except Fault as fault:
         return f"error {fault.number} {FAULTS[fault.number]}\n".encode(), 1
     if walk.places > most_places:

@@ -5,10 +5,7 @@ from typing import NamedTuple
 
 MOST_BYTES = 16_777_216
 MOST_NESTING = 127
-MOST_PLACES = 1_048_576
 MOST_PRODUCTS = 1_073_741_824
-MOST_BLOCK = 1_048_576
-MOST_NODES = 1_000
 MOST_SIZE = 2**63 - 1
 VALUES = range(-(2**63), 2**63)
 WORDS = range(-(2**63), 2**64)
@@ -38,11 +35,18 @@ class Version(NamedTuple):
     number: int
     most_rank: int
     most_workers: int
+    # Of a tensor, and of a block.
+    most_places: int = 1_048_576
+    most_nodes: int = 1_000
+    # Behind a frame's header.
+    most_values: int = 16_777_216
+    has_let: bool = False
 
 
 # Those of a text, and those of a frame.
 VERSIONS = {it.number: it for it in (Version(1, 6, 64), Version(2, 8, 256))}
-FRAME_VERSIONS = {**VERSIONS, 3: Version(3, 8, 256)}
+THIRD = Version(3, 8, 256, 268_435_456, 10_000, 4_294_967_296, has_let=True)
+FRAME_VERSIONS = {**VERSIONS, 3: THIRD}
 
 
 class Fault(Exception):
@@ -68,6 +72,11 @@ def is_list_of(value, is_item):
     return isinstance(value, list) and all(map(is_item, value))
 
 
+def is_let(version, tree):
+    """Whether a whole expression begins with a let, where a version has any."""
+    return version.has_let and isinstance(tree, list) and tree[:1] == ["let"]
+
+
 def is_size(value):
     return is_whole(value, 0, MOST_SIZE)
 
@@ -83,7 +92,7 @@ def is_pair(value):
 def are_legal(version, dims):
     """Whether a tensor of a version may have these dims: a 0 counts as 1."""
     is_rank = len(dims) <= version.most_rank
-    return is_rank and math.prod(max(it, 1) for it in dims) <= MOST_PLACES
+    return is_rank and math.prod(max(it, 1) for it in dims) <= version.most_places
 
 
 # The forms of arguments.

@@ -1,5 +1,5 @@
 """How many values each part of an answer works out anew, counted plainly from the words of
-include/tensor.h on tensor_shared.
+include/tensor.h on tensor_shared: those of lets, and what stands below an outermost operation.
 
 Nothing here is shared with the library.
 """
@@ -8,7 +8,7 @@ import json
 
 from .operations import size
 from .reference import Walk
-from .rules import FRAME_VERSIONS
+from .rules import FRAME_VERSIONS, is_let
 
 COMBINING = frozenset("sum prod maximum minimum all any contract convolve".split())
 MOVEMENTS = frozenset("broadcast slice shuffle reshape chip reverse stride".split())
@@ -55,5 +55,9 @@ def shared(header):
     there is an answer."""
     request = json.loads(header)
     walk = Sizes(FRAME_VERSIONS[request["version"]], request["inputs"])
-    walk.node(request["expr"])
-    return below(walk, request["expr"])
+    walk.whole(request["expr"])
+    count, tree = 0, request["expr"]
+    while is_let(walk.version, tree):
+        _, _, first, tree = tree
+        count += below(walk, first) + walk.size_of[id(first)]
+    return count + below(walk, tree)

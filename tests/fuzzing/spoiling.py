@@ -5,6 +5,8 @@ A new operation that has checks gets a function in BROKEN.
 
 import json
 
+from .rules import FRAME_VERSIONS, is_let
+
 # What a part of a request may be replaced by.
 JUNK = [None, True, False, 0, 1, -1, 2, 3, 6, 7, 8, 9, 63, 64, 65, 127, 255, 256, 257]
 JUNK += [1_048_576, 1_048_577, 2**31, 2**32]
@@ -12,13 +14,18 @@ JUNK += [2**63 - 1, 2**63, 2**64 - 1, 2**64, -(2**63), -(2**63) - 1, 1.0, 0.5, 1
 JUNK += [[], {}, [0], [1], [[]], [0, 0], [[0, 0]], [True], ["a"], ["neg", "a"], ["add", "a"]]
 JUNK += [["div"], {"a": 1}, {"dims": [], "data": [5]}, {"dims": [0], "data": []}]
 JUNK += [{"dims": [1] * rank, "data": [1]} for rank in (7, 8, 9)]
+# What else it may be in version 3.
+WIDEST = [268_435_456, 268_435_457]
+JUNK_OF = {1: JUNK, 2: JUNK, 3: [*JUNK, *WIDEST, ["let"], ["let", "y", "a", "a"]]}
 # A tree of many nodes stands over an input of so few places.
-MOST_NODES, SMALL = 1_000, 8
+SMALL = {1: 8, 2: 8, 3: 2}
 ENDS = [0, 1, 5, 6, 7, 8, 9, 1_024, 1_048_576, 1_048_577, 2**63 - 1, 2**63]
 WORDS = ["neg", "add", "select", "constant", "broadcast", "slice", "shuffle", "reshape", "chip"]
 WORDS += ["reverse", "sum", "prod", "all", "contract", "div", "Add", "stride", "pad", "concat"]
 WORDS += ["convolve", "bit_not", "remainder", "version", "workers", "block", "inputs", "expr"]
 WORDS += ["dims", "data", "x"]
+ENDS_OF = {1: ENDS, 2: ENDS, 3: [*ENDS, *WIDEST]}
+WORDS_OF = {1: WORDS, 2: WORDS, 3: [*WORDS, "let", "y", "y0"]}
 ODD_NUMBERS = ["1.0", "1e0", "-0", "0.0", "1E2", "10e-1", "18446744073709551616", "1e400"]
 ODD_NUMBERS += ["-1e-400", "01", "+1", "1.", ".5", "--1", "1e", "0x10", "NaN", "Infinity"]
 ODD_NUMBERS += ["9" * 400]
@@ -55,17 +62,18 @@ def in_tree(request):
     return [way for way in places_in(request) if way[0] == "expr"]
 
 
-def changed(random, old, whole):
-    """Something in place of a part of a request: a neighbour, another part, or of another kind."""
+def changed(random, old, whole, number):
+    """Something in place of a part of a request of the version of this number: a neighbour, another
+    part, or of another kind."""
     kind = random.random()
     if kind < 0.15 or isinstance(old, bool) or old is None:
-        return random.choice(JUNK)
+        return random.choice(JUNK_OF[number])
     if isinstance(old, int):
         if kind < 0.35:
             return Odd(random.choice(ODD_NUMBERS))
-        return random.choice([old + 1, old - 1, old - 1, -old, old * 2, *ENDS])
+        return random.choice([old + 1, old - 1, old - 1, -old, old * 2, *ENDS_OF[number]])
     if isinstance(old, str) and kind < 0.6:
-        return random.choice([random.choice(WORDS), old + random.choice("ab ")])
+        return random.choice([random.choice(WORDS_OF[number]), old + random.choice("ab ")])
     if isinstance(old, list) and old and kind < 0.6:
         at = random.randrange(len(old))
         return random.choice([old[:at] + old[at + 1 :], old[: at + 1] + old[at:], old[::-1]])
@@ -86,27 +94,30 @@ def is_number(value):
     return type(value) in (int, bool)
 
 
-def with_changes(random, request):
+# How a request is spoilt, by functions of it and of the number of the version that it had.
+
+
+def with_changes(random, request, number):
     """A request of which up to three parts were changed, left out or put in."""
     for _ in range(random.choice([1, 1, 1, 2, 3])):
         way = part_to_change(random, request)
         if not way:
-            return changed(random, request, [request])
+            return changed(random, request, [request], number)
         holder = at_end(request, way[:-1])
         kind = random.random()
         if kind < 0.1:
             del holder[way[-1]]
         elif kind < 0.2 and isinstance(holder, dict):
-            holder[random.choice(WORDS)] = random.choice(JUNK)
+            holder[random.choice(WORDS_OF[number])] = random.choice(JUNK_OF[number])
         else:
             # A copy, since a part may come from inside or outside of itself.
-            holder[way[-1]] = copied(changed(random, holder[way[-1]], request))
+            holder[way[-1]] = copied(changed(random, holder[way[-1]], request, number))
     return request
 
 
-def of_other_version(random, request):
-    """A request that says the other version, at times with workers or a rank at the limits."""
-    request["version"] = 1 if request["version"] == 3 else 3 - request["version"]
+def of_other_version(random, request, number):
+    """A request that says another version, at times with workers or a rank at the limits."""
+    request["version"] = random.choice([1, 2]) if number == 3 else 3 - number
     if random.random() < 0.3:
         request["workers"] = random.choice([64, 65, 256, 257])
     if random.random() < 0.3:
@@ -115,34 +126,39 @@ def of_other_version(random, request):
     return request
 
 
-# A tensor of as many places as there may be, and one of half of them.
-LARGE = ["broadcast", "one", [1_048_576]]
-HALF = ["broadcast", "one", [524_288]]
+def of_ones(count):
+    """A tensor of so many places."""
+    return ["broadcast", "one", [count]]
 
 
-def broken_strides(x, steps):
+# What an operation may be replaced by, by functions of how many places a tensor may have, and of its
+# operands and arguments.
+
+
+def broken_strides(_, x, steps):
     return [["stride", x, it] for it in ([*steps, 1], steps[1:], [0] * len(steps), [*steps[1:], 0])]
 
 
-def broken_pads(x, pairs):
+def broken_pads(_, x, pairs):
     far, past = [[it, 2**63 - 1] for it, _ in pairs], [[2**63, it] for _, it in pairs]
     broken = ([*pairs, [0, 0]], pairs[1:], far, past, [it[:1] for it in pairs])
     return [["pad", x, it] for it in broken]
 
 
-def broken_contractions(x, y, pairs):
+def broken_contractions(_, x, y, pairs):
     past = [[2**63, it] for _, it in pairs], [[it, 2**63] for it, _ in pairs]
     return [["contract", x, y, it] for it in (pairs * 2, pairs[1:], [*pairs, [8, 0]], *past)]
 
 
-def broken_concats(x, y, axis):
+def broken_concats(most, x, y, axis):
     broken = [["concat", x, ["sum", y, [0]], axis], ["concat", ["sum", x, [0]], y, axis]]
     broken += [["concat", x, ["sum", y, [0]], 8]]
     broken += [["concat", x, y, it] for it in (axis + 1, max(axis - 1, 0), 8, 2**63 - 1)]
-    return [*broken, ["concat", LARGE, LARGE, 0], ["concat", LARGE, HALF, 1]]
+    large, half = of_ones(most), of_ones(most // 2)
+    return [*broken, ["concat", large, large, 0], ["concat", large, half, 1]]
 
 
-def broken_convolutions(x, kernel, axes):
+def broken_convolutions(most, x, kernel, axes):
     none, other_axes = [0] * len(axes), [axes[1:], axes * 2, [*axes, 8], [7, *axes[1:]]]
     # Only the last dimension of a kernel is 0, or too long.
     one_zero, one_long = [1] * len(axes[1:]) + [0], [1] * len(axes[1:]) + [2_000]
@@ -150,10 +166,11 @@ def broken_convolutions(x, kernel, axes):
     other_kernels += [["slice", kernel, none, one_zero], ["broadcast", kernel, one_long]]
     broken = [["convolve", x, kernel, it] for it in other_axes]
     broken += [["convolve", x, it, axes] for it in other_kernels]
-    return [*broken, ["convolve", kernel, x, axes], ["convolve", LARGE, HALF, [0]]]
+    many = ["convolve", of_ones(most), of_ones(most // 2), [0]]
+    return [*broken, ["convolve", kernel, x, axes], many]
 
 
-# By name: what an operation may be replaced by, most of which fails one of its checks.
+# By name; most of what they give fails one of the operation's checks.
 BROKEN = {"stride": broken_strides, "pad": broken_pads, "contract": broken_contractions}
 BROKEN.update({"concat": broken_concats, "convolve": broken_convolutions})
 
@@ -162,23 +179,63 @@ def has_checks_to_break(node):
     return isinstance(node, list) and node and isinstance(node[0], str) and node[0] in BROKEN
 
 
-def with_broken_check(random, request):
+def with_broken_check(random, request, number):
     """A request of which one of these operations was replaced so, if it has any."""
     ways = [way for way in in_tree(request) if has_checks_to_break(at_end(request, way))]
     if not ways:
-        return with_changes(random, request)
+        return with_changes(random, request, number)
     way = random.choice(ways)
     holder = at_end(request, way[:-1])
     name, *parts = holder[way[-1]]
-    holder[way[-1]] = copied(random.choice(BROKEN[name](*parts)))
+    most = FRAME_VERSIONS[number].most_places
+    holder[way[-1]] = copied(random.choice(BROKEN[name](most, *parts)))
     request["inputs"].setdefault("one", {"dims": [1], "data": [1]})
+    return request
+
+
+def broken_lets(random, let, names):
+    """What a let may be replaced by, most of which has a fault; `names` are those that are there."""
+    word, name, first, rest = let
+    other = f"{name}y"
+    yield [word, random.choice([*names, name]), first, [word, name, first, rest]]
+    yield [word, random.choice([*names, other]), first, rest]
+    yield [word, random.choice(JUNK), first, rest]
+    yield random.choice([let[:1], let[:2], let[:3], [*let, rest], [word, first, rest]])
+    # Where none may stand: in its own first part, as an operand, behind an operation's name.
+    yield [word, name, [word, other, first, other], rest]
+    yield random.choice([["neg", let], ["add", let, let], [[word], name, first, rest]])
+    yield [word, name, first, ["neg", [word, other, rest, other]]]
+    # Its own name in its first part, both parts turned round, or no let for the name.
+    yield [word, name, ["neg", name], rest]
+    yield [word, name, rest, first]
+    yield rest
+
+
+def lets_in(request, number):
+    """The ways down to the lets in front that have all their parts."""
+    way = ("expr",)
+    while is_let(FRAME_VERSIONS[number], it := at_end(request, way)) and len(it) == 4:
+        yield way
+        way = (*way, 3)
+
+
+def with_broken_let(random, request, number):
+    """A request of which a let in front was replaced so, one that is put there if it has none."""
+    inputs = list(request["inputs"])
+    if not list(lets_in(request, number)):
+        request["expr"] = ["let", "y0", random.choice([*inputs, "a"]), request["expr"]]
+    ways = list(lets_in(request, number))
+    way = random.choice(ways)
+    names = inputs + [at_end(request, it)[1] for it in ways if it != way]
+    broken = list(broken_lets(random, at_end(request, way), names))
+    at_end(request, way[:-1])[way[-1]] = copied(random.choice(broken))
     return request
 
 
 def nodes_in(tree):
     """About how many nodes a tree has: names in lists of arguments count too."""
     if isinstance(tree, list) and tree and isinstance(tree[0], str):
-        return 1 + sum(map(nodes_in, tree[1:]))
+        return 1 + sum(map(nodes_in, tree[1 + (tree[0] == "let") :]))
     return int(isinstance(tree, str))
 
 
@@ -192,15 +249,16 @@ def grown(name, count):
     return ["add", grown(name, half), grown(name, count - 1 - half)]
 
 
-def with_many_nodes(random, request):
+def with_many_nodes(random, request, number):
     """A request whose expression has about as many nodes as it may, by a tree in a leaf's place."""
     inputs = request["inputs"]
-    small = {name for name, it in inputs.items() if len(it["data"]) <= SMALL}
+    small = {name for name, it in inputs.items() if len(it["data"]) <= SMALL[number]}
     leaves = [way for way in in_tree(request) if way[-1] != 0 and is_leaf(request, way, small)]
     if not leaves:
-        return with_changes(random, request)
+        return with_changes(random, request, number)
     way = random.choice(leaves)
-    count = random.randint(-2, 2) + MOST_NODES - nodes_in(request["expr"]) + 1
+    most = FRAME_VERSIONS[number].most_nodes
+    count = random.randint(-2, 2) + most - nodes_in(request["expr"]) + 1
     at_end(request, way[:-1])[way[-1]] = grown(at_end(request, way), count)
     return request
 
@@ -214,13 +272,17 @@ def is_leaf(request, way, names):
 SPOILERS = [[with_changes]] * 6 + [[of_other_version], [of_other_version, with_changes]]
 SPOILERS += [[with_broken_check]] * 3 + [[with_broken_check, with_changes]]
 SPOILERS = SPOILERS * 2 + [[with_many_nodes]]
+WITH_LETS = [[with_broken_let]] * 6 + [[with_broken_let, with_broken_let]]
+WITH_LETS += [[with_broken_let, with_changes], [with_broken_let, of_other_version]]
+SPOILERS_OF = {1: SPOILERS, 2: SPOILERS, 3: [*SPOILERS, *WITH_LETS]}
 
 
 def nearly(random, request):
     """A request that is nearly valid."""
     request = json.loads(json.dumps(request))
-    for spoil in random.choice(SPOILERS):
-        request = spoil(random, request)
+    number = request["version"]
+    for spoil in random.choice(SPOILERS_OF[number]):
+        request = spoil(random, request, number)
     return request
 
 
