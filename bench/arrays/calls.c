@@ -15,7 +15,7 @@
 #include "rounds.h"
 #include "tensor.h"
 
-enum { LEAST = 100000, MOST_THREADS = 64, MOST_ARRAYS = 2 };
+enum { LEAST = 100000, MOST_THREADS = 64, MOST_ARRAYS = 2, MOST_VALUES = 1048576 };
 
 enum way { WHOLE, PARTS, PREPARED, CUT };
 
@@ -39,7 +39,7 @@ static int64_t work_out(size_t part)
         arrays[it] = (struct tensor_array){values + (it + (way == CUT) * part) * length, length};
     switch (way) {
     case WHOLE:
-        return tensor_evaluate(header, header_length, values, places, out, TENSOR_MOST_VALUES,
+        return tensor_evaluate(header, header_length, values, places, out, MOST_VALUES,
                                (uint64_t[TENSOR_DIMS_ROOM]){0}, TENSOR_DIMS_ROOM);
     case PARTS:
         return tensor_evaluate_part(header, header_length, values, places, first, out + first,
@@ -92,11 +92,11 @@ static int prepare(char **words)
     header = (const uint8_t *)words[2], header_length = strlen(words[2]);
     places = strtoull(words[3], NULL, 10), tensors = strtoull(words[4], NULL, 10);
     threads = strtoull(words[6], NULL, 10), size = strtoull(words[7], NULL, 10);
-    values = malloc(8 * places + 8), out = malloc(8 * TENSOR_MOST_VALUES);
+    values = malloc(8 * places + 8), out = malloc(8 * MOST_VALUES);
     if (!values || !out || threads < 1 || threads > MOST_THREADS || tensors > MOST_ARRAYS)
         return 0;
     fill(values, places);
-    memset(out, 0, 8 * TENSOR_MOST_VALUES);
+    memset(out, 0, 8 * MOST_VALUES);
     if (way < PREPARED)
         return 1;
     size_t count = way == CUT ? places / threads : places;
