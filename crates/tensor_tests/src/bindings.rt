@@ -39,8 +39,10 @@ fn values_behind_headers(rt: HostRuntime) -> Result<(), Fail> {
 fn inputs_lent(rt: HostRuntime) -> Result<(), Fail> {
     let request = read_frame(rt.alloc(), NAMED, &[3, -1])?;
     let mut lent = request.inputs.lent(rt.alloc())?.widened();
+    assert_eq!(rt; lent.len(), 1);
     expect(&rt, "lent", &lent.get(0).values(), &[3, -1].as_slice());
     lent.free(0);
+    assert_eq!(rt; lent.len(), 1);
     expect(&rt, "freed", &lent.get(0).values(), &[0].as_slice());
     Ok(())
 }
