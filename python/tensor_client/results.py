@@ -9,6 +9,7 @@ from .bindings import bindings_of
 from .expressions import Expr
 from .length import MOST_NODES
 from .memory import INT64, Held, memory_for, overlap
+from .mirrored import lie_mirrored, mirrored, reversed_axes
 from .requests import dims_text
 from .rules import Dims, product
 from .streams import Place
@@ -19,7 +20,7 @@ from .values import numpy
 class Result:
     """The place of an answer's values. They are `turned` where they stand in numpy's common order,
     the last axis fastest: then the expression is asked for with its axes in reverse order, which
-    gives them so."""
+    gives them so. Where inputs stand in that order it is asked for over them as they lie."""
 
     def __init__(
         self,
@@ -29,6 +30,7 @@ class Result:
         most: int = MOST_NODES,
     ) -> None:
         self.out: Any = None if out is None else checked_out(out)
+        self.most = most
         if turned is not None:
             self.turned = turned
             return
@@ -38,10 +40,10 @@ class Result:
 
     def asked(self, expr: Expr) -> Expr:
         """What is asked for."""
-        if not self.turned:
-            return expr
-        dims = (expr.dims or ())[::-1]
-        return Expr("shuffle", [expr], [list(range(len(dims)))[::-1]], dims, expr.truth)
+        found = mirrored(expr) if lie_mirrored(expr) else None
+        if found is None or not lies_as_it_is(found, self.most):
+            return reversed_axes(expr) if self.turned else expr
+        return found if self.turned else reversed_axes(found)
 
     def check(self, dims: Dims) -> None:
         """Sees that an answer of these dims is the array's."""
@@ -74,7 +76,7 @@ class Result:
 
     def of_frame(self, found: Tensor, truth: bool) -> Tensor:
         """The tensor of a frame that was answered."""
-        if self.out is None:
+        if self.out is None and not self.turned:
             found.truth = truth
             return found
         self.check(found.dims or ())
@@ -106,16 +108,7 @@ def lies_as_it_is(expr: Expr, most: int) -> bool:
 def are_turned(expr: Expr) -> bool:
     """Whether an answer is best given in numpy's common order: some inputs stand so, and none of
     several axes and many values stands otherwise."""
-    found, left = False, [expr]
-    while left:
-        it = left.pop()
-        left += it.operands
-        if isinstance(it, Tensor):
-            if it.turned:
-                found = True
-            elif len(it.dims or ()) > 1 and it.is_large:
-                return False
-    return found and expr.dims is not None and len(expr.dims) > 1
+    return len(expr.dims or ()) > 1 and lie_mirrored(expr)
 
 
 def written(found: Tensor, expr: Expr, out: Any) -> Tensor:

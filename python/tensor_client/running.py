@@ -12,9 +12,11 @@ from .faults import Fault, ProgramFailed, TooLarge
 from .finding import FRAMES, LINES, ONE, built, found, no_library, program_of
 from .length import FIRST_NODES, most_nodes, too_many_nodes
 from .library import Library, library_named, library_of
+from .memory import FEW
 from .processes import Connection, Process, answered_once
 from .requests import Settings, answer, framed, header_answer, request
 from .results import Result, written
+from .rules import product
 from .streams import Deadline, Stream, frame_asked, line_asked
 from .tensors import Tensor, an_expr
 
@@ -203,8 +205,9 @@ class Session:
             with self.turn, self.stream:
                 line = line_asked(self.stream, text, Deadline(seconds))
             return written(answer_of_text(line, expr), expr, out)
-        # Without an array the values stand column-major, as they come.
-        result = Result(expr, out, False if out is None else None, most_nodes(settings.version))
+        # Few values are a list, which stands column-major.
+        is_list = out is None and product(expr.dims or ()) <= FEW
+        result = Result(expr, out, False if is_list else None, most_nodes(settings.version))
         asked = framed(result.asked(expr), settings)
         place = result.place_of_frame(asked.held)
         with self.turn, self.stream:
