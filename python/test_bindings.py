@@ -8,7 +8,7 @@ import unittest.mock
 
 import tensor_client as client
 from tensor_client import Expr, compile, concat, placeholder, tensor, threads, where
-from tensor_client.bindings import LEAST_NODES, MOST_BOUND, bindings_of
+from tensor_client.rewriting.bindings import LEAST_NODES, MOST_BOUND, bindings_of
 from tensor_client.length import MOST_NODES
 from tensor_client.library import library_of
 from tensor_client.requests import MOST_NESTED, Settings, framed, nested

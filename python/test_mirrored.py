@@ -7,7 +7,7 @@ from array import array
 
 import tensor_client as client
 from tensor_client import tensor
-from tensor_client.mirrored import MIRRORS, lie_mirrored, mirrored, reversed_axes
+from tensor_client.rewriting.mirrored import MIRRORS, lie_mirrored, mirrored, reversed_axes
 from tensor_client.results import Result
 from tensor_client.tensors import Tensor
 from asking import OneWay, each_way

@@ -9,15 +9,15 @@ import inspect
 import struct
 from typing import Any, Callable, Dict, Iterable, List, Sequence, Tuple
 
-from .bindings import with_others
 from .explaining import explain
 from .expressions import Expr
 from .faults import Fault, ShapeMismatch
-from .library import Library, arrays_of, library_of
 from .length import MOST_NODES
+from .library import Library, arrays_of, library_of
 from .memory import INT64, VALUE, as_memory, memory_for, numbers, place_of
 from .requests import Settings, framed
 from .results import Result, checked_out, lies_as_it_is, memory_of_out
+from .rewriting.bindings import with_others
 from .rules import Dims, product
 from .running import run
 from .tensors import Placeholder, Tensor, an_expr, placeholder, tensor

@@ -5,12 +5,12 @@ from __future__ import annotations
 import re
 import subprocess
 
-from .bindings import bindings_of
 from .expressions import Expr
 from .faults import Fault, NotJson, ProgramFailed, TooLarge
 from .finding import EXPLAIN, built, environment
 from .length import most_nodes, too_many_nodes
 from .requests import DEEPEST, Settings, fault_of, request
+from .rewriting.bindings import bindings_of
 
 SECONDS = 10
 # What it says behind the fault: the place, a pointer into the text, and the reason.

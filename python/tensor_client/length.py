@@ -4,8 +4,8 @@ from __future__ import annotations
 
 from typing import Dict, Optional, Tuple
 
-from .bindings import MOST_BOUND, bindings_of, in_order
 from .expressions import MANY, Expr
+from .rewriting.bindings import MOST_BOUND, bindings_of, in_order
 
 # So many nodes an expression may have in versions 1 and 2, and in version 3; so many bytes a text, or
 # a frame's header; and so many values a frame, likewise.

@@ -9,13 +9,13 @@ import os
 from typing import Any, Dict, List, Optional, Tuple
 
 from . import finding
-from .bindings import bindings_of, with_others
 from .expressions import Expr
 from .faults import Fault, ProgramFailed, fault_made
 from .length import most_nodes
 from .memory import LARGE, VALUE, Bytes, as_memory, joined, place_of
 from .requests import Framed, Settings, framed
 from .results import Result
+from .rewriting.bindings import bindings_of, with_others
 from .rules import MOST_ELEMENTS, Dims, product
 from .tensors import Tensor
 from .threads import FEWEST, each, shares

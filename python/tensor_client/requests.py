@@ -18,7 +18,6 @@ from typing import (
     Union,
 )
 
-from .bindings import FEWEST, Bindings, bindings_of
 from .expressions import Expr
 from .faults import BadVersion, Fault, TooLong, fault_made
 from .length import (
@@ -32,6 +31,7 @@ from .length import (
     too_many_values,
 )
 from .memory import Held
+from .rewriting.bindings import FEWEST, Bindings, bindings_of
 from .rules import FIRST_ELEMENTS, MOST_ELEMENTS, Dims, places
 from .tensors import Placeholder, Tensor, an_expr
 from .values import whole

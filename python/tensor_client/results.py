@@ -5,12 +5,12 @@ from __future__ import annotations
 
 from typing import Any, Optional, Sequence
 
-from .bindings import bindings_of
 from .expressions import Expr
 from .length import MOST_NODES
 from .memory import INT64, Held, memory_for, overlap
-from .mirrored import lie_mirrored, mirrored, reversed_axes
 from .requests import dims_text
+from .rewriting.bindings import bindings_of
+from .rewriting.mirrored import lie_mirrored, mirrored, reversed_axes
 from .rules import Dims, product
 from .streams import Place
 from .tensors import Tensor

@@ -5,10 +5,10 @@ from __future__ import annotations
 
 from typing import Any, Callable, Dict, List, Optional, Sequence
 
+from ..expressions import Expr
+from ..rules import Dims
+from ..tensors import Tensor
 from .bindings import in_order
-from .expressions import Expr
-from .rules import Dims
-from .tensors import Tensor
 
 # Operations value by value, which are the same whatever the order of the axes.
 VALUEWISE = frozenset(

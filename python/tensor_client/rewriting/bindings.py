@@ -5,8 +5,8 @@ from __future__ import annotations
 
 from typing import Dict, List, Mapping, NamedTuple, Set, Tuple
 
-from .expressions import Expr
-from .rules import product
+from ..expressions import Expr
+from ..rules import product
 
 # What combines values into others: it is worked out as a list, wherever it stands.
 COMBINING = frozenset("sum prod maximum minimum all any contract convolve".split())
