@@ -235,6 +235,15 @@ class Threads(unittest.TestCase):
             found = shares(x + 1, size, workers, lambda it=shared: it)
             self.assertEqual(len(found), count)
             self.assertEqual([it for part in found for it in part], list(range(size)))
+        # Of a reduction the values count that it combines.
+        rows = tensor([0] * LEAST * 3, dims=(LEAST, 3))
+        for expr, size, shared, count in (
+            (rows.sum(0), 3, 0, 3),
+            (rows.sum(1), LEAST, 0, 3),
+            (rows.sum(1), LEAST, 2 * LEAST, 1),
+            (rows.sum(), 1, 0, 1),
+        ):
+            self.assertEqual(len(shares(expr, size, 8, lambda it=shared: it)), count)
 
     def test_sums_of_products(self):
         x = tensor(numpy.ones((6, 4), int) if numpy else [[1] * 4] * 6)
@@ -295,6 +304,19 @@ class Threads(unittest.TestCase):
         with unittest.mock.patch.object(threads, "POOL", None):
             threads.each(lambda it: seen.add(threading.get_ident()) or it, [range(1)] * 3)
         self.assertIn(threading.get_ident(), seen)
+
+    @unittest.skipIf(numpy is None, "numpy isn't installed")
+    def test_shares_of_a_reduction(self):
+        array = numpy.arange(1, 5_004) * 7 % 1_001 - 500
+        for ask in Memory.ways(self):
+            with unittest.mock.patch("tensor_client.library.FEWEST", 1_000):
+                for held in array, array[:5_000].reshape(50, 100), array[array != 0], array * 0:
+                    for name in "sum prod max min all any".split():
+                        expr, wanted = getattr(tensor(held), name)(), getattr(held, name)()
+                        for workers in (1, 3, 8):
+                            found = ask(expr, workers=workers)
+                            self.assertEqual((found.values, found.truth), ([wanted], expr.truth))
+                        self.assertEqual(ask(expr, workers=2, version=2).values, [wanted])
 
     def test_a_part_that_fails(self):
         done = []

@@ -12,13 +12,14 @@ from . import finding
 from .expressions import Expr
 from .faults import Fault, ProgramFailed, fault_made
 from .length import most_nodes
-from .memory import LARGE, VALUE, Bytes, as_memory, joined, place_of
+from .memory import LARGE, VALUE, Bytes, Held, as_memory, joined, place_of
 from .requests import Framed, Settings, framed
 from .results import Result
 from .rewriting.bindings import bindings_of, with_others
+from .rewriting.mirrored import REDUCTIONS
 from .rules import MOST_ELEMENTS, Dims, product
 from .tensors import Tensor
-from .threads import FEWEST, each, shares
+from .threads import FEWEST, cut, each, shares
 
 # As include/tensor.h has them.
 NO_ROOM, DIMS_ROOM, NAME_ROOM = -100, 9, 16
@@ -79,6 +80,9 @@ class Library:
             if found is not None:
                 found.truth = expr.truth
                 return found
+        memory = reduced_memory(expr, settings)
+        if memory is not None and out is None:
+            return self.reduced(expr, memory, settings)
         result = Result(expr, out, most=most_nodes(settings.version))
         expr = result.asked(expr)
         if settings.workers > 1:
@@ -99,6 +103,22 @@ class Library:
         places = shares(expr, len(values), settings.workers, shared)
         self.fill(by_header, arrays, len(parts), values, places)
         return result.tensor(values, dims, expr.truth)
+
+    def reduced(self, expr: Expr, memory: memoryview, settings: Settings) -> Tensor:
+        """The tensor of a reduction of this memory to one value: each thread reduces a share of it,
+        and what they have is reduced again."""
+        places, alone = cut(len(memory), settings.workers), settings._replace(workers=1)
+        found: Dict[int, int] = {}
+
+        def over(values: Held) -> int:
+            part = Tensor(values, (len(values),))
+            return self.run(Expr(expr.operation, [part], [[0]], ()), alone).values[0]
+
+        def reduce(share: range) -> None:
+            found[share.start] = over(memory[share.start : share.stop])
+
+        each(reduce, places)
+        return Tensor([over([found[it.start] for it in places])], (), expr.truth)
 
     def with_parts(self, expr: Expr, settings: Settings) -> Expr:
         """An expression with the tensors of those parts that a request would bind, where some have
@@ -186,6 +206,16 @@ class Library:
         name = NAME()
         length = self.fault_name(number, name, NAME_ROOM)
         return fault_made(number, bytes(name[:length]).decode())
+
+
+def reduced_memory(expr: Expr, settings: Settings) -> Optional[memoryview]:
+    """The memory of an input that an expression reduces to one value, if several workers are worth
+    it. Version 3 has tensors of any dims; where another is asked for, the whole is a request."""
+    if expr.operation not in REDUCTIONS or expr.dims != () or settings.version not in (None, 3):
+        return None
+    own = getattr(expr.operands[0], "own", None)
+    is_worth = settings.workers > 1 and isinstance(own, memoryview) and len(own) >= FEWEST
+    return own if is_worth else None
 
 
 OPENED: Dict[str, Library] = {}

@@ -8,6 +8,7 @@ from concurrent.futures import ThreadPoolExecutor
 from typing import Callable, List, Optional
 
 from .expressions import Expr
+from .rewriting.mirrored import REDUCTIONS
 from .rules import product
 
 # So many values a part has at least: a thread is handed one in some 50 microseconds; so many an
@@ -26,11 +27,32 @@ def shares(expr: Expr, size: int, workers: int, shared: Callable[[], int]) -> Li
     >>> shares(tensor([1, 2]) + 1, 2, 4, lambda: 0)
     [range(0, 2)]
     """
-    count = max(min(workers, size // LEAST), 1)
+    values = size * combined(expr)
+    count = max(min(workers, values // LEAST, size), 1)
     if count > 1:
-        count = max(min(count, size * products(expr) // max(shared(), 1)), 1)
+        count = max(min(count, values * products(expr) // max(shared(), 1)), 1)
+    return cut(size, count)
+
+
+def cut(size: int, count: int) -> List[range]:
+    """So many places in so many shares, one behind the other.
+
+    >>> cut(5, 2)
+    [range(0, 2), range(2, 5)]
+    """
     ends = [size * it // count for it in range(count + 1)]
     return [range(*it) for it in zip(ends, ends[1:])]
+
+
+def combined(expr: Expr) -> int:
+    """How many values a value of a reduction is made of; 1 of others.
+
+    >>> combined(tensor([[1, 2, 3], [4, 5, 6]]).sum(axis=1)), combined(tensor([1, 2]) * 3)
+    (3, 1)
+    """
+    if expr.operation not in REDUCTIONS or expr.dims is None:
+        return 1
+    return max(product(expr.operands[0].dims or ()) // max(product(expr.dims), 1), 1)
 
 
 def products(expr: Expr) -> int:
