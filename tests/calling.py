@@ -12,6 +12,8 @@ DIMS_ROOM, NO_ROOM, NO_PLAN, SPARE, SENTINEL = 9, -100, -101, 3, 77
 CALLS = ("evaluate", "evaluate_part", "evaluate_arrays", "shared", "prepare", "run", "dims")
 CALLS += ("dims_of_arrays", "fault_name")
 TWO = '"a":{"dims":[2]},"b":{"dims":[2]}'
+# How many numbers the plan of an operation on these has, as include/tensor.h says.
+NUMBERS = 16
 ENDS = [LEAST, GREATEST, -1, 1]
 
 
@@ -131,9 +133,9 @@ def part_calls(library):
 def plan_calls(library):
     """Calls that prepare a header, and that run a plan and what is none."""
     two, long = bytes_of(header(TWO, '["sub","a","b"]')), (ctypes.c_uint8 * (MOST + 1))()
-    plan = (ctypes.c_uint64 * 16)(*[SENTINEL] * 16)
+    plan = (ctypes.c_uint64 * (NUMBERS + 1))(*[SENTINEL] * (NUMBERS + 1))
     count = library.call("tensor_prepare", two, 4, plan)
-    yield "a plan", (count, plan[count:]), (15, [SENTINEL])
+    yield "a plan", (count, plan[count:]), (NUMBERS, [SENTINEL])
     for name, text, values, wanted in (
         ("of a fault", bytes_of(header(TWO, '["div"]')), 4, -9),
         ("of too few values", two, 3, -7),
@@ -141,13 +143,13 @@ def plan_calls(library):
         ("of too many values", two, MOST + 1, -1),
         ("of as many as can be said", two, 2**64 - 1, -1),
     ):
-        left = (ctypes.c_uint64 * 16)(*[SENTINEL] * 16)
+        left = (ctypes.c_uint64 * NUMBERS)(*[SENTINEL] * NUMBERS)
         got = (library.call("tensor_prepare", text, values, left), list(left))
-        yield f"a plan {name}", got, (wanted, [SENTINEL] * 16)
-    little = (ctypes.c_uint64 * 14)(*[SENTINEL] * 14)
+        yield f"a plan {name}", got, (wanted, [SENTINEL] * NUMBERS)
+    little = (ctypes.c_uint64 * (NUMBERS - 1))(*[SENTINEL] * (NUMBERS - 1))
     got = (library.call("tensor_prepare", two, 4, little), list(little))
-    yield "a plan with little room", got, (NO_ROOM, [SENTINEL] * 14)
-    whole = (ctypes.c_uint64 * 15)(*plan[:15])
+    yield "a plan with little room", got, (NO_ROOM, [SENTINEL] * (NUMBERS - 1))
+    whole = (ctypes.c_uint64 * NUMBERS)(*plan[:NUMBERS])
     for name, numbers, arrays, first, wanted in (
         ("of two", whole, arrays_of([5, 7], [2, 3]), 0, (2, [3, 4])),
         ("of two from the second value on", whole, arrays_of([5, 7], [2, 3]), 1, (1, [4])),
@@ -157,7 +159,7 @@ def plan_calls(library):
         ("one too many", whole, arrays_of([5, 7], [2, 3], []), 0, (-7, [])),
         ("with a number behind it", plan, arrays_of([5, 7], [2, 3]), 0, (NO_PLAN, [])),
         ("of no numbers", (ctypes.c_uint64 * 0)(), arrays_of(), 0, (NO_PLAN, [])),
-        ("of zeroes", (ctypes.c_uint64 * 15)(), arrays_of([5, 7], [2, 3]), 0, (NO_PLAN, [])),
+        ("of zeroes", (ctypes.c_uint64 * NUMBERS)(), arrays_of([5, 7], [2, 3]), 0, (NO_PLAN, [])),
     ):
         out = (ctypes.c_int64 * 3)(*[SENTINEL] * 3)
         result = library.call("tensor_run", numbers, arrays, first, out)
