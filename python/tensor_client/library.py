@@ -12,7 +12,7 @@ from . import finding
 from .expressions import Expr
 from .faults import Fault, ProgramFailed, fault_made
 from .length import most_nodes
-from .memory import LARGE, VALUE, Bytes, Held, as_memory, joined, place_of
+from .memory import LARGE, VALUE, Bytes, as_memory, joined, memory_for, place_of
 from .requests import Framed, Settings, framed
 from .results import Result
 from .rewriting.bindings import bindings_of, with_others
@@ -74,9 +74,9 @@ class Library:
     def run(self, expr: Expr, settings: Settings, out: Any = None) -> Tensor:
         """The tensor of an expression's values, or its fault."""
         few = LARGE if out is not None or expr.dims is None else product(expr.dims)
-        if few < LARGE:
-            asked = framed(expr, settings)
-            found = self.answered_at_once(asked, few) if asked.size < LARGE else None
+        asked = framed(expr, settings) if few < LARGE else None
+        if asked is not None and asked.size < LARGE:
+            found = self.answered_at_once(asked, few)
             if found is not None:
                 found.truth = expr.truth
                 return found
@@ -84,41 +84,48 @@ class Library:
         if memory is not None and out is None:
             return self.reduced(expr, memory, settings)
         result = Result(expr, out, most=most_nodes(settings.version))
-        expr = result.asked(expr)
+        wanted = result.asked(expr)
         if settings.workers > 1:
-            expr = self.with_parts(expr, settings)
-        asked = framed(expr, settings)
+            wanted = self.with_parts(wanted, settings)
+        if asked is None or wanted is not expr:
+            asked = framed(wanted, settings)
+        return self.written(asked, wanted, settings, result)
+
+    def written(self, asked: Framed, expr: Expr, settings: Settings, result: Result) -> Tensor:
+        """The tensor of an expression that is asked for by this frame, where it is wanted."""
         parts = [as_memory(it) for it in asked.held]
         arrays, dims = arrays_of(parts), expr.dims
-        # Where they are known, and of many values, a fault is told by the call that is to write
-        # these.
-        if dims is None or not LARGE <= product(dims) <= MOST_ELEMENTS:
+        # Where they are known, a fault is told by the call that is to write the values.
+        if dims is None or product(dims) > MOST_ELEMENTS:
             dims = self.dims_over(asked.header, arrays, len(parts))
         values = result.place(dims, asked.held)
-        by_header = self.evaluate_arrays, asked.header
 
         def shared() -> int:
             return self.shared(asked, arrays)
 
         places = shares(expr, len(values), settings.workers, shared)
-        self.fill(by_header, arrays, len(parts), values, places)
+        self.fill((self.evaluate_arrays, asked.header), arrays, len(parts), values, places)
         return result.tensor(values, dims, expr.truth)
 
     def reduced(self, expr: Expr, memory: memoryview, settings: Settings) -> Tensor:
         """The tensor of a reduction of this memory to one value: each thread reduces a share of it,
         and what they have is reduced again."""
         places, alone = cut(len(memory), settings.workers), settings._replace(workers=1)
-        found: Dict[int, int] = {}
+        room = memory_for(len(places) + 1)
 
-        def over(values: Held) -> int:
+        def reduce(values: memoryview, at: int) -> None:
             part = Tensor(values, (len(values),))
-            return self.run(Expr(expr.operation, [part], [[0]], ()), alone).values[0]
+            asked = framed(Expr(expr.operation, [part], [[0]], ()), alone)
+            header, arrays = (self.evaluate_arrays, asked.header), arrays_of([as_memory(values)])
+            self.fill(header, arrays, 1, room[at : at + 1], [range(1)])
 
-        def reduce(share: range) -> None:
-            found[share.start] = over(memory[share.start : share.stop])
+        def reduce_share(at: range) -> None:
+            share = places[at.start]
+            reduce(memory[share.start : share.stop], at.start)
 
-        each(reduce, places)
-        return Tensor([over([found[it.start] for it in places])], (), expr.truth)
+        each(reduce_share, cut(len(places), len(places)))
+        reduce(room[:-1], len(places))
+        return Tensor(room[-1:].tolist(), (), expr.truth)
 
     def with_parts(self, expr: Expr, settings: Settings) -> Expr:
         """An expression with the tensors of those parts that a request would bind, where some have
