@@ -95,8 +95,9 @@ class Library:
         """The tensor of an expression that is asked for by this frame, where it is wanted."""
         parts = [as_memory(it) for it in asked.held]
         arrays, dims = arrays_of(parts), expr.dims
-        # Where they are known, a fault is told by the call that is to write the values.
-        if dims is None or product(dims) > MOST_ELEMENTS:
+        # Where they are known, and of many values, a fault is told by the call that is to write
+        # these.
+        if dims is None or not LARGE <= product(dims) <= MOST_ELEMENTS:
             dims = self.dims_over(asked.header, arrays, len(parts))
         values = result.place(dims, asked.held)
 
