@@ -102,13 +102,14 @@ def with_changes(random, request, number):
     for _ in range(random.choice([1, 1, 1, 2, 3])):
         way = part_to_change(random, request)
         if not way:
-            return changed(random, request, [request], number)
+            return copied(changed(random, request, [request], number))
         holder = at_end(request, way[:-1])
         kind = random.random()
         if kind < 0.1:
             del holder[way[-1]]
         elif kind < 0.2 and isinstance(holder, dict):
-            holder[random.choice(WORDS_OF[number])] = random.choice(JUNK_OF[number])
+            # A copy, since another change may come inside of it.
+            holder[random.choice(WORDS_OF[number])] = copied(random.choice(JUNK_OF[number]))
         else:
             # A copy, since a part may come from inside or outside of itself.
             holder[way[-1]] = copied(changed(random, holder[way[-1]], request, number))
