@@ -1,22 +1,9 @@
 // Times Eigen's evaluation of arrays for bench/arrays/run: eigen WHAT WORKERS ROUNDS, on arrays that
 // lie in memory already, into one that is kept: nothing is copied. WHAT is one of the names below.
 
-#define EIGEN_USE_THREADS
-#include <cstring>
-#include <string>
-#include <unsupported/Eigen/CXX11/Tensor>
-#include <unsupported/Eigen/CXX11/ThreadPool>
-#include <vector>
-
-#include "rounds.h"
+#include "views.h"
 
 namespace {
-
-using Index = Eigen::Index;
-template <int RANK>
-using Tensor = Eigen::Tensor<std::int64_t, RANK, Eigen::ColMajor, Index>;
-template <int RANK>
-using View = Eigen::TensorMap<Tensor<RANK>>;
 
 constexpr Index MANY = 1 << 20, SIDE = 512;
 
@@ -41,31 +28,14 @@ Index evaluate(const std::string& what, std::int64_t* a, std::int64_t* out, cons
   std::exit(2);
 }
 
-// The rounds on a device, after one that isn't counted.
-template <typename Device>
-void timed(const std::string& what, int rounds, const Device& device) {
-  std::vector<std::int64_t> values(2 * MANY), out(MANY);
-  std::vector<double> times(rounds);
-  fill(values.data(), values.size());
-  Index count = 0;
-  for (int round = -1; round < rounds; round++) {
-    const std::int64_t start = now();
-    count = evaluate(what, values.data(), out.data(), device);
-    if (round >= 0) times[round] = static_cast<double>(now() - start);
-  }
-  report(times.data(), rounds, out.data(), count);
-}
-
 }  // namespace
 
 int main(int count, char** words) {
   if (count != 4) return 2;
-  const int workers = std::atoi(words[2]), rounds = std::atoi(words[3]);
-  if (workers == 1) {
-    timed(words[1], rounds, Eigen::DefaultDevice());
-  } else {
-    Eigen::ThreadPool pool(workers);
-    timed(words[1], rounds, Eigen::ThreadPoolDevice(&pool, workers));
-  }
+  const std::string what = words[1];
+  time_with(std::atoi(words[2]), 2 * MANY, std::atoi(words[3]),
+            [&](std::int64_t* a, std::int64_t* out, const auto& device) {
+              return evaluate(what, a, out, device);
+            });
   return 0;
 }

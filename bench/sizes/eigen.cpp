@@ -2,21 +2,9 @@
 // over 2^POWER values that lie in memory already, into an array that is kept: nothing is copied. WHAT
 // is one of the names below.
 
-#define EIGEN_USE_THREADS
-#include <string>
-#include <unsupported/Eigen/CXX11/Tensor>
-#include <unsupported/Eigen/CXX11/ThreadPool>
-#include <vector>
-
-#include "../arrays/rounds.h"
+#include "../arrays/views.h"
 
 namespace {
-
-using Index = Eigen::Index;
-template <int RANK>
-using Tensor = Eigen::Tensor<std::int64_t, RANK, Eigen::ColMajor, Index>;
-template <int RANK>
-using View = Eigen::TensorMap<Tensor<RANK>>;
 
 constexpr Index ROWS = 1024, OUTER = 64, MIDDLE = 128;
 
@@ -58,32 +46,15 @@ Index evaluate(const std::string& what, std::int64_t* a, Index count, std::int64
   std::exit(2);
 }
 
-// The rounds on a device, after one that isn't counted.
-template <typename Device>
-void timed(const std::string& what, Index size, int rounds, const Device& device) {
-  std::vector<std::int64_t> values(size), out(size);
-  std::vector<double> times(rounds);
-  fill(values.data(), values.size());
-  Index count = 0;
-  for (int round = -1; round < rounds; round++) {
-    const std::int64_t start = now();
-    count = evaluate(what, values.data(), size, out.data(), device);
-    if (round >= 0) times[round] = static_cast<double>(now() - start);
-  }
-  report(times.data(), rounds, out.data(), count);
-}
-
 }  // namespace
 
 int main(int count, char** words) {
   if (count != 5) return 2;
+  const std::string what = words[1];
   const Index size = Index(1) << std::atoi(words[2]);
-  const int workers = std::atoi(words[3]), rounds = std::atoi(words[4]);
-  if (workers == 1) {
-    timed(words[1], size, rounds, Eigen::DefaultDevice());
-  } else {
-    Eigen::ThreadPool pool(workers);
-    timed(words[1], size, rounds, Eigen::ThreadPoolDevice(&pool, workers));
-  }
+  time_with(std::atoi(words[3]), size, std::atoi(words[4]),
+            [&](std::int64_t* a, std::int64_t* out, const auto& device) {
+              return evaluate(what, a, size, out, device);
+            });
   return 0;
 }
