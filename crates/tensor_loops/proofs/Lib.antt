@@ -3,3 +3,5 @@ pub mod CombinedRows
 pub mod Folding
 pub mod RunValues
 pub mod InterleavedParts
+pub mod TiledPlaces
+pub mod TiledValues

@@ -1,3 +1,4 @@
 pub mod Chain
 pub mod Folds
 pub mod Loops
+pub mod Tiles

@@ -1,6 +1,7 @@
 //! Values of a list at places, and along views.
 
 pub(crate) mod interleaved;
+pub(crate) mod tiles;
 
 ghost use Rattle.std.specs.Prelude.{◌≡◌, ◌<◌, ◌≤◌, ◌-◌, ◌+◌, ◌*◌, ◌/◌, ◌^◌, ◌++◌, ℕ, length, map};
 ghost use Rattle.std.specs.Prelude.{IfOk, OnOk, slice_index, vec_len, vec_capacity};

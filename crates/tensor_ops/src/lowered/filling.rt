@@ -6,12 +6,13 @@ ghost use Rattle.tensor_values.specs.Values.{value_in};
 
 use crate::lowered::{Lowered, PIECE, combine_at, values_at};
 use std::alloc::{AllocError, Global};
-use tensor_loops::{apply, combine_chain, put_combined, select};
+use tensor_loops::{Tiled, apply, combine_chain, put_combined, select};
 use tensor_views::Places;
 
 impl Lowered<'_> {
-    /// Writes the values at the places from the first to before the last, piece by piece, whatever
-    /// stands there.
+    /// Writes the values at the places from the first to before the last, whatever stands there: by
+    /// tiles, where they are read along a view that takes neighbours of a list far apart, and else
+    /// piece by piece.
     pub(crate) fn fill(
         &self,
         alloc: Global,
@@ -27,6 +28,11 @@ impl Lowered<'_> {
         ensures each { OnOk result ((k : ℕ) → k < length out.old
             → value_in out.new k ≡ meaning self.now (first + k)) }
     {
+        if let Some(reading) = self.reading() {
+            if let Some(tiled) = Tiled::of(reading) {
+                return tiled.gather(alloc, first, out);
+            }
+        }
         let mut place = first;
         while place < last {
             let count = (last - place).min(PIECE);
