@@ -1,3 +1,4 @@
+pub mod Batches
 pub mod Combining
 pub mod Cuts
 pub mod Fits

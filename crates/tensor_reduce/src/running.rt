@@ -1,5 +1,6 @@
 //! Running a plan: its steps are worked out one after the other, each by its schedule.
 
+pub(crate) mod batch;
 pub(crate) mod combined;
 pub(crate) mod freeing;
 pub(crate) mod fused_expr;
@@ -33,6 +34,7 @@ use tensor_ops::{Inputs, Tensor};
 /// The tensor of a plan's last step. The steps are worked out one after the other, each by blocks of
 /// its places on workers of a pool that the setup describes: as many as are worth their start, by
 /// what the step costs. Where that is one, the calling thread works it out, and no pool is opened.
+/// On several, more than 1,048,576 values go batch by batch, each on a pool of its own.
 ///
 /// A reduction or a contraction of at most 64 values is worked out in shards, each a leaf of its
 /// own. An operand that an inner product reads alone, or a reduction over four index lists a value or

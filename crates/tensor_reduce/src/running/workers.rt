@@ -5,6 +5,7 @@ ghost use Rattle.parallel_for.specs.Faults.{IsBlockLength};
 ghost use Rattle.parallel_for.specs.Items.{AreItems};
 ghost use Rattle.parallel_for.specs.Setup.{IsPoolSize, AreNoPartitions};
 
+use crate::running::batch::Batch;
 use crate::schedule::grain::Grain;
 use parallel_for::{ForFault, Kernel, Setup, parallel_for};
 use std::alloc::Global;
@@ -16,8 +17,12 @@ use tensor_ops::TEXT_ELEMENTS;
 /// its values: as many as a text's tensor has values.
 const MOST_LEAVES: u64 = TEXT_ELEMENTS;
 
+/// How many items of a large tensor a batch has for each worker. Until they are in the list of all
+/// they are in lists of leaves and in one of the batch: of values that is a megabyte a worker.
+const HELD: u64 = 65_536;
+
 /// What a plan is worked out by: the workers of a pool that the setup describes, opened for each
-/// step, and how many places they take at a time.
+/// step or batch of one, and how many places they take at a time.
 #[derive(Drop)]
 pub(crate) struct Workers<'a, RT> {
     pub(crate) rt: &'a RT,
@@ -52,12 +57,23 @@ impl<'a, RT> Workers<'a, RT> {
             count,
         }
     }
+
+    /// How many places a batch has at most: whole leaves, one for each worker at least.
+    fn batch_size(&self, leaf: u64) -> u64
+        requires { 0 < leaf }
+        ensures { 0 < result }
+    {
+        let workers = u64::from(self.count).max(1);
+        let leaves = (workers * HELD / leaf).max(workers);
+        leaves.saturating_mul(leaf)
+    }
 }
 
 impl<RT: Threads + Wait + Sync> Workers<'_, RT> {
     /// The items of a kernel at the places below `n`, so many at a time on the workers that take
     /// part, or more where there would be too many leaves. Where one takes part, it is the calling
-    /// thread, which works all of them out in one go.
+    /// thread, which works all of them out in one go. More items than a text's tensor has values are
+    /// worked out batch by batch, so that lists of leaves take little memory beside them.
     pub(crate) fn items<K>(&self, kernel: &K, n: u64, leaf: u64) -> Result<Vec<K::Item>, ForFault>
     where
         K: Kernel + Sync,
@@ -68,15 +84,27 @@ impl<RT: Threads + Wait + Sync> Workers<'_, RT> {
         ensures faults { IfErr result (λ fault. fault ≡ ForFault.NoMemory) }
     {
         if self.count <= 1 {
-            return parallel_for(
-                self.rt,
-                self.alloc,
-                self.setup,
-                kernel,
-                n,
-                long_leaf(n, n.max(1)),
-            );
+            let leaf = long_leaf(n, n.max(1));
+            return parallel_for(self.rt, self.alloc, self.setup, kernel, n, leaf);
         }
+        let leaf = long_leaf(n, leaf);
+        if n <= TEXT_ELEMENTS {
+            return self.pooled(kernel, n, leaf);
+        }
+        self.batched(kernel, n, leaf)
+    }
+
+    /// The same, on one pool.
+    fn pooled<K>(&self, kernel: &K, n: u64, leaf: u64) -> Result<Vec<K::Item>, ForFault>
+    where
+        K: Kernel + Sync,
+        K::Item: Send,
+        requires inside { n ≤ K.size kernel.now }
+        requires some { 0 < leaf }
+        requires workers { 0 < self.now.count }
+        ensures items { IfOk result (λ items. AreItems (K.item_at kernel.now) 0 n items.items) }
+        ensures faults { IfErr result (λ fault. fault ≡ ForFault.NoMemory) }
+    {
         let leaf = long_leaf(n, leaf);
         if self.count >= self.setup.workers {
             return parallel_for(self.rt, self.alloc, self.setup, kernel, n, leaf);
@@ -86,6 +114,34 @@ impl<RT: Threads + Wait + Sync> Workers<'_, RT> {
             partitions: Vec::new(self.alloc),
         };
         parallel_for(self.rt, self.alloc, &fewer, kernel, n, leaf)
+    }
+
+    /// The same batch by batch, each on a pool of its own.
+    fn batched<K>(&self, kernel: &K, n: u64, leaf: u64) -> Result<Vec<K::Item>, ForFault>
+    where
+        K: Kernel + Sync,
+        K::Item: Send,
+        requires inside { n ≤ K.size kernel.now }
+        requires some { 0 < leaf }
+        requires workers { 0 < self.now.count }
+        ensures items { IfOk result (λ items. AreItems (K.item_at kernel.now) 0 n items.items) }
+        ensures faults { IfErr result (λ fault. fault ≡ ForFault.NoMemory) }
+    {
+        let most = self.batch_size(leaf);
+        let mut items = Vec::with_capacity(self.alloc, n as usize)?;
+        let mut first = 0;
+        while first < n {
+            let last = first + most.min(n - first);
+            let batch = Batch {
+                kernel,
+                first,
+                last,
+            };
+            let mut found = self.pooled(&batch, last - first, leaf)?;
+            items.append(&mut found)?;
+            first = last;
+        }
+        Ok(items)
     }
 }
 
