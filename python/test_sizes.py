@@ -3,6 +3,7 @@
 by numpy. They are of some millions; `python3 python/test_sizes.py --large` has 2^24 and 2^27 too, which
 take some minutes and 8 GB of memory."""
 
+import itertools
 import sys
 import unittest
 
@@ -65,6 +66,8 @@ class Sizes(OneWay):
             self.agree(client.roll(x, 5), numpy.roll(array, 5))
             for name in ("sum", "max", "min"):
                 self.agree(getattr(x, name)(), getattr(array, name)(), workers=2)
+            for name in ("cumsum", "cumprod"):
+                self.agree(getattr(client, name)(x), getattr(numpy, name)(array), workers=2)
 
     def test_rows(self):
         for count in self.each():
@@ -76,6 +79,14 @@ class Sizes(OneWay):
             self.agree(x - x.min(axis=0), array - array.min(axis=0), workers=2)
             self.agree(x.convolve([1, -2, 1], 1), array[:, 2:] - 2 * array[:, 1:-1] + array[:, :-2])
             self.agree(x[:, :3] @ [1, 10, 100], array[:, :3] @ [1, 10, 100])
+
+    def test_shuffles(self):
+        for count in self.each():
+            cube = line(count)[: count // 1_995 * 1_995].reshape(19, 105, -1)
+            x = tensor(cube)
+            for order in itertools.permutations(range(3)):
+                self.agree(x.transpose(*order), cube.transpose(order), workers=3)
+            self.agree(x.transpose(2, 0, 1)[5:-6], cube.transpose(2, 0, 1)[5:-6])
 
     def test_what_is_made_large(self):
         for count in self.each():

@@ -113,12 +113,15 @@ class Library:
         and what they have is reduced again."""
         places, alone = cut(len(memory), settings.workers), settings._replace(workers=1)
         room = memory_for(len(places) + 1)
+        # Shares are of two lengths at most.
+        headers: Dict[int, bytes] = {}
+        for count in {len(places), *map(len, places)}:
+            part = Tensor(memory[:count], (count,))
+            headers[count] = framed(Expr(expr.operation, [part], [[0]], ()), alone).header
 
         def reduce(values: memoryview, at: int) -> None:
-            part = Tensor(values, (len(values),))
-            asked = framed(Expr(expr.operation, [part], [[0]], ()), alone)
-            header, arrays = (self.evaluate_arrays, asked.header), arrays_of([as_memory(values)])
-            self.fill(header, arrays, 1, room[at : at + 1], [range(1)])
+            asked = self.evaluate_arrays, headers[len(values)]
+            self.fill(asked, arrays_of([values]), 1, room[at : at + 1], [range(1)])
 
         def reduce_share(at: range) -> None:
             share = places[at.start]

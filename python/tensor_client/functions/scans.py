@@ -17,8 +17,8 @@ __all__ = [
 
 
 def cumsum(a: Any, axis: Any = None, dtype: Any = None, out: None = None) -> Expr:
-    """The sum of each value and all before it along an axis, or in all values: by a product with
-    a triangle of ones, of more than 1,024 places in two steps.
+    """The sum of each value and all before it along an axis, or in all values: by products with
+    triangles of ones, in rows of 32 where there are many places.
 
     >>> run(cumsum([1, 2, 3])).values
     [1, 3, 6]
@@ -28,7 +28,7 @@ def cumsum(a: Any, axis: Any = None, dtype: Any = None, out: None = None) -> Exp
 
 def cumprod(a: Any, axis: Any = None, dtype: Any = None, out: None = None) -> Expr:
     """The product of each value and all before it along an axis, or in all values: over all pairs
-    of two places, in two steps where these are more than 1,048,576 and may be fewer.
+    of two places, in rows of 8 where these are many.
 
     >>> run(cumprod([1, 2, 3])).values
     [1, 2, 6]
@@ -58,6 +58,11 @@ def axis_asked(x: Any, axis: Any) -> Any:
     if axis is None and an_expr(x).ndim != 1:
         raise ValueError(f"an axis has to be named, of dims {an_expr(x).shape}")
     return axis
+
+
+# Up to so many pairs of places of a line go in one step, and else in rows of so many places: each
+# value takes as many products of a sum, and of others is repeated as often.
+FEW_PAIRS, SUM_ROW, OTHER_ROW = 1 << 17, 32, 8
 
 
 class Scan(NamedTuple):
@@ -111,8 +116,7 @@ def scanned(scan: Scan, a: Any, axis: Any, dtype: Any = None, out: None = None) 
 def over_first(scan: Scan, x: Expr) -> Expr:
     """The same of the first axis: over all pairs of its places, or in rows where these are many."""
     length, lines = x.shape[0], rules.product(x.shape[1:]) or 1
-    pairs = length * length * (lines if scan.is_repeated else 1)
-    is_much = pairs > rules.FIRST_ELEMENTS or length * length * lines > rules.MOST_PRODUCTS
+    is_much = length * length * lines > FEW_PAIRS
     row = row_length(length, lines, scan.is_repeated) if is_much else 0
     return in_rows(scan, x, row) if row else scan.upto(x)
 
@@ -131,21 +135,19 @@ def in_rows(scan: Scan, x: Expr, row: int) -> Expr:
 
 
 def row_length(length: int, lines: int, is_repeated: bool) -> int:
-    """How long rows are, about as long as there are rows, or less: where each line is repeated over
-    the pairs of two places of a row, so that these are few, or else as many as a tensor may have;
-    for sums, so that those of a row are few, and the products no more than there may be. 0 where
-    no length does.
+    """How long rows are, at most: where each line is repeated over the pairs of two places of a row,
+    so that these are few, or else as many as a tensor may have; for sums, so that the products are
+    no more than there may be. 0 where no length does.
 
     >>> row_length(5_000, 1, False), row_length(9_000, 1, True), row_length(5_000, 99_999, True)
-    (128, 64, 0)
+    (32, 8, 0)
     """
     places = max(length * lines, 1)
     if is_repeated:
         few = rules.FIRST_ELEMENTS // places
-        most = few if few > 1 else rules.MOST_ELEMENTS // places
+        row, most = OTHER_ROW, few if few > 1 else rules.MOST_ELEMENTS // places
     else:
-        most = min(1 << rules.FIRST_ELEMENTS.bit_length() // 2, rules.MOST_PRODUCTS // places)
-    row = 1 << (length.bit_length() + 1) // 2
+        row, most = SUM_ROW, rules.MOST_PRODUCTS // places
     while row > most or row >= length > 0:
         row //= 2
     return row if row > 1 else 0
