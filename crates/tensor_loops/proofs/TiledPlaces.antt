@@ -1,5 +1,5 @@
 -- Places that are read by tiles.
-use Rattle.std.proofs.Common.{◌≡◌, ℕ, ◌+◌, ◌*◌, ◌/◌, ◌%◌, ◌<◌, ◌≤◌, List, ◌∷◌, length, map, get_or, false, refl, ap, sym, ◌∙◌, arith}
+use Rattle.std.proofs.Common.{◌≡◌, ℕ, ◌+◌, ◌*◌, ◌/◌, ◌%◌, ◌<◌, ◌≤◌, List, ◌∷◌, length, map, get_or, false, refl, ap, sym, ◌∙◌, arith, mul_comm}
 use Rattle.std.proofs.Math.Nat.{div-div-eq-div-mul, mod-add-div, mod-lt, mul-pos}
 use Rattle.std.proofs.lemmas.List.FromFn.{length-map-range_with_len, get_or-map-range_with_len}
 use Rattle.std.specs.List.{range_with_len}
@@ -27,9 +27,6 @@ neighbours-along a rest unit rises some = record {
       omega (arith, first, second);
 }
 
-swapped : (m n : ℕ) → m * n ≡ n * m
-swapped m n = grind arith
-
 spread : (k s n q : ℕ) → n * (q + k * s) ≡ n * q + k * (s * n)
 spread k s n q = grind arith
 
@@ -41,7 +38,7 @@ neighbours-behind a rest stride count slower size = record {
   many = slower.many;
   each = λ start p k below.
       let rows : p / (stride * a.size) ≡ p / a.size / stride =
-      ap (λ n. p / n) (swapped stride a.size) ∙ sym (div-div-eq-div-mul p a.size stride) in
+      ap (λ n. p / n) (mul_comm stride a.size) ∙ sym (div-div-eq-div-mul p a.size stride) in
       let within : p / a.size / stride % count + k < count = rw rows at below in
       let i : ℕ = p % a.size in
       let low : i < a.size = mod-lt p size in

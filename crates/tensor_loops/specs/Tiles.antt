@@ -3,7 +3,7 @@ use Rattle.std.specs.Prelude.{◌≡◌, ℕ, ◌+◌, ◌*◌, ◌/◌, ◌%◌
 use Rattle.tensor_views.specs.View.{reached}
 use Rattle.tensor_views.specs.declared.axis.Axis.{Axis}
 
--- so many strides behind a place lies what is in the list as many places further, in runs of so many
+-- a stride on from a place the view reaches the next place of the list, in runs of so many
 pub record HaveNeighbours (axes : List Axis) (stride count : ℕ) : Type 0 where
   pub far : 0 < stride
   pub many : 0 < count

@@ -17,8 +17,8 @@ use tensor_ops::TEXT_ELEMENTS;
 /// its values: as many as a text's tensor has values.
 const MOST_LEAVES: u64 = TEXT_ELEMENTS;
 
-/// How many items of a large tensor a batch has for each worker. Until they are in the list of all
-/// they are in lists of leaves and in one of the batch: of values that is a megabyte a worker.
+/// How many items of a large tensor a batch has for each worker, where a leaf has no more. Until they
+/// are in the list of all they are in those of leaves and of the batch: a megabyte of values a worker.
 const HELD: u64 = 65_536;
 
 /// What a plan is worked out by: the workers of a pool that the setup describes, opened for each
