@@ -8,10 +8,10 @@
 
    The values are those of the tensors, one tensor after the other in the order of their names by
    bytes, each column-major: the first index runs fastest. Its version may also be 3, which has
-   operations on whole numbers, names for tensors within the expression, and larger tensors
-   (docs/FRAMES.md). It asks for what the text asks for in which each tensor also has its values in
-   `data`, however long that text would be, and has the same fault. All work is done on the thread
-   that calls; `workers` and `block` are checked, and change nothing.
+   operations on whole numbers and along an axis, names for tensors within the expression, and larger
+   tensors (docs/FRAMES.md). It asks for what the text asks for in which each tensor also has its
+   values in `data`, however long that text would be, and has the same fault. All work is done on the
+   thread that calls; `workers` and `block` are checked, and change nothing.
 
    What a caller owes:
    - Each pointer is to as many elements as its length says, aligned as its type is; where the
@@ -112,12 +112,13 @@ int64_t tensor_evaluate_arrays(const uint8_t *header, size_t header_length,
    of the arrays matters. Faults are returned as by tensor_evaluate_arrays.
 
    They are the values of what lies below the outermost operation and isn't worked out place by
-   place: of each reduction, contraction and convolution there; and of each operand of one of these,
-   the outermost one too, which isn't such a list already. It is one where it is an input, one of
-   these, or a reshape of one; what a contraction takes may also be any movement of one. Where the
-   header names tensors by `let`, they are also all values of each of these, and the same below its
-   outermost operation. Not counted are at most 32,768 values that are repeated by a movement, and
-   what a contraction packs.
+   place: of each reduction, contraction, convolution, cumsum, cumprod, argmax, argmin and take
+   there; and of each operand of one of these, the outermost one too, which isn't such a list
+   already. It is one where it is an input, one of these, or a reshape of one; what a contraction
+   takes may also be any movement of one. Where the outermost operation is one of the last five, they
+   are also all its values. Where the header names tensors by `let`, they are also all values of each
+   of these, and the same below its outermost operation. Not counted are at most 32,768 values that
+   are repeated by a movement, and what a contraction packs.
 
    Parts pay where they are few beside a part's own values; or, of a contraction and a convolution,
    beside the products that it adds. So they do for operations on each value and movements of inputs,

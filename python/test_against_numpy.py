@@ -1,13 +1,14 @@
 """Tests of the client on random arrays: each operation and each of numpy's ways, in each way to ask
 and by numpy. They are skipped where numpy isn't installed."""
 
-import random
 import unittest
 
 import tensor_client as client
 from tensor_client import GREATEST, LEAST, concat, contract, full, tensor, where
+from tensor_client.rewriting.bindings import ALONG_AN_AXIS
 from tensor_client.rules import slid
-from asking import OneWay, each_way
+from asking import each_way
+from drawn import ByNumpy
 from test_asked import TEXTS, documented, method
 
 try:
@@ -15,7 +16,6 @@ try:
 except ImportError:
     numpy = None
 
-TRIALS = 4
 ELEMENTWISE = {
     "neg": lambda a: -a,
     "abs": lambda a: numpy.abs(a),
@@ -68,66 +68,9 @@ def convolved(array, kernel, axes):
     return total
 
 
-class Random:
-    """Arrays of random dims and values, in either order of memory, the same at each run."""
-
-    def __init__(self, seed):
-        self.source = random.Random(seed)
-
-    def upto(self, most):
-        return self.source.randrange(most + 1)
-
-    def dims(self, least=0):
-        return [self.upto(3) + least for _ in range(self.upto(4))]
-
-    def array(self, dims):
-        near = [-2, -1, 0, 0, 1, 2, LEAST, GREATEST]
-        count = int(numpy.prod(dims, dtype=int))
-        values = [
-            self.source.choice([self.source.randrange(LEAST, GREATEST + 1), *near])
-            for _ in range(count)
-        ]
-        return numpy.array(values, dtype=numpy.int64).reshape(dims, order="CF"[self.upto(1)])
-
-    def some(self, count):
-        """A list of some of so many axes, in any order."""
-        return self.source.sample(range(count), self.upto(count))
-
-    def index(self, dim):
-        """A number or a slice, of either sign, for an axis of so many places."""
-        if self.upto(2) == 0:
-            return self.source.randrange(-dim, dim)
-        ends = [self.source.choice([None, self.source.randrange(-dim - 1, dim + 2)]) for _ in "ab"]
-        return slice(*ends, self.source.choice([None, 1, 2, 3, -1, -2]))
-
-    def indices(self, dims):
-        """Indices of several forms, for dims."""
-        full = tuple(map(self.index, dims))
-        yield full
-        yield full[0]
-        yield full[:1]
-        yield (..., full[-1])
-        yield (full[0], ..., None, full[-1])
-        yield (None, *full[:2])
-
-    def request(self):
-        return {"workers": 1 + self.upto(3), "block": 1 + self.upto(8)}
-
-
 @unittest.skipIf(numpy is None, "numpy isn't installed")
-class AgainstNumpy(OneWay):
+class AgainstNumpy(ByNumpy):
     """Each operation on random arrays, and by numpy."""
-
-    def agree(self, expr, wanted, source):
-        found = self.ask(expr, **source.request())
-        self.assertEqual(found.dims, expr.dims)
-        self.assertEqual(found.dims, wanted.shape)
-        numpy.testing.assert_array_equal(found.array(), wanted.astype(numpy.int64))
-
-    def each_trial(self, operation):
-        for trial in range(TRIALS):
-            with self.subTest(operation=operation, trial=trial):
-                yield Random(f"{operation} {trial}")
 
     def test_elementwise(self):
         for operation, wanted in ELEMENTWISE.items():
@@ -251,7 +194,7 @@ class AgainstNumpy(OneWay):
             self.agree(contract(left, right, list(zip(ours, theirs))), wanted, source)
 
     def test_every_operation_is_here(self):
-        alone = documented() - {*ELEMENTWISE, *ON_INTEGERS, *REDUCTIONS}
+        alone = documented() - {*ELEMENTWISE, *ON_INTEGERS, *REDUCTIONS, *ALONG_AN_AXIS}
         self.assertLessEqual({f"test_{it}" for it in alone}, set(dir(self)))
 
     def test_operators_with_arrays(self):

@@ -78,6 +78,11 @@ class Asked(OneWay):
             (x.convolve([10, 1], 1), [[12, 23], [45, 56]]),
             (x.convolve([[1, 10], [100, 1000]], 1, 0), [[5241, 6352]]),
             (x.convolve(2), [[2, 4, 6], [8, 10, 12]]),
+            (x.cumsum(1) - x.cumprod(axis=0), [[0, 1, 3], [0, -1, -3]]),
+            (x.argmax(1) + (x * x).argmin(1), [2, 2]),
+            (x.take([2, 0, -3, 1], 1), [[3, 1, 1, 2], [6, 4, 4, 5]]),
+            (x.taken([2, 0, -3, 3], 1), [[3, 1, 0, 0], [6, 4, 0, 0]]),
+            (x[(x - 3).argmin(1)], [[1, 2, 3], [1, 2, 3]]),
             (tensor([1, 2]).reshape([1] * 7 + [2]).sum(), 3),
         ):
             self.assertEqual(self.ask(expr).nested(), nested)
@@ -127,6 +132,7 @@ class Asked(OneWay):
         self.faults(client.TooLarge, 14, Expr("broadcast", [x], [[2**20]]))
         self.faults(client.TooLarge, 14, x.reshape([1] * 6 + [2]), version=1)
         self.assertEqual(self.ask(x).values, [1, 2])
+        self.assertEqual(self.ask(x.cumsum(0) * x.argmax(), version=2).values, [1, 3])
 
     def test_nesting(self):
         deep, sums, mixed, products = tensor(1), tensor(1), tensor(LEAST), tensor(3)

@@ -140,6 +140,11 @@ class Built(unittest.TestCase):
             (client.OutOfRange, lambda: contract(x, y, [(2, 0)])),
             (client.ShapeMismatch, lambda: x.convolve(y, 0, 1)),
             (client.OutOfRange, lambda: y.convolve([1, 2, 3], 0)),
+            (client.OutOfRange, lambda: x.cumsum(2)),
+            (client.OutOfRange, lambda: x.argmax(-3)),
+            (client.OutOfRange, lambda: x.take([0, 3], 1)),
+            (client.OutOfRange, lambda: x.taken([0], 2)),
+            (client.TooLarge, lambda: x.taken(full([1] * 8, 0), 0)),
             (client.ShapeMismatch, lambda: x @ x),
             (client.OutOfRange, lambda: x[2]),
             (client.OutOfRange, lambda: x[0, 0, 0]),
@@ -215,6 +220,8 @@ class Built(unittest.TestCase):
             (2, tensor([1], [1] * 7).sum(), {}),
             (2, ones.reshape([1] * 7).sum(), {}),
             (2, contract(ones, x, []).sum(), {}),
+            (1, x.cumsum(0) + x.argmin(), {}),
+            (2, x.take([1, 0, 0, 1]) * x.cumprod().max(), {"version": 2}),
             (1, x.stride(2), {"version": 1}),
             (2, x, {"version": 2}),
         ):
@@ -233,6 +240,12 @@ class Built(unittest.TestCase):
             (x.convolve([1, 1], 1), (2, 2)),
             (x.convolve([[1], [2], [3]], [1, 0]), (2, 1)),
             (x.convolve(5), (2, 3)),
+            (x.cumprod(1), (2, 3)),
+            (x.argmin(-1), (2,)),
+            (x.argmin(0, keepdims=True), (1, 3)),
+            (x.argmax(keepdims=True), (1, 1)),
+            (x.taken([[0, 1]], 1), (2, 1, 2)),
+            (x.take(tensor(1) + 0, 0), (3,)),
         ):
             self.assertEqual(expr.dims, dims)
 
@@ -278,7 +291,10 @@ class Built(unittest.TestCase):
         self.assertIn(b'{"version":3,', framed(lots, Settings()).header[:14])
         for wrong, said in (
             (lambda: client.sort(range(17_000)), "order along an axis takes all pairs"),
-            (lambda: client.take(range(10**6), [7, 5, 6] * 9999), "taking 29,997 offsets of 1,000"),
+            (
+                lambda: client.request(client.take(range(10**6), [7, 5, 6] * 9999)),
+                "taking 29,997 offsets of 1,000",
+            ),
             (lambda: full((300, 99, 99), 1) @ full((300, 99, 99), 1), "stacks of matrices"),
             (lambda: full((16_384, 16_385), 1), "run a part at a time"),
             (lambda: full([1] * 9, 1), "reshape some into one"),

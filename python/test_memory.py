@@ -279,6 +279,9 @@ class Threads(unittest.TestCase):
                 ((rows * 2).reduced("sum", [0]), 6),
                 (rows.contract(rows, [(0, 0)]), 0),
                 (rows.contract(rows * 2, [(0, 0)]), 6),
+                (rows.cumsum(0), 6),
+                ((rows * 2).argmax(0) * 2, 6 + 3),
+                (rows.taken([1, 0], 1), 4),
             ):
                 asked = framed(expr, Settings())
                 arrays = arrays_of([as_memory(it) for it in asked.held])

@@ -34,12 +34,15 @@ EACH = {
     "contract": lambda x, y: x.contract(y, [(1, 1), (0, 0)]),
     "convolve": lambda x, y: x.convolve(y.slice([0, 0, 0], [2, 3, 1]).in_dims([2, 3]), 0, 1),
     "bit_not": lambda x, y: ~x,
+    "take": lambda x, y: x.taken(y.chip(1, 2), 1),
 }
 VALUES = "add sub mul cwise_max cwise_min lt le eq ne gt ge and or".split()
 VALUES += "floor_divide remainder bit_and bit_or bit_xor shift_left shift_right".split()
 EACH.update({it: lambda x, y, it=it: client.expressions.elementwise(it, x, y) for it in VALUES})
 for reduction in "sum prod maximum minimum all any".split():
     EACH[reduction] = lambda x, y, it=reduction: x.reduced(it, [2, 0])
+for along in "cumsum cumprod argmax argmin".split():
+    EACH[along] = lambda x, y, it=along: x.along(it, 0)
 
 
 def in_numpys_order(dims, first=0):
@@ -74,6 +77,8 @@ def longer(source, x):
             lambda: x.shuffle(order),
             lambda: x.slice(offsets, sizes),
             lambda: x.sum(axis),
+            lambda: x.along(source.choice(["cumsum", "argmax"]), axis),
+            lambda: x.taken(x.in_dims([x.size])[:3] % 5, axis),
             lambda: x.max(axis) - x if axis == 0 else x.reduced("prod", order[:2]),
             lambda: x.reshape(x.shape[0], -1) if x.size else -x,
             lambda: x.in_dims([1, *x.shape]),

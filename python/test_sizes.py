@@ -66,8 +66,11 @@ class Sizes(OneWay):
             self.agree(client.roll(x, 5), numpy.roll(array, 5))
             for name in ("sum", "max", "min"):
                 self.agree(getattr(x, name)(), getattr(array, name)(), workers=2)
-            for name in ("cumsum", "cumprod"):
+            for name in ("cumsum", "cumprod", "argmax", "argmin"):
                 self.agree(getattr(client, name)(x), getattr(numpy, name)(array), workers=2)
+            offsets = array % (2 * count) - count
+            self.agree(x[offsets], array[offsets])
+            self.agree((x * 2)[tensor(offsets) + 0], array[offsets] * 2, workers=2)
 
     def test_rows(self):
         for count in self.each():
@@ -79,6 +82,13 @@ class Sizes(OneWay):
             self.agree(x - x.min(axis=0), array - array.min(axis=0), workers=2)
             self.agree(x.convolve([1, -2, 1], 1), array[:, 2:] - 2 * array[:, 1:-1] + array[:, :-2])
             self.agree(x[:, :3] @ [1, 10, 100], array[:, :3] @ [1, 10, 100])
+            for axis in (0, 1):
+                for name in ("cumsum", "cumprod", "argmax", "argmin"):
+                    wanted = getattr(numpy, name)(array, axis)
+                    self.agree(getattr(x, name)(axis), wanted, workers=2)
+                    self.agree(getattr(-x, name)(axis), getattr(numpy, name)(-array, axis))
+                offsets = line(1_000) % array.shape[axis]
+                self.agree(x.take(offsets, axis), array.take(offsets, axis), workers=2)
 
     def test_shuffles(self):
         for count in self.each():
@@ -87,6 +97,8 @@ class Sizes(OneWay):
             for order in itertools.permutations(range(3)):
                 self.agree(x.transpose(*order), cube.transpose(order), workers=3)
             self.agree(x.transpose(2, 0, 1)[5:-6], cube.transpose(2, 0, 1)[5:-6])
+            self.agree(x.cumsum(1) - x.argmax(1)[:, None], cube.cumsum(1) - cube.argmax(1)[:, None])
+            self.agree(x[:, [7, 3, 104, 3, -1]], cube[:, [7, 3, 104, 3, -1]])
 
     def test_what_is_made_large(self):
         for count in self.each():

@@ -259,8 +259,19 @@ SHARED = [
     ('["select","c",["sum",["add","a","b"],[0]],"c"]', 6 + 3),
     ('["constant",["sum","a",[0]],7]', 3),
 ]
-# The same with lets, whose values each part works out.
-SHARED_BY_LETS = [
+# The same of version 3: along an axis and with lets, of which each part works out all values.
+SHARED_IN_VERSION_3 = [
+    ('["cumsum","a",0]', 6),
+    ('["cumprod",["neg","a"],1]', 6 + 6),
+    ('["argmax","a",0]', 3),
+    ('["argmin",["reshape","a",[6]],0]', 1),
+    ('["take","a","c",0]', 9),
+    ('["take",["shuffle","a",[1,0]],["neg","c"],0]', 6 + 3 + 6),
+    ('["take",["cumsum","a",1],["argmax","a",0],1]', 6 + 3 + 6),
+    ('["neg",["cumsum","a",0]]', 6),
+    ('["sum",["reverse",["cumprod","a",1],[true,false]],[0]]', 6 + 6),
+    ('["contract",["shuffle",["take","a","c",1],[1,0]],"c",[[0,0]]]', 6),
+    ('["let","y",["argmin","a",0],["cumsum","y",0]]', 3 + 3),
     ('["let","y",["neg","a"],["add","y","y"]]', 6),
     ('["let","y",["neg","a"],["sum","y",[0]]]', 6),
     ('["let","y",["neg","a"],"b"]', 6),
@@ -275,8 +286,9 @@ THREE = '"a":{"dims":[2,3]},"b":{"dims":[2,3]},"c":{"dims":[3]}'
 def shared_calls(library):
     """Calls that tell how many values the parts of an answer share."""
     three = arrays_of([0] * 6, [0] * 6, [0] * 3)
-    for expr, wanted in SHARED + SHARED_BY_LETS:
-        text = header(THREE, expr, 3 if "let" in expr else 2)
+    asked = [(2, *it) for it in SHARED] + [(3, *it) for it in SHARED_IN_VERSION_3]
+    for version, expr, wanted in asked:
+        text = header(THREE, expr, version)
         yield f"shared by {expr}", library.call("tensor_shared", bytes_of(text), three), wanted
     two, long = bytes_of(header(TWO, '["add","a","b"]')), (ctypes.c_uint8 * (MOST + 1))()
     many = arrays_of([5, 7], (ctypes.c_int64 * (MOST - 1))())

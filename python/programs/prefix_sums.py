@@ -1,4 +1,4 @@
-"""Prefix sums: the sum of each value and all before it, as a product with a triangle of ones."""
+"""Prefix sums: the sum of each value and all before it."""
 
 
 def inputs(source):
@@ -6,8 +6,7 @@ def inputs(source):
 
 
 def client(tc, values):
-    places = tc.tensor(range(len(values)))
-    return (places[:, None] >= places) @ values
+    return tc.cumsum(values)
 
 
 def numpy(np, values):

@@ -12,6 +12,7 @@ if TYPE_CHECKING:
     from .expressions import Expr
 
 Axis = Union[None, int, Sequence[int]]
+CUMULATIVE = "cumsum", "cumprod"
 # What is combined beside values changes nothing.
 IDENTITIES = {"sum": 0, "prod": 1, "maximum": -(2**63), "minimum": 2**63 - 1, "all": 1, "any": 0}
 COMBINED = {"sum": "add", "prod": "mul", "maximum": "cwise_max", "minimum": "cwise_min"}
@@ -135,6 +136,40 @@ class NumpyMethods(NumpyWays):
         numbers = listed(axes, whole) if axes else list(range(self.ndim))
         return self.reduced(operation, numbers)
 
+    # The request's own operations along one axis.
+
+    def along(self, operation: str, axis: int) -> Expr:
+        """cumsum, cumprod, argmax or argmin along an axis; the last two are 0 of nothing.
+
+        >>> run(tensor([[1, 2], [3, 4]]).along("cumsum", 1)).nested()
+        [[1, 3], [3, 7]]
+        """
+        from .expressions import Expr
+
+        at, dims = whole(axis), self.dims
+        if dims is None:
+            return Expr(operation, [self], [at])  # type: ignore[list-item]
+        at = rules.axis_of(at, len(dims))
+        dims = dims if operation in CUMULATIVE else rules.without(dims, [at])
+        return Expr(operation, [self], [at], dims)  # type: ignore[list-item]
+
+    def taken(self, indices: Any, axis: int) -> Expr:
+        """What stands at these offsets of an axis: the request's take, which gives 0 where the axis
+        has no such offset, and counts none from behind.
+
+        >>> run(tensor([5, 6, 7]).taken([2, 0, 3, -1], 0)).values
+        [7, 5, 0, 0]
+        """
+        from .expressions import Expr
+        from .tensors import an_expr
+
+        named, at, dims = an_expr(indices), whole(axis), self.dims
+        operands: Any = [self, named]
+        if dims is None or named.dims is None:
+            return Expr("take", operands, [at], truth=self.truth)
+        at = rules.axis_of(at, len(dims))
+        return Expr("take", operands, [at], rules.taken(dims, named.dims, at), self.truth)
+
     # What is a function as well.
 
     def clip(self, min: Any = None, max: Any = None, out: None = None) -> Any:
@@ -224,7 +259,7 @@ class NumpyMethods(NumpyWays):
         return functions().repeat(self, repeats, axis)
 
     def take(self, indices: Any, axis: Any = None, out: None = None, mode: str = "raise") -> Any:
-        """What stands at these offsets of an axis, or of all values.
+        """What stands at these offsets of an axis, or of all values, which may count from behind.
 
         >>> run(tensor([5, 6, 7, 8]).take([3, 0, 1])).values
         [8, 5, 6]

@@ -31,7 +31,8 @@ from .length import (
     too_many_values,
 )
 from .memory import Held
-from .rewriting.bindings import FEWEST, Bindings, bindings_of
+from .rewriting.bindings import ALONG_AN_AXIS, FEWEST, Bindings, bindings_of
+from .rewriting.texts import as_in_texts
 from .rules import FIRST_ELEMENTS, MOST_ELEMENTS, Dims, places
 from .tensors import Placeholder, Tensor, an_expr
 from .values import whole
@@ -46,6 +47,7 @@ VERSIONS.update(
         "floor_divide remainder bit_and bit_or bit_xor bit_not shift_left shift_right".split(), 3
     )
 )
+VERSIONS.update(dict.fromkeys(ALONG_AN_AXIS, 3))
 LAST_OF_TEXTS = 2
 # So many arrays in one another a text may have, its own object and an argument's two left out; and
 # with all arrays.
@@ -257,12 +259,21 @@ def text_of(expr: Expr, bindings: Optional[Bindings] = None, most: int = 0) -> T
     return Text(expr, bindings, most)
 
 
+def text_of_texts(expr: Expr, version: Optional[int], most: int = 0) -> Text:
+    """The same in a version that texts have, in which others stand in the place of operations along
+    one axis."""
+    found = text_of(expr, None, most)
+    if found.version <= LAST_OF_TEXTS or version not in (None, 1, 2):
+        return found
+    return text_of(as_in_texts(expr), None, most)
+
+
 def text_of_frame(expr: Expr, version: Optional[int], is_apart: bool) -> Text:
     """The same of a frame, which has bindings where its version does; but none where it nests too
     deep with them, and is short without."""
     most = most_nodes(version)
     if most == FIRST_NODES:
-        return text_of(expr, None, most)
+        return text_of_texts(expr, version, most)
     found = Text(expr, None, most, looks=expr.nodes >= FEWEST)
     if not found.stands_again:
         return found
@@ -290,13 +301,14 @@ def whole_text(found: Text, settings: Settings, inputs: Iterable[str]) -> str:
 
 def request(expr: Any, workers: int = 1, block: int = 4096, version: Optional[int] = None) -> str:
     """The text that asks for an expression. Its version is the least that has its operations and
-    dims, and so many workers. A part that stands twice in the expression stands twice in the text.
+    dims, and so many workers. A part that stands twice in the expression stands twice in the text,
+    and others stand in the place of operations along one axis.
 
     >>> print(request(tensor(5)))
     {"version":1,"workers":1,"block":4096,"inputs":{"x0":{"dims":[],"data":[5]}},"expr":"x0"}
     """
     asked = an_expr(expr)
-    found = text_of(asked)
+    found = text_of_texts(asked, version)
     if version is None and found.version > LAST_OF_TEXTS:
         why = f"operations on integers, or more than {FIRST_ELEMENTS:,} places"
         raise BadVersion(f"no text has version {found.version}, {why}: the library and frames do")

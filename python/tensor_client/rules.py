@@ -169,6 +169,10 @@ def joined(left: Dims, right: Dims, axis: int) -> Dims:
     return legal([*left[:axis], left[axis] + right[axis], *left[axis + 1 :]])
 
 
+def taken(dims: Dims, indices: Dims, axis: int) -> Dims:
+    return legal([*dims[:axis], *indices, *dims[axis + 1 :]])
+
+
 def contracted(left: Dims, right: Dims, ours: Sequence[int], theirs: Sequence[int]) -> Dims:
     for our, their in zip(ours, theirs):
         if left[our] != right[their]:

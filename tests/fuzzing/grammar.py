@@ -1,9 +1,9 @@
 """Valid requests at random, by the grammar of docs/REQUEST.md: each part is made for the dims that
 it is to have, from the root down.
 
-A new operation is a call of Grammar with its name in MAKERS, or in MAKERS_OF for version 2; on
-values a name in UNARY or BINARY instead, or in UNARY_OF or BINARY_OF for version 3, a reduction one
-in REDUCTIONS.
+A new operation is a call of Grammar with its name in MAKERS, or in MAKERS_OF for versions 2 and 3;
+on values a name in UNARY or BINARY instead, or in UNARY_OF or BINARY_OF for version 3, a reduction
+one in REDUCTIONS.
 """
 
 import math
@@ -36,7 +36,7 @@ REDUCTIONS = ["sum", "prod", "maximum", "minimum", "all", "any"]
 MAKERS = ["unary"] * 2 + ["binary"] * 5 + ["select", "constant", "broadcast", "slice", "shuffle"]
 MAKERS += ["reshape", "chip", "reverse", "chain"] + ["reduction"] * 4 + ["contraction"] * 3
 MAKERS_OF = {1: MAKERS, 2: MAKERS + ["stride", "pad", "concat", "convolution"] * 2}
-MAKERS_OF[3] = MAKERS_OF[2] + ["binary"] * 5
+MAKERS_OF[3] = MAKERS_OF[2] + ["binary"] * 5 + ["scan", "location", "taking"] * 2
 # Counts of a shift: from below 0 to past 63.
 COUNTS = range(-2, 67)
 # How many lets stand in front in version 3, and what else their names may be.
@@ -263,6 +263,27 @@ class Grammar:
             return None
         pairs = [list(it) for it in zip(firsts, seconds)]
         return ["contract", self.node(left, depth), self.node(right, depth), pairs]
+
+    def scan(self, dims, depth):
+        if not dims:
+            return None
+        axis = self.random.randrange(len(dims))
+        return [self.random.choice(["cumsum", "cumprod"]), self.node(dims, depth), axis]
+
+    def location(self, dims, depth):
+        below, axes = self.woven(dims, [self.dimension()])
+        if not self.fits(below):
+            return None
+        return [self.random.choice(["argmax", "argmin"]), self.node(below, depth), *axes]
+
+    def taking(self, dims, depth):
+        """Some dims in a row are those of the indices."""
+        begin = self.random.randint(0, len(dims))
+        end = self.random.randint(begin, len(dims))
+        below = [*dims[:begin], self.dimension(), *dims[end:]]
+        if not self.fits(below):
+            return None
+        return ["take", self.node(below, depth), self.node(dims[begin:end], depth), begin]
 
 
 def request(random, versions=VERSIONS):

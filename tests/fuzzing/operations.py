@@ -1,9 +1,9 @@
 """The operations of a request, by name: their result dims and their values, one index list after
 another, as docs/REQUEST.md has them.
 
-A new one is a line of OPERATIONS, or of ADDED for version 2; on values a line of POINTWISE instead,
-or of ON_INTEGERS for version 3, a reduction one of REDUCTIONS here and in grammar.py. A version is a
-line of OPERATIONS_OF and of VERSIONS in rules.py.
+A new one is a line of OPERATIONS, of ADDED for version 2, or of ALONG_AN_AXIS for version 3; on
+values a line of POINTWISE instead, or of ON_INTEGERS for version 3, a reduction one of REDUCTIONS
+here and in grammar.py. A version is a line of OPERATIONS_OF and of VERSIONS in rules.py.
 """
 
 import itertools
@@ -266,6 +266,53 @@ def convolve(dims, x, kernel, axes):
     return Tensor.of(dims, value_at)
 
 
+def without(dims, axis):
+    need(axis < len(dims), 13)
+    return [*dims[:axis], *dims[axis + 1 :]]
+
+
+def up_to_each(combine, none):
+    def dims_of(_version, dims, axis):
+        without(dims, axis)
+        return dims
+
+    def work(dims, x, axis):
+        found = {}
+        for index in index_lists(dims):
+            before = *index[:axis], index[axis] - 1, *index[axis + 1 :]
+            found[index] = wrap(combine(found.get(before, none), x.at(index)))
+        return Tensor(dims, [*found.values()])
+
+    return dims_of, work
+
+
+def first_of(best):
+    def work(dims, x, axis):
+        def value_at(index):
+            line = [x.at([*index[:axis], it, *index[axis:]]) for it in range(x.dims[axis])]
+            return line.index(best(line)) if line else 0
+
+        return Tensor.of(dims, value_at)
+
+    return lambda _version, dims, axis: without(dims, axis), work
+
+
+def take_dims(version, dims, indices, axis):
+    others = without(dims, axis)
+    return legal(version, [*others[:axis], *indices, *others[axis:]])
+
+
+def take(dims, x, indices, axis):
+    behind = axis + len(indices.dims)
+
+    def value_at(index):
+        it = indices.at(index[axis:behind])
+        is_there = 0 <= it < x.dims[axis]
+        return x.at([*index[:axis], it, *index[behind:]]) if is_there else 0
+
+    return Tensor.of(dims, value_at)
+
+
 LEAST, GREATEST = VALUES.start, VALUES.stop - 1
 
 # By name: how many operands, the forms of the arguments, and both functions.
@@ -307,6 +354,13 @@ POINTWISE = {
     "select": (3, lambda c, x, y: x if c != 0 else y),
 }
 # Those that version 3 adds.
+ALONG_AN_AXIS = {
+    "cumsum": (1, ["size"], *up_to_each(operator.add, 0)),
+    "cumprod": (1, ["size"], *up_to_each(operator.mul, 1)),
+    "argmax": (1, ["size"], *first_of(max)),
+    "argmin": (1, ["size"], *first_of(min)),
+    "take": (2, ["size"], take_dims, take),
+}
 ON_INTEGERS = {
     "floor_divide": (2, lambda x, y: x // y if y else 0),
     "remainder": (2, lambda x, y: x % y if y else 0),
@@ -332,6 +386,7 @@ for _name, _combine in REDUCTIONS.items():
 OPERATIONS_OF = {1: OPERATIONS, 2: {**OPERATIONS, **ADDED}}
 OPERATIONS_OF[3] = {
     **OPERATIONS_OF[2],
+    **ALONG_AN_AXIS,
     **{name: (it[0], [], *pointwise(it[1])) for name, it in ON_INTEGERS.items()},
 }
 

@@ -22,8 +22,8 @@ SMALL = {1: 8, 2: 8, 3: 2}
 ENDS = [0, 1, 5, 6, 7, 8, 9, 1_024, 1_048_576, 1_048_577, 2**63 - 1, 2**63]
 WORDS = ["neg", "add", "select", "constant", "broadcast", "slice", "shuffle", "reshape", "chip"]
 WORDS += ["reverse", "sum", "prod", "all", "contract", "div", "Add", "stride", "pad", "concat"]
-WORDS += ["convolve", "bit_not", "remainder", "version", "workers", "block", "inputs", "expr"]
-WORDS += ["dims", "data", "x"]
+WORDS += ["convolve", "bit_not", "remainder", "cumsum", "argmin", "take", "version", "workers"]
+WORDS += ["block", "inputs", "expr", "dims", "data", "x"]
 ENDS_OF = {1: ENDS, 2: ENDS, 3: [*ENDS, *WIDEST]}
 WORDS_OF = {1: WORDS, 2: WORDS, 3: [*WORDS, "let", "y", "y0"]}
 ODD_NUMBERS = ["1.0", "1e0", "-0", "0.0", "1E2", "10e-1", "18446744073709551616", "1e400"]
@@ -171,9 +171,29 @@ def broken_convolutions(most, x, kernel, axes):
     return [*broken, ["convolve", kernel, x, axes], many]
 
 
+def broken_along(name):
+    """Those of an operation along an axis."""
+
+    def broken(_, x, axis):
+        lower = [[name, ["sum", x, [0]], axis], [name, x, [axis]]]
+        return [*lower, *([name, x, it] for it in (axis + 1, 8, 2**63 - 1))]
+
+    return broken
+
+
+def broken_takes(most, x, indices, axis):
+    deep, wide = (["reshape", "one", [1] * rank] for rank in (8, 2))
+    broken = [["take", x, indices, it] for it in (axis + 1, 8, 2**63 - 1, [axis])]
+    broken += [["take", ["sum", x, [0]], indices, axis], ["take", indices, x, axis]]
+    broken += [["take", it, deep, axis] for it in (x, wide)]
+    large = ["broadcast", wide, [2, 1]], of_ones(most)
+    return [*broken, ["take", x, of_ones(most), axis], ["take", *large, 1]]
+
+
 # By name; most of what they give fails one of the operation's checks.
 BROKEN = {"stride": broken_strides, "pad": broken_pads, "contract": broken_contractions}
-BROKEN.update({"concat": broken_concats, "convolve": broken_convolutions})
+BROKEN.update({"concat": broken_concats, "convolve": broken_convolutions, "take": broken_takes})
+BROKEN.update({it: broken_along(it) for it in ("cumsum", "cumprod", "argmax", "argmin")})
 
 
 def has_checks_to_break(node):

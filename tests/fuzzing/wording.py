@@ -16,6 +16,7 @@ NAMES_OF = {
     "concat": ["AXIS"],
     "convolve": ["AXES"],
     **dict.fromkeys(("sum", "prod", "maximum", "minimum", "all", "any"), ["AXES"]),
+    **dict.fromkeys(("cumsum", "cumprod", "argmax", "argmin", "take"), ["AXIS"]),
 }
 FORM_WORDS = {
     "size": f"a whole number from 0 to {MOST_SIZE}",

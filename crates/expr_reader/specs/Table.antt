@@ -1,13 +1,15 @@
 -- The operations of the text, as a table: what each takes, and what is made of it.
 use Rattle.std.specs.Prelude.{ℕ, ◌+◌, length, List, [], ◌∷◌, ◌++◌, take, drop, codes}
-use Rattle.tensor_ops.specs.Term.{Unary, each, constant, movement, pad, reduce}
-use Rattle.tensor_ops.specs.Term.{Binary, pairwise, concat, contract, convolve}
+use Rattle.tensor_ops.specs.Term.{Unary, each, constant, movement, pad, reduce, along}
+use Rattle.tensor_ops.specs.Term.{Binary, pairwise, concat, contract, convolve, taking}
 use Rattle.tensor_ops.specs.Term.{Ternary, select, broadcast, slice, shuffle, reshape}
 use Rattle.tensor_ops.specs.Term.{chip, reverse, stride}
 use Rattle.tensor_ops.specs.UnaryScalar.{UnaryScalar}
 use Rattle.tensor_ops.specs.UnaryScalar.TheVariants as unary
 use Rattle.tensor_ops.specs.BinaryScalar.{BinaryScalar}
 use Rattle.tensor_ops.specs.BinaryScalar.TheVariants as binary
+use Rattle.tensor_ops.specs.LineOperation.{LineOperation}
+use Rattle.tensor_ops.specs.LineOperation.TheVariants.{Cumsum, Cumprod, Argmax, Argmin}
 use Rattle.tensor_ops.specs.Reducer.{Reducer}
 use Rattle.tensor_ops.specs.Reducer.TheVariants.{Sum, Prod, Max, Min, All, Any}
 use Rattle.expr_reader.specs.Arguments.{Form, size, sizes, pairs, flags, value, Arguments}
@@ -34,6 +36,10 @@ on_pairs o = two [] (λ none. pairwise o)
 -- the reductions over axes
 abbrev pub over_axes : Reducer → Operation
 over_axes r = one (sizes ∷ []) (λ a. reduce r a.0)
+
+-- the operations along one axis
+abbrev pub along_axis : LineOperation → Operation
+along_axis o = one (size ∷ []) (λ a. along o a.0)
 
 -- the operations of the first version, by their names: those that work each value out from those at
 -- its own place, the movements, the reductions and the contraction
@@ -80,7 +86,8 @@ operations_2 = operations_1
     ∷ (codes "concat", two (size ∷ []) (λ a. concat a.0))
     ∷ (codes "convolve", two (sizes ∷ []) (λ a. convolve a.0)) ∷ [])
 
--- the operations of the third version: all of the second, and these on whole numbers
+-- the operations of the third version: all of the second, these on whole numbers, and those along
+-- one axis
 abbrev pub operations_3 : List (List ℕ × Operation)
 operations_3 = operations_2
     ++ ((codes "floor_divide", on_pairs binary.FloorDivide)
@@ -90,7 +97,12 @@ operations_3 = operations_2
     ∷ (codes "bit_xor", on_pairs binary.BitXor)
     ∷ (codes "bit_not", on_each unary.BitNot)
     ∷ (codes "shift_left", on_pairs binary.ShiftLeft)
-    ∷ (codes "shift_right", on_pairs binary.ShiftRight) ∷ [])
+    ∷ (codes "shift_right", on_pairs binary.ShiftRight)
+    ∷ (codes "cumsum", along_axis Cumsum)
+    ∷ (codes "cumprod", along_axis Cumprod)
+    ∷ (codes "argmax", along_axis Argmax)
+    ∷ (codes "argmin", along_axis Argmin)
+    ∷ (codes "take", two (size ∷ []) (λ a. taking a.0)) ∷ [])
 
 -- parts of these: the first 19, the 6 behind them, and the rest of the first version's
 abbrev pub operations_on_values : List (List ℕ × Operation)
@@ -106,6 +118,9 @@ operations_along_axes = drop 25 operations_1
 abbrev pub operations_added : List (List ℕ × Operation)
 operations_added = drop 32 operations_2
 
--- and those that the third has beside these
+-- and those that the third has beside these: 8 on whole numbers, and the rest
 abbrev pub operations_on_integers : List (List ℕ × Operation)
-operations_on_integers = drop 36 operations_3
+operations_on_integers = take 8 (drop 36 operations_3)
+
+abbrev pub operations_along_one_axis : List (List ℕ × Operation)
+operations_along_one_axis = drop 44 operations_3

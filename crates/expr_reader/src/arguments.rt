@@ -80,6 +80,10 @@ pub(crate) fn with_arguments(
             let axes = list_at(alloc, &arguments[0], 2, way)?;
             Ok(Expr::reduction(reducer, operand, axes))
         }
+        Unary::Along(line) => {
+            let axis = item_at(&arguments[0], 2, way)?;
+            Ok(Expr::along(line, operand, axis))
+        }
     }
 }
 
@@ -114,6 +118,10 @@ pub(crate) fn both_with_arguments(
         Binary::Convolve => {
             let axes = list_at(alloc, &arguments[0], 3, way)?;
             Ok(Expr::Convolve(left, right, axes))
+        }
+        Binary::Take => {
+            let axis = item_at(&arguments[0], 3, way)?;
+            Ok(Expr::Take(left, right, axis))
         }
     }
 }

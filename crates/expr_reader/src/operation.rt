@@ -2,7 +2,7 @@
 
 ghost use Rattle.std.specs.Prelude.{◌≡◌, length};
 
-use tensor_ops::{BinaryScalar, Reducer, UnaryScalar};
+use tensor_ops::{BinaryScalar, LineOperation, Reducer, UnaryScalar};
 
 /// An operation on one operand, without its arguments.
 #[derive(Clone, Copy, Debug, Eq, PartialEq)]
@@ -18,6 +18,7 @@ pub(crate) enum Unary {
     Stride,
     Pad,
     Reduce(Reducer),
+    Along(LineOperation),
 }
 
 /// An operation on two operands, without its arguments.
@@ -27,6 +28,7 @@ pub(crate) enum Binary {
     Concat,
     Contract,
     Convolve,
+    Take,
 }
 
 /// An operation by the number of its operands.
@@ -53,7 +55,8 @@ impl Unary {
             | Unary::Reverse
             | Unary::Stride
             | Unary::Pad
-            | Unary::Reduce(_) => 1,
+            | Unary::Reduce(_)
+            | Unary::Along(_) => 1,
             Unary::Slice | Unary::Chip => 2,
         }
     }
@@ -68,7 +71,7 @@ impl Binary {
     {
         match self {
             Binary::Pairwise(_) => 0,
-            Binary::Concat | Binary::Contract | Binary::Convolve => 1,
+            Binary::Concat | Binary::Contract | Binary::Convolve | Binary::Take => 1,
         }
     }
 }

@@ -7,14 +7,15 @@ ghost use Rattle.expr_reader.specs.Expression.{is_let};
 ghost use Rattle.expr_reader.specs.Limits.{widest_nodes};
 ghost use Rattle.expr_reader.specs.Profile.{operation_named};
 ghost use Rattle.expr_reader.specs.Table.{operations_on_values, movements, operations_along_axes};
-ghost use Rattle.expr_reader.specs.Table.{operations_1, operations_2, operations_added};
-ghost use Rattle.expr_reader.specs.Table.{operations_on_integers};
+ghost use Rattle.expr_reader.specs.Table.{operations_1, operations_2, operations_3};
+ghost use Rattle.expr_reader.specs.Table.{operations_added, operations_on_integers};
+ghost use Rattle.expr_reader.specs.Table.{operations_along_one_axis};
 ghost use Rattle.expr_reader.specs.private.Version.{operation_under};
 
 use crate::operation::{Binary, Operation, Unary};
 use crate::{MAX_BLOCK, MAX_NODES, MAX_VALUES, WIDEST_BLOCK, WIDEST_NODES, WIDEST_VALUES};
 use serde_json::Value;
-use tensor_ops::{BinaryScalar, Bounds, Reducer, UnaryScalar, WIDEST};
+use tensor_ops::{BinaryScalar, Bounds, LineOperation, Reducer, UnaryScalar, WIDEST};
 
 /// A version of a text or a frame.
 #[derive(Clone, Copy, Debug, Eq, PartialEq)]
@@ -118,7 +119,7 @@ impl Version {
         match self {
             Version::One => first_operation(name),
             Version::Two => second_operation(name),
-            Version::Three => second_operation(name).or(operation_on_integers(name)),
+            Version::Three => third_operation(name),
         }
     }
 }
@@ -138,6 +139,15 @@ fn second_operation(name: &str) -> Option<Operation>
     ensures { option_map operation_under result ≡ operation_named name.now operations_2 }
 {
     first_operation(name).or(added_operation(name))
+}
+
+/// The operation of a name in the third version.
+fn third_operation(name: &str) -> Option<Operation>
+    ensures { option_map operation_under result ≡ operation_named name.now operations_3 }
+{
+    second_operation(name)
+        .or(operation_on_integers(name))
+        .or(operation_along_one_axis(name))
 }
 
 /// An operation that works each value out from those at its own place.
@@ -212,7 +222,7 @@ fn added_operation(name: &str) -> Option<Operation>
     }
 }
 
-/// The operation of a name that the third version adds.
+/// An operation on whole numbers, which the third version adds.
 fn operation_on_integers(name: &str) -> Option<Operation>
     ensures { option_map operation_under result ≡ operation_named name.now operations_on_integers }
 {
@@ -225,6 +235,21 @@ fn operation_on_integers(name: &str) -> Option<Operation>
         "bit_not" => Some(Operation::One(Unary::Each(UnaryScalar::BitNot))),
         "shift_left" => Some(Operation::Two(Binary::Pairwise(BinaryScalar::ShiftLeft))),
         "shift_right" => Some(Operation::Two(Binary::Pairwise(BinaryScalar::ShiftRight))),
+        _ => None,
+    }
+}
+
+/// An operation along one axis, which the third version adds.
+fn operation_along_one_axis(name: &str) -> Option<Operation>
+    ensures { option_map operation_under result
+        ≡ operation_named name.now operations_along_one_axis }
+{
+    match name {
+        "cumsum" => Some(Operation::One(Unary::Along(LineOperation::Cumsum))),
+        "cumprod" => Some(Operation::One(Unary::Along(LineOperation::Cumprod))),
+        "argmax" => Some(Operation::One(Unary::Along(LineOperation::Argmax))),
+        "argmin" => Some(Operation::One(Unary::Along(LineOperation::Argmin))),
+        "take" => Some(Operation::Two(Binary::Take)),
         _ => None,
     }
 }

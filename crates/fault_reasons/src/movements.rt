@@ -1,6 +1,6 @@
 //! Why a movement, a pad or a reshape of an operand fails.
 
-use crate::sizes::{past_words, places, sizes_in, why_axes, why_illegal};
+use crate::sizes::{no_axis, past_words, places, sizes_in, why_axes, why_illegal};
 use serde_json::Value;
 use std::alloc::{AllocError, Global};
 
@@ -124,12 +124,12 @@ pub(crate) fn why_chip(
     let (Some(offset), Some(axis)) = (offset.as_u64(), axis.as_u64()) else {
         return Ok(None);
     };
-    let reason = match dims.get(axis as usize) {
-        Some(size) => format!(in alloc;
-            "OFFSET is below the dimension {size} of AXIS {axis}, and this is {offset}"
-        )?,
-        None => format!(in alloc; "AXIS {axis} is no axis of the dims {dims:?}")?,
+    let Some(size) = dims.get(axis as usize) else {
+        return no_axis(alloc, axis, dims);
     };
+    let reason = format!(in alloc;
+        "OFFSET is below the dimension {size} of AXIS {axis}, and this is {offset}"
+    )?;
     Ok(Some(reason))
 }
 

@@ -66,6 +66,7 @@ pub(crate) fn known_operation(name: &str) -> Option<Operation> {
         .or(along_axes(name))
         .or(added(name))
         .or(on_integers(name))
+        .or(along_one_axis(name))
 }
 
 /// An operation on so many operands, without arguments.
@@ -146,7 +147,7 @@ fn added(name: &str) -> Option<Operation> {
     })
 }
 
-/// An operation of version 3 alone.
+/// An operation on whole numbers, of version 3 alone.
 fn on_integers(name: &str) -> Option<Operation> {
     let operands = match name {
         "bit_not" => 1,
@@ -157,5 +158,18 @@ fn on_integers(name: &str) -> Option<Operation> {
     Some(Operation {
         version: 3,
         ..plain(operands)
+    })
+}
+
+/// An operation along one axis, of version 3 alone.
+fn along_one_axis(name: &str) -> Option<Operation> {
+    let operands = match name {
+        "cumsum" | "cumprod" | "argmax" | "argmin" => 1,
+        "take" => 2,
+        _ => return None,
+    };
+    Some(Operation {
+        version: 3,
+        ..with(operands, "AXIS", Form::Size)
     })
 }

@@ -84,6 +84,16 @@ pub(crate) fn past_words(alloc: Global, axis: usize) -> Result<Option<String>, A
     Ok(Some(reason))
 }
 
+/// That these dims have no such axis.
+pub(crate) fn no_axis(
+    alloc: Global,
+    axis: u64,
+    dims: &[u64],
+) -> Result<Option<String>, AllocError> {
+    let reason = format!(in alloc; "AXIS {axis} is no axis of the dims {dims:?}")?;
+    Ok(Some(reason))
+}
+
 /// Why axes aren't each one of these dims' and none twice, if they aren't.
 pub(crate) fn why_axes(
     alloc: Global,

@@ -3,14 +3,14 @@ use Rattle.std.proofs.Common.{◌≡◌, ℕ, zero, suc, ◌^◌, ◌<◌, ◌�
 use Rattle.std.proofs.Common.{Option, Some, None, option_map, Result, Ok, Err, if◌then◌else◌, get_or, refl, ap, sym, ◌∙◌, subst, inl, inr, arith}
 use Rattle.prepared_expressions.specs.declared.refusal.Refusal.{Refusal}
 use Rattle.std.specs.Int.{w64, cast_signed, cast_unsigned}
-use Rattle.tensor_terms.specs.Term.{Unary, each, constant, movement, pad, reduce}
+use Rattle.tensor_terms.specs.Term.{Unary, each, constant, movement, pad, reduce, along}
 use Rattle.tensor_terms.specs.Term.{broadcast, slice, shuffle, reshape, chip, reverse, stride}
-use Rattle.tensor_terms.specs.Term.{Binary, pairwise, concat, contract, convolve}
+use Rattle.tensor_terms.specs.Term.{Binary, pairwise, concat, contract, convolve, taking}
 use Rattle.prepared_expressions.specs.declared.kind.UnaryKind.{UnaryKind}
 use Rattle.prepared_expressions.specs.declared.kind.UnaryKind.TheVariants.{Each, Constant, Broadcast, Slice, Shuffle}
-use Rattle.prepared_expressions.specs.declared.kind.UnaryKind.TheVariants.{Reshape, Chip, Reverse, Stride, Pad, Reduce}
+use Rattle.prepared_expressions.specs.declared.kind.UnaryKind.TheVariants.{Reshape, Chip, Reverse, Stride, Pad, Reduce, Along}
 use Rattle.prepared_expressions.specs.declared.kind.BinaryKind.{BinaryKind}
-use Rattle.prepared_expressions.specs.declared.kind.BinaryKind.TheVariants.{Pairwise, Concat, Contract, Convolve}
+use Rattle.prepared_expressions.specs.declared.kind.BinaryKind.TheVariants.{Pairwise, Concat, Contract, Convolve, Take}
 use Rattle.prepared_expressions.specs.private.Made.{IsMadeOr, of_none, one_in, two_in, lists_in, cons_of, flag_in, flags_in, pairs_in, unary_from, binary_from}
 use Rattle.prepared_expressions.specs.Recorded.{flag_number, pair_numbers, unary_kind, unary_numbers, binary_kind, binary_numbers, HasRange}
 use Rattle.std.proofs.lemmas.Int.{to_z-of_z}
@@ -47,12 +47,14 @@ unary_from-numbers (movement (reverse flags)) fits = rw (flags_in-map flags) ref
 unary_from-numbers (movement (stride steps)) fits = refl
 unary_from-numbers (pad pairs) fits = rw (pairs_in-pair_numbers pairs) refl
 unary_from-numbers (reduce r axes) fits = refl
+unary_from-numbers (along o axis) fits = refl
 
 pub binary_from-numbers : (o : Binary) → binary_from (binary_kind o) (binary_numbers o) ≡ Some o
 binary_from-numbers (pairwise o) = refl
 binary_from-numbers (concat axis) = refl
 binary_from-numbers (contract pairs) = rw (pairs_in-pair_numbers pairs) refl
 binary_from-numbers (convolve axes) = refl
+binary_from-numbers (taking axis) = refl
 
 -- what was found is no other
 some : {A : Type 0} (P : A → Type 0) (x y : A) → Some x ≡ Some y → P x → P y
@@ -148,6 +150,8 @@ unary_from-back Stride ns o fit is = some (Has Stride ns) (movement (stride ns))
 unary_from-back Pad ns o fit is =
     option_map-some (Has Pad ns) pad (pairs_in ns) o is (λ ps found. (refl, pairs_in-back ns ps found))
 unary_from-back (Reduce r) ns o fit is = some (Has (Reduce r) ns) (reduce r ns) o is (refl, refl)
+unary_from-back (Along s) ns o fit is =
+    option_map-some (Has (Along s) ns) (λ axis. along s axis) (one_in ns) o is (λ n found. (refl, one_in-back ns n found))
 
 abbrev pub HasTwo : BinaryKind → List ℕ → Binary → Type 0
 HasTwo k ns o = (binary_kind o ≡ k) × (binary_numbers o ≡ ns)
@@ -160,6 +164,8 @@ binary_from-back Concat ns o is =
 binary_from-back Contract ns o is =
     option_map-some (HasTwo Contract ns) contract (pairs_in ns) o is (λ ps found. (refl, pairs_in-back ns ps found))
 binary_from-back Convolve ns o is = some (HasTwo Convolve ns) (convolve ns) o is (refl, refl)
+binary_from-back Take ns o is =
+    option_map-some (HasTwo Take ns) taking (one_in ns) o is (λ n found. (refl, one_in-back ns n found))
 
 -- no numbers stand beside what needs none
 -- what was made of no numbers shows what stands for it

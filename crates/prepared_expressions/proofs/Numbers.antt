@@ -1,12 +1,13 @@
 -- What a head says, and only that.
 use Rattle.std.proofs.Common.{◌≡◌, ℕ, List, [], ◌∷◌, ◌++◌, length, Some, slice_get, refl, ap, sym, ◌∙◌, arith}
 use Rattle.tensor_terms.specs.Term.{Term, input, unary, binary, ternary, select}
+use Rattle.tensor_ops.specs.LineOperation.TheVariants.{Cumsum, Cumprod, Argmax, Argmin}
 use Rattle.tensor_values.specs.declared.operations.UnaryScalar.TheVariants as one
 use Rattle.tensor_values.specs.declared.operations.BinaryScalar.TheVariants as two
 use Rattle.tensor_values.specs.declared.reducer.Reducer.TheVariants.{Sum, Prod, Max, Min, All, Any}
 use Rattle.prepared_expressions.specs.declared.kind.UnaryKind.TheVariants.{Each, Constant, Broadcast, Slice, Shuffle}
-use Rattle.prepared_expressions.specs.declared.kind.UnaryKind.TheVariants.{Reshape, Chip, Reverse, Stride, Pad, Reduce}
-use Rattle.prepared_expressions.specs.declared.kind.BinaryKind.TheVariants.{Pairwise, Concat, Contract, Convolve}
+use Rattle.prepared_expressions.specs.declared.kind.UnaryKind.TheVariants.{Reshape, Chip, Reverse, Stride, Pad, Reduce, Along}
+use Rattle.prepared_expressions.specs.declared.kind.BinaryKind.TheVariants.{Pairwise, Concat, Contract, Convolve, Take}
 use Rattle.prepared_expressions.specs.declared.kind.Kind.{Kind}
 use Rattle.prepared_expressions.specs.declared.kind.Kind.TheVariants.{Input, One, Two, Select}
 use Rattle.prepared_expressions.specs.Numbers.{number_of, headed}
@@ -29,7 +30,9 @@ kinds =
     ∷ Two Contract ∷ Two Convolve
     ∷ Two (Pairwise two.FloorDivide) ∷ Two (Pairwise two.Remainder)
     ∷ Two (Pairwise two.BitAnd) ∷ Two (Pairwise two.BitOr) ∷ Two (Pairwise two.BitXor)
-    ∷ One (Each one.BitNot) ∷ Two (Pairwise two.ShiftLeft) ∷ Two (Pairwise two.ShiftRight) ∷ []
+    ∷ One (Each one.BitNot) ∷ Two (Pairwise two.ShiftLeft) ∷ Two (Pairwise two.ShiftRight)
+    ∷ One (Along Cumsum) ∷ One (Along Cumprod) ∷ One (Along Argmax) ∷ One (Along Argmin)
+    ∷ Two Take ∷ []
 
 kinds-number_of : (k : Kind) → slice_get kinds (number_of k) ≡ Some k
 unfolding kinds
@@ -54,6 +57,10 @@ kinds-number_of (One (Reduce Max)) = refl
 kinds-number_of (One (Reduce Min)) = refl
 kinds-number_of (One (Reduce All)) = refl
 kinds-number_of (One (Reduce Any)) = refl
+kinds-number_of (One (Along Cumsum)) = refl
+kinds-number_of (One (Along Cumprod)) = refl
+kinds-number_of (One (Along Argmax)) = refl
+kinds-number_of (One (Along Argmin)) = refl
 kinds-number_of (Two (Pairwise two.Add)) = refl
 kinds-number_of (Two (Pairwise two.Sub)) = refl
 kinds-number_of (Two (Pairwise two.Mul)) = refl
@@ -77,6 +84,7 @@ kinds-number_of (Two (Pairwise two.ShiftRight)) = refl
 kinds-number_of (Two Concat) = refl
 kinds-number_of (Two Contract) = refl
 kinds-number_of (Two Convolve) = refl
+kinds-number_of (Two Take) = refl
 kinds-number_of Select = refl
 
 -- two kinds have two numbers

@@ -1,5 +1,7 @@
 -- The number of each operation, and how it stands with its arguments.
 use Rattle.std.specs.Prelude.{ℕ, List, ◌∷◌, ◌++◌, length}
+use Rattle.tensor_ops.specs.LineOperation.{LineOperation}
+use Rattle.tensor_ops.specs.LineOperation.TheVariants.{Cumsum, Cumprod, Argmax, Argmin}
 use Rattle.tensor_values.specs.declared.operations.UnaryScalar.{UnaryScalar}
 use Rattle.tensor_values.specs.declared.operations.UnaryScalar.TheVariants as one
 use Rattle.tensor_values.specs.declared.operations.BinaryScalar.{BinaryScalar}
@@ -11,10 +13,10 @@ use Rattle.prepared_expressions.specs.declared.kind.UnaryKind.TheVariants.{Each,
 use Rattle.prepared_expressions.specs.declared.kind.UnaryKind.TheVariants.{Broadcast, Slice}
 use Rattle.prepared_expressions.specs.declared.kind.UnaryKind.TheVariants.{Shuffle}
 use Rattle.prepared_expressions.specs.declared.kind.UnaryKind.TheVariants.{Reshape, Chip, Reverse}
-use Rattle.prepared_expressions.specs.declared.kind.UnaryKind.TheVariants.{Stride, Pad, Reduce}
+use Rattle.prepared_expressions.specs.declared.kind.UnaryKind.TheVariants.{Stride, Pad, Reduce, Along}
 use Rattle.prepared_expressions.specs.declared.kind.BinaryKind.{BinaryKind}
 use Rattle.prepared_expressions.specs.declared.kind.BinaryKind.TheVariants.{Pairwise, Concat}
-use Rattle.prepared_expressions.specs.declared.kind.BinaryKind.TheVariants.{Contract, Convolve}
+use Rattle.prepared_expressions.specs.declared.kind.BinaryKind.TheVariants.{Contract, Convolve, Take}
 use Rattle.prepared_expressions.specs.declared.kind.Kind.{Kind}
 use Rattle.prepared_expressions.specs.declared.kind.Kind.TheVariants.{Input, One, Two, Select}
 
@@ -55,6 +57,12 @@ reducer_number Min = 32
 reducer_number All = 33
 reducer_number Any = 34
 
+abbrev pub line_number : LineOperation → ℕ
+line_number Cumsum = 45
+line_number Cumprod = 46
+line_number Argmax = 47
+line_number Argmin = 48
+
 abbrev pub unary_number : UnaryKind → ℕ
 unary_number (Each o) = each_number o
 unary_number Constant = 19
@@ -67,12 +75,14 @@ unary_number Reverse = 25
 unary_number Stride = 26
 unary_number Pad = 27
 unary_number (Reduce r) = reducer_number r
+unary_number (Along o) = line_number o
 
 abbrev pub binary_number : BinaryKind → ℕ
 binary_number (Pairwise o) = pairwise_number o
 binary_number Concat = 28
 binary_number Contract = 35
 binary_number Convolve = 36
+binary_number Take = 49
 
 abbrev pub number_of : Kind → ℕ
 number_of Input = 0

@@ -3,19 +3,19 @@ use Rattle.std.specs.Prelude.{ℕ, ◌+◌, max, List, [], ◌∷◌, ◌++◌, 
 use Rattle.std.specs.Prelude.{FitsSigned}
 use Rattle.std.specs.Int.{w64, cast_unsigned}
 use Rattle.tensor_terms.specs.Term.{Term, input, unary, binary, ternary, select}
-use Rattle.tensor_terms.specs.Term.{Unary, each, constant, movement, pad, reduce}
+use Rattle.tensor_terms.specs.Term.{Unary, each, constant, movement, pad, reduce, along}
 use Rattle.tensor_terms.specs.Term.{Movement, broadcast, slice, shuffle, reshape, chip, reverse}
 use Rattle.tensor_terms.specs.Term.{stride}
-use Rattle.tensor_terms.specs.Term.{Binary, pairwise, concat, contract, convolve}
+use Rattle.tensor_terms.specs.Term.{Binary, pairwise, concat, contract, convolve, taking}
 use Rattle.prepared_expressions.specs.declared.kind.UnaryKind.{UnaryKind}
 use Rattle.prepared_expressions.specs.declared.kind.UnaryKind.TheVariants.{Each, Constant}
 use Rattle.prepared_expressions.specs.declared.kind.UnaryKind.TheVariants.{Broadcast, Slice}
 use Rattle.prepared_expressions.specs.declared.kind.UnaryKind.TheVariants.{Shuffle}
 use Rattle.prepared_expressions.specs.declared.kind.UnaryKind.TheVariants.{Reshape, Chip, Reverse}
-use Rattle.prepared_expressions.specs.declared.kind.UnaryKind.TheVariants.{Stride, Pad, Reduce}
+use Rattle.prepared_expressions.specs.declared.kind.UnaryKind.TheVariants.{Stride, Pad, Reduce, Along}
 use Rattle.prepared_expressions.specs.declared.kind.BinaryKind.{BinaryKind}
 use Rattle.prepared_expressions.specs.declared.kind.BinaryKind.TheVariants.{Pairwise, Concat}
-use Rattle.prepared_expressions.specs.declared.kind.BinaryKind.TheVariants.{Contract, Convolve}
+use Rattle.prepared_expressions.specs.declared.kind.BinaryKind.TheVariants.{Contract, Convolve, Take}
 use Rattle.prepared_expressions.specs.declared.kind.Kind.TheVariants.{Input, One, Two, Select}
 use Rattle.prepared_expressions.specs.Numbers.{number_of, headed}
 
@@ -35,12 +35,14 @@ unary_kind (constant v) = Constant
 unary_kind (movement m) = movement_kind m
 unary_kind (pad pairs) = Pad
 unary_kind (reduce r axes) = Reduce r
+unary_kind (along o axis) = Along o
 
 abbrev pub binary_kind : Binary → BinaryKind
 binary_kind (pairwise o) = Pairwise o
 binary_kind (concat axis) = Concat
 binary_kind (contract pairs) = Contract
 binary_kind (convolve axes) = Convolve
+binary_kind (taking axis) = Take
 
 -- a flag is 1 or 0; pairs stand one behind the other
 abbrev pub flag_number : Bool → ℕ
@@ -67,12 +69,14 @@ unary_numbers (constant v) = cast_unsigned w64 v ∷ []
 unary_numbers (movement m) = movement_numbers m
 unary_numbers (pad pairs) = pair_numbers pairs
 unary_numbers (reduce r axes) = axes
+unary_numbers (along o axis) = axis ∷ []
 
 abbrev pub binary_numbers : Binary → List ℕ
 binary_numbers (pairwise o) = []
 binary_numbers (concat axis) = axis ∷ []
 binary_numbers (contract pairs) = pair_numbers pairs
 binary_numbers (convolve axes) = axes
+binary_numbers (taking axis) = axis ∷ []
 
 -- the numbers of a term, before what stands behind them
 abbrev pub recorded : Term → List ℕ → List ℕ
@@ -103,6 +107,7 @@ HasRange (constant v) = FitsSigned w64 v
 HasRange (movement m) = Unit {0}
 HasRange (pad pairs) = Unit {0}
 HasRange (reduce r axes) = Unit {0}
+HasRange (along o axis) = Unit {0}
 
 abbrev pub HasRanges : Term → Type 0
 HasRanges (input n) = Unit {0}

@@ -44,6 +44,7 @@ pub(crate) fn unary_over(
         UnaryKind::Stride => Expr::Stride(operand, arguments.to_vec(alloc)?),
         UnaryKind::Pad => Expr::Pad(operand, read_pairs(alloc, arguments)?),
         UnaryKind::Reduce(reducer) => Expr::reduction(reducer, operand, arguments.to_vec(alloc)?),
+        UnaryKind::Along(operation) => Expr::along(operation, operand, one_number(arguments)?),
     })
 }
 
@@ -68,6 +69,7 @@ pub(crate) fn binary_over(
         BinaryKind::Concat => Ok(Expr::Concat(first, second, one_number(arguments)?)),
         BinaryKind::Contract => Ok(Expr::Contract(first, second, read_pairs(alloc, arguments)?)),
         BinaryKind::Convolve => Ok(Expr::Convolve(first, second, arguments.to_vec(alloc)?)),
+        BinaryKind::Take => Ok(Expr::Take(first, second, one_number(arguments)?)),
     }
 }
 

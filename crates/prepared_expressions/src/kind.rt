@@ -4,6 +4,7 @@ ghost use Rattle.std.specs.Prelude.{◌≡◌, ◌≢◌, ◌<◌, IfSome, IfNon
 ghost use Rattle.prepared_expressions.specs.declared.kind.Kind.{Kind};
 ghost use Rattle.prepared_expressions.specs.Numbers.{number_of};
 
+use tensor_ops::LineOperation;
 use tensor_values::{BinaryScalar, Reducer, UnaryScalar};
 
 /// An operation on one operand, without its arguments.
@@ -20,6 +21,7 @@ pub(crate) enum UnaryKind {
     Stride,
     Pad,
     Reduce(Reducer),
+    Along(LineOperation),
 }
 
 /// An operation on two operands, without its arguments.
@@ -29,6 +31,7 @@ pub(crate) enum BinaryKind {
     Concat,
     Contract,
     Convolve,
+    Take,
 }
 
 /// What stands at a node, by the number of its operands.
@@ -95,7 +98,8 @@ impl Kind {
         })
     }
 
-    /// The one of a greater number: a reduction, a product, or an operation on whole numbers.
+    /// The one of a greater number: a reduction, a product, or an operation on whole numbers or
+    /// along an axis.
     fn later(number: u64) -> Option<Kind>
         requires { 28 < number }
         ensures known { IfSome result (λ kind. number_of kind ≡ number) }
@@ -118,6 +122,11 @@ impl Kind {
             42 => Kind::One(UnaryKind::Each(UnaryScalar::BitNot)),
             43 => Kind::Two(BinaryKind::Pairwise(BinaryScalar::ShiftLeft)),
             44 => Kind::Two(BinaryKind::Pairwise(BinaryScalar::ShiftRight)),
+            45 => Kind::One(UnaryKind::Along(LineOperation::Cumsum)),
+            46 => Kind::One(UnaryKind::Along(LineOperation::Cumprod)),
+            47 => Kind::One(UnaryKind::Along(LineOperation::Argmax)),
+            48 => Kind::One(UnaryKind::Along(LineOperation::Argmin)),
+            49 => Kind::Two(BinaryKind::Take),
             _ => return None,
         })
     }
@@ -151,6 +160,10 @@ impl UnaryKind {
             UnaryKind::Reduce(Reducer::Min) => 32,
             UnaryKind::Reduce(Reducer::All) => 33,
             UnaryKind::Reduce(Reducer::Any) => 34,
+            UnaryKind::Along(LineOperation::Cumsum) => 45,
+            UnaryKind::Along(LineOperation::Cumprod) => 46,
+            UnaryKind::Along(LineOperation::Argmax) => 47,
+            UnaryKind::Along(LineOperation::Argmin) => 48,
         }
     }
 }
@@ -186,6 +199,7 @@ impl BinaryKind {
             BinaryKind::Concat => 28,
             BinaryKind::Contract => 35,
             BinaryKind::Convolve => 36,
+            BinaryKind::Take => 49,
         }
     }
 }

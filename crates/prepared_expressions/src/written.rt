@@ -114,6 +114,7 @@ fn kind_of(operation: Unary<'_>) -> UnaryKind
         Unary::Move(Movement::Stride(_)) => UnaryKind::Stride,
         Unary::Pad(_) => UnaryKind::Pad,
         Unary::Reduce(reducer, _) => UnaryKind::Reduce(reducer),
+        Unary::Along(operation, _) => UnaryKind::Along(operation),
     }
 }
 
@@ -126,6 +127,7 @@ fn binary_kind_of(operation: Binary<'_>) -> BinaryKind
         Binary::Concat(_) => BinaryKind::Concat,
         Binary::Contract(_) => BinaryKind::Contract,
         Binary::Convolve(_) => BinaryKind::Convolve,
+        Binary::Take(_) => BinaryKind::Take,
     }
 }
 
@@ -140,6 +142,7 @@ fn numbers_of(alloc: Global, operation: Unary<'_>) -> Result<Vec<u64>, AllocErro
         Unary::Move(movement) => movement_numbers_of(alloc, movement),
         Unary::Pad(pairs) => pair_numbers_of(alloc, pairs),
         Unary::Reduce(_, axes) => Vec::from_slice(alloc, axes),
+        Unary::Along(_, axis) => Vec::from_slice(alloc, &[axis]),
     }
 }
 
@@ -177,7 +180,7 @@ fn binary_numbers_of(alloc: Global, operation: Binary<'_>) -> Result<Vec<u64>, A
 {
     match operation {
         Binary::Pairwise(_) => Ok(Vec::new(alloc)),
-        Binary::Concat(axis) => Vec::from_slice(alloc, &[axis]),
+        Binary::Concat(axis) | Binary::Take(axis) => Vec::from_slice(alloc, &[axis]),
         Binary::Contract(pairs) => pair_numbers_of(alloc, pairs),
         Binary::Convolve(axes) => Vec::from_slice(alloc, axes),
     }

@@ -8,10 +8,10 @@ use Rattle.expr_reader.specs.Index.{size_of}
 use Rattle.expr_reader.specs.Request.{Asked, tensors_of}
 use Rattle.expr_reader.specs.Result.{shape_of}
 use Rattle.expr_reader.specs.Term.{Term, input, unary, binary, ternary}
-use Rattle.expr_reader.specs.Term.{Unary, each, constant, movement, pad, reduce}
+use Rattle.expr_reader.specs.Term.{Unary, each, constant, movement, pad, reduce, along}
 use Rattle.expr_reader.specs.Term.{Movement, broadcast, slice, shuffle, reshape, chip}
 use Rattle.expr_reader.specs.Term.{reverse, stride}
-use Rattle.expr_reader.specs.Term.{Binary, pairwise, concat, contract, convolve}
+use Rattle.expr_reader.specs.Term.{Binary, pairwise, concat, contract, convolve, taking}
 use Rattle.expr_reader.specs.declared.fault.Fault.{Fault}
 use Rattle.expr_reader.specs.declared.fault.Fault.TheVariants.{NoMemory}
 use Rattle.tensor_c.specs.Answer.{or_fault}
@@ -24,13 +24,15 @@ combines (constant v) = false
 combines (movement m) = false
 combines (pad pairs) = false
 combines (reduce r axes) = true
+combines (along o axis) = true
 
--- the same of two operands
+-- the same of two operands, or takes values of one at the numbers of the other
 abbrev pub combines_two : Binary → Bool
 combines_two (pairwise o) = false
 combines_two (concat axis) = false
 combines_two (contract pairs) = true
 combines_two (convolve axes) = true
+combines_two (taking axis) = true
 
 -- whether the last operation of a term does: then its values are worked out as a list
 abbrev pub is_combined : Term → Bool
@@ -39,12 +41,38 @@ is_combined (unary o a) = combines o
 is_combined (binary o a b) = combines_two o
 is_combined (ternary o a b c) = false
 
+-- whether an operation goes along an axis: then no part of its values is worked out without the
+-- others
+abbrev pub goes_along : Unary → Bool
+goes_along (each o) = false
+goes_along (constant v) = false
+goes_along (movement m) = false
+goes_along (pad pairs) = false
+goes_along (reduce r axes) = false
+goes_along (along o axis) = true
+
+-- the same of two operands
+abbrev pub takes : Binary → Bool
+takes (pairwise o) = false
+takes (concat axis) = false
+takes (contract pairs) = false
+takes (convolve axes) = false
+takes (taking axis) = true
+
+-- whether the last operation of a term does
+abbrev pub is_whole : Term → Bool
+is_whole (input n) = false
+is_whole (unary o a) = goes_along o
+is_whole (binary o a b) = takes o
+is_whole (ternary o a b c) = false
+
 abbrev pub is_movement : Unary → Bool
 is_movement (each o) = false
 is_movement (constant v) = false
 is_movement (movement m) = true
 is_movement (pad pairs) = false
 is_movement (reduce r axes) = false
+is_movement (along o axis) = false
 
 -- whether a movement leaves each value at its place
 abbrev pub keeps_places : Movement → Bool
@@ -62,6 +90,7 @@ is_reshape (constant v) = false
 is_reshape (movement m) = keeps_places m
 is_reshape (pad pairs) = false
 is_reshape (reduce r axes) = false
+is_reshape (along o axis) = false
 
 -- whether the values lie in a list, in order: an input's, and those that were combined
 abbrev pub is_listed : Term → Bool
@@ -86,8 +115,12 @@ combined_size t size = if is_combined t then size else 0
 abbrev pub whole_size : Bool → Term → ℕ → ℕ
 whole_size lies t size = if lies then combined_size t size else size
 
--- what an operation has worked out of its operands: a reduction and a convolution want them in
--- order, a contraction in whatever order
+-- what each part works out of the outermost operation of a term of so many places
+abbrev pub outermost_size : Term → ℕ → ℕ
+outermost_size t size = if is_whole t then size else 0
+
+-- what an operation has worked out of its operands: a contraction wants them in whatever order, all
+-- others that combine values in order
 abbrev pub operand_size : Unary → Term → ℕ → ℕ
 operand_size o a size =
     if combines o then whole_size (is_listed a) a size else combined_size a size
@@ -98,6 +131,7 @@ either_size (pairwise o) a size = combined_size a size
 either_size (concat axis) a size = combined_size a size
 either_size (contract pairs) a size = whole_size (is_moved_list a) a size
 either_size (convolve axes) a size = whole_size (is_listed a) a size
+either_size (taking axis) a size = whole_size (is_listed a) a size
 
 module _ (inputs : List Contents) where
   abbrev pub size_in : Term → ℕ
@@ -113,16 +147,19 @@ module _ (inputs : List Contents) where
       shared a + shared b + shared c
       + (combined_size a (size_in a) + combined_size b (size_in b) + combined_size c (size_in c))
 
+  -- that, and what each part works out of this operation
+  abbrev pub shared_by_parts : Term → ℕ
+  shared_by_parts t = shared t + outermost_size t (size_in t)
+
   -- what is worked out of terms whole: all their values, and what lies below the last operation of
   -- each
   abbrev pub shared_whole : List Term → ℕ
   shared_whole [] = 0
   shared_whole (t ∷ ts) = size_in t + shared t + shared_whole ts
 
--- what is worked out of what is asked for: its bindings whole, and what lies below the last operation
--- of its term
+-- what each part works out of what is asked for: its bindings whole, and what it shares of its term
 abbrev pub asked_shared : Asked → ℕ
-asked_shared a = shared_whole (tensors_of a) a.bindings + shared (tensors_of a) a.term
+asked_shared a = shared_whole (tensors_of a) a.bindings + shared_by_parts (tensors_of a) a.term
 
 -- the same of a header and arrays, or its first fault
 abbrev pub shared_over : List ℕ → List (List ℤ) → Result ℕ Fault

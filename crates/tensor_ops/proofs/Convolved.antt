@@ -4,7 +4,7 @@ use Rattle.tensor_shape.specs.Index.{size_of, IsIndexOf, place, index_of}
 use Rattle.tensor_terms.specs.Convolution.{convolved, convolved_dims}
 use Rattle.tensor_ops.specs.private.Lowering.{HasValues}
 use Rattle.tensor_terms.proofs.Convolutions.{convolved-other}
-use Rattle.tensor_terms.proofs.WindowIndex.{known, convolved-shape}
+use Rattle.tensor_terms.proofs.Convolutions.{known, convolved-shape}
 use Rattle.tensor_ops.proofs.Worked.{values-other, values-agree}
 
 -- a convolution of two operands whose values are those of functions

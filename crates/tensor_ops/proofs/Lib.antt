@@ -1,6 +1,7 @@
 pub use Rattle.tensor_terms.proofs.OtherAxes
 pub use Rattle.tensor_terms.proofs.Widening
 pub use Rattle.tensor_terms.proofs.Shapes
+pub mod AlongValues
 pub mod CombinedRuns
 pub mod Contractions
 pub mod Convolved

@@ -1,5 +1,5 @@
 -- A term whose operands are the same tensors as another's is the same tensor.
-use Rattle.std.proofs.Common.{◌≡◌, ℕ, ℤ, List, [], Ok, IsOk, refl, ap, sym, subst, ◌∙◌}
+use Rattle.std.proofs.Common.{◌≡◌, ℕ, ℤ, List, [], get_or, Ok, IsOk, refl, ap, sym, subst, ◌∙◌}
 use Rattle.std.proofs.Common.{arith, inl, inr}
 use Rattle.std.proofs.lemmas.Bool.{cases_Bool}
 use Rattle.std.specs.Cmp.Lexicographic.{pointwise, same_text}
@@ -8,6 +8,7 @@ use Rattle.std.specs.Result.{result_unwrap_or}
 use Rattle.tensor_shape.specs.Legal.{widest}
 use Rattle.tensor_shape.specs.Index.{size_of, IsIndexOf, index_of}
 use Rattle.tensor_shape.proofs.Places.{IsIndexOf-index_of}
+use Rattle.tensor_terms.specs.Along.{replaced_dims}
 use Rattle.tensor_terms.specs.Concatenation.{joined_dims}
 use Rattle.tensor_terms.specs.Contents.{Contents, input_of, value_at}
 use Rattle.tensor_terms.specs.Contraction.{outer_dims}
@@ -18,11 +19,12 @@ use Rattle.tensor_terms.specs.Result.{dims_of, shape_of, unary_dims, binary_dims
 use Rattle.tensor_values.specs.Scalars.{applied}
 use Rattle.tensor_terms.specs.Shaped.{with_one, with_two, with_three, equal_dims}
 use Rattle.tensor_terms.specs.Term.{Term, input, unary, binary, ternary}
-use Rattle.tensor_terms.specs.Term.{Unary, each, constant, movement, pad, reduce, Binary, pairwise}
-use Rattle.tensor_terms.specs.Term.{concat, contract, convolve, Ternary, select}
+use Rattle.tensor_terms.specs.Term.{Unary, each, constant, movement, pad, reduce, along, Binary, pairwise}
+use Rattle.tensor_terms.specs.Term.{concat, contract, convolve, taking, Ternary, select}
 use Rattle.tensor_terms.specs.Value.{value, value_of_place, tensor_of, unary_value, binary_value}
 use Rattle.tensor_terms.specs.Value.{ternary_value}
 use Rattle.tensor_terms.specs.Merged.{other_dims}
+use Rattle.tensor_terms.proofs.AlongTerms.{along-known, along-other, own_dims, taken-known, taken-other}
 use Rattle.tensor_terms.proofs.Convolutions.{convolved-other}
 use Rattle.tensor_ops.proofs.Evaluated.{map-values_from, value_at-tensor_of, tensor_of-made}
 use Rattle.tensor_terms.proofs.Known.{reduction-known, contraction-known, convolution-known}
@@ -58,6 +60,10 @@ agree-unary (reduce r axes) ds rs f g dims same index inside =
     let known = reduction-known axes ds (rw dims refl) in
     let result : rs ≡ other_dims axes ds = (cc known.dims) in
     reduced-other r axes ds f g same index (subst (λ d. IsIndexOf d index) result inside)
+agree-unary (along o axis) ds rs f g dims same index inside =
+    let known = along-known o axis ds (rw dims refl) in
+    let result : rs ≡ replaced_dims axis (own_dims o (get_or ds axis 0)) ds = (cc known.dims) in
+    along-other o axis ds f g known.inside same index (subst (λ d. IsIndexOf d index) result inside)
 
 pub agree-binary : (o : Binary) (ds es rs : List ℕ) (f g h k : List ℕ → ℤ)
     → binary_dims widest o ds es ≡ Ok rs → Agree ds f g → Agree es h k
@@ -81,6 +87,11 @@ agree-binary (convolve axes) ds es rs f g h k dims first second index inside =
     let known = convolution-known axes ds es (rw dims refl) in
     let result : rs ≡ window_dims axes es ds = (cc known.dims) in
     convolved-other axes ds es f g h k known first second index
+    (subst (λ d. IsIndexOf d index) result inside)
+agree-binary (taking axis) ds es rs f g h k dims first second index inside =
+    let known = taken-known axis ds es (rw dims refl) in
+    let result : rs ≡ replaced_dims axis es ds = (cc known.dims) in
+    taken-other axis ds es f g h k known.inside first second index
     (subst (λ d. IsIndexOf d index) result inside)
 
 pub agree-ternary : (o : Ternary) (cs ds es rs : List ℕ) (e f g h k l : List ℕ → ℤ)

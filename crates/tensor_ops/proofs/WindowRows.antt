@@ -16,7 +16,7 @@ use Rattle.tensor_terms.proofs.OtherAxes.{get_or-are_axes}
 use Rattle.tensor_terms.proofs.UnderKernel.{get_or-window_dims-le, get_or-fit_along}
 use Rattle.tensor_terms.proofs.Splits.{length-index_of}
 use Rattle.tensor_views.proofs.Stepping.{strides_from-short, place-window_index}
-use Rattle.tensor_terms.proofs.WindowIndex.{known, convolved-shape, length-result, under-below}
+use Rattle.tensor_terms.proofs.Convolutions.{known, convolved-shape, length-result, under-below}
 
 -- so many numbers are the steps of all index lists
 pub record HasSteps (count : ℕ) (number : ℕ → ℕ) (steps sizes : List ℕ) : Type 0 where

@@ -16,7 +16,7 @@ use Rattle.tensor_values.specs.Interleaving.{padded_along}
 use Rattle.tensor_ops.specs.declared.lowered.Lowered.{Lowered}
 use Rattle.tensor_terms.proofs.Pads.{first_pads, padded_dims-more, bulk_of-first_pads, length-padded_dims, bulk_of-set-le, padded_along-other, padded-more}
 use Rattle.tensor_ops.proofs.Lowerings.{gives-index}
-use Rattle.tensor_terms.proofs.ListSets.{set-itself, IsIndexOf-set}
+use Rattle.tensor_terms.proofs.InterleavedTerms.{set-itself, IsIndexOf-set}
 
 -- one size of a list, and again
 set-again : (k x y : ℕ) (ds : List ℕ) → set (set ds k x) k y ≡ set ds k y

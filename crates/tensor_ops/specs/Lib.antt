@@ -7,6 +7,7 @@ pub use Rattle.tensor_values.specs.Scalars
 pub use Rattle.tensor_values.specs.declared.operations.BinaryScalar
 pub use Rattle.tensor_values.specs.declared.operations.UnaryScalar
 pub use Rattle.tensor_values.specs.declared.reducer.Reducer
+pub use Rattle.tensor_scans.specs.declared.operation.LineOperation
 pub use Rattle.tensor_terms.specs.Contents
 pub use Rattle.tensor_terms.specs.Contraction
 pub use Rattle.tensor_terms.specs.Movement

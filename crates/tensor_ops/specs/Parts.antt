@@ -9,8 +9,8 @@ use Rattle.tensor_terms.specs.Contraction.{firsts, seconds}
 use Rattle.tensor_values.specs.Combining.{combination}
 use Rattle.tensor_terms.specs.Result.{shape_of}
 use Rattle.tensor_terms.specs.Term.{Term, input, unary, binary, ternary}
-use Rattle.tensor_terms.specs.Term.{Unary, each, constant, movement, pad, reduce}
-use Rattle.tensor_terms.specs.Term.{Binary, pairwise, concat, contract, convolve}
+use Rattle.tensor_terms.specs.Term.{Unary, each, constant, movement, pad, reduce, along}
+use Rattle.tensor_terms.specs.Term.{Binary, pairwise, concat, contract, convolve, taking}
 use Rattle.tensor_terms.specs.Value.{value}
 use Rattle.tensor_terms.specs.Merged.{among, dims_at, other_dims, merged}
 use Rattle.tensor_values.specs.declared.reducer.Reducer.{Reducer}
@@ -45,6 +45,7 @@ is_reduction (constant v) = false
 is_reduction (movement m) = false
 is_reduction (pad pairs) = false
 is_reduction (reduce r axes) = true
+is_reduction (along o axis) = false
 
 -- whether an operation is a contraction
 abbrev pub is_contraction : Binary → Bool
@@ -52,6 +53,7 @@ is_contraction (pairwise o) = false
 is_contraction (concat axis) = false
 is_contraction (contract pairs) = true
 is_contraction (convolve axes) = false
+is_contraction (taking axis) = false
 
 -- whether the values of a term have parts: its last operation is a reduction or a contraction
 abbrev pub has_parts : Term → Bool
@@ -67,6 +69,7 @@ unary_inner (constant v) ds = []
 unary_inner (movement m) ds = []
 unary_inner (pad pairs) ds = []
 unary_inner (reduce r axes) ds = dims_at (among axes (length ds)) ds
+unary_inner (along o axis) ds = []
 
 -- and the paired ones of a contraction
 abbrev pub binary_inner : Binary → List ℕ → List ℕ
@@ -74,6 +77,7 @@ binary_inner (pairwise o) ds = []
 binary_inner (concat axis) ds = []
 binary_inner (contract pairs) ds = dims_at (firsts pairs) ds
 binary_inner (convolve axes) ds = []
+binary_inner (taking axis) ds = []
 
 abbrev pub inner_dims : Term → List Contents → List ℕ
 inner_dims (input n) inputs = []
@@ -92,6 +96,7 @@ unary_part (constant v) ds a is first count = pos 0
 unary_part (movement m) ds a is first count = pos 0
 unary_part (pad pairs) ds a is first count = pos 0
 unary_part (reduce r axes) ds a is first count = reduced_part r axes ds a is first count
+unary_part (along o axis) ds a is first count = pos 0
 
 abbrev pub binary_part :
     Binary → List ℕ → List ℕ → (List ℕ → ℤ) → (List ℕ → ℤ)
@@ -101,6 +106,7 @@ binary_part (concat axis) ds es a b is first count = pos 0
 binary_part (contract pairs) ds es a b is first count =
     contracted_part pairs ds es a b is first count
 binary_part (convolve axes) ds es a b is first count = pos 0
+binary_part (taking axis) ds es a b is first count = pos 0
 
 -- the same of a term's value at an index list
 abbrev pub part_at : Term → List Contents → List ℕ → ℕ → ℕ → ℤ

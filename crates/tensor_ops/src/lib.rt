@@ -27,6 +27,7 @@ pub use evaluator::TensorEvaluator;
 pub use evaluator::plain::eval_plain;
 pub use part_evaluator::PartEvaluator;
 pub use tensor_kernels::{BAND_COLUMNS, PAIRED_COLUMNS, TILED_ROWS, WIDE_BAND_COLUMNS};
+pub use tensor_scans::LineOperation;
 pub use tensor_shape::{Bounds, Dims, MAX_ELEMENTS, MAX_RANK, ShapeFault, TEXT_ELEMENTS, WIDEST};
 pub use tensor_terms::{
     Binary, Cursor, Expr, ExprFault, Inputs, Movement, Node, Tensor, Ternary, Unary,

@@ -360,7 +360,10 @@ fn interleaved_at<'t, 'a>(
 }
 
 /// The values, copied where they are lent.
-fn owned(alloc: Global, values: CowSlice<'_, i64, Global>) -> Result<Vec<i64>, AllocError>
+pub(crate) fn owned(
+    alloc: Global,
+    values: CowSlice<'_, i64, Global>,
+) -> Result<Vec<i64>, AllocError>
     ensures { IfOk result (λ v. v.items ≡ cow_slice_items values.entry) }
 {
     match values {

@@ -1,5 +1,6 @@
 //! Lowering: from an expression to a tree without dims, index lists and arguments, in one walk.
 
+pub(crate) mod axis;
 pub(crate) mod convolution;
 pub(crate) mod interleaving;
 pub(crate) mod part;
@@ -21,6 +22,7 @@ ghost use Rattle.tensor_terms.specs.Value.{value, unary_value, binary_value};
 
 use crate::lowered::Lowered;
 use crate::lowered::sinking::{all, both, sunk_over};
+use crate::lowering::axis::{lower_along, lower_take};
 use crate::lowering::convolution::lower_convolution;
 use crate::lowering::interleaving::{lower_concatenation, lower_pad};
 use crate::lowering::part::Part;
@@ -136,6 +138,7 @@ fn lower_unary<'a>(
         Unary::Move(movement) => lower_movement(alloc, movement, operand, room),
         Unary::Pad(pairs) => lower_pad(alloc, pairs, operand),
         Unary::Reduce(reducer, axes) => lower_reduction(alloc, reducer, axes, operand),
+        Unary::Along(operation, axis) => lower_along(alloc, operation, axis, operand),
     }
 }
 
@@ -164,6 +167,7 @@ fn lower_binary<'a>(
         Binary::Concat(axis) => lower_concatenation(alloc, axis, first, second),
         Binary::Contract(pairs) => lower_contraction(alloc, pairs, first, second),
         Binary::Convolve(axes) => lower_convolution(alloc, axes, first, second),
+        Binary::Take(axis) => lower_take(alloc, axis, first, second),
     }
 }
 

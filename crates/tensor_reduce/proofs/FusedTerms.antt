@@ -10,8 +10,8 @@ use Rattle.tensor_ops.specs.Legal.{widest}
 use Rattle.tensor_ops.specs.Parts.{has_parts}
 use Rattle.tensor_ops.specs.Result.{dims_of, unary_dims, binary_dims, ternary_dims}
 use Rattle.tensor_ops.specs.Term.{Term, input, unary, binary, ternary, has_inputs, Unary, Binary}
-use Rattle.tensor_ops.specs.Term.{each, constant, movement, pad, reduce}
-use Rattle.tensor_ops.specs.Term.{pairwise, concat, contract, convolve}
+use Rattle.tensor_ops.specs.Term.{each, constant, movement, pad, reduce, along}
+use Rattle.tensor_ops.specs.Term.{pairwise, concat, contract, convolve, taking}
 use Rattle.tensor_ops.proofs.SameTensors.{IsSameTensor, same-input, same-unary}
 use Rattle.tensor_ops.proofs.SameTensors.{same-binary, same-ternary}
 use Rattle.tensor_ops.proofs.Shapes.{with_one-known, with_two-known, with_three-known}
@@ -132,6 +132,7 @@ one-tensor (constant v) a combining single = (cc)
 one-tensor (movement m) a combining single = (cc)
 one-tensor (pad pairs) a combining single = (cc)
 one-tensor (reduce r axes) a combining single = single
+one-tensor (along o axis) a combining single = single
 
 two-tensors : (o : Binary) (a b : Term) → combines_two o ≡ true → is_single (binary o a b) ≡ true
     → (is_input a ≡ true) × (is_input b ≡ true)
@@ -139,6 +140,7 @@ two-tensors (pairwise o) a b combining single = (cc)
 two-tensors (concat axis) a b combining single = (cc)
 two-tensors (contract pairs) a b combining single = and_parts (is_input a) (is_input b) single
 two-tensors (convolve axes) a b combining single = and_parts (is_input a) (is_input b) single
+two-tensors (taking axis) a b combining single = and_parts (is_input a) (is_input b) single
 
 -- so it reads them directly
 pub ReadDirectly-single : (n : ℕ) (t : Term) → is_combining t ≡ true → is_single t ≡ true

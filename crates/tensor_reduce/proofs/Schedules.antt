@@ -2,8 +2,8 @@
 use Rattle.std.proofs.Common.{◌≡◌, ℕ, true}
 use Rattle.tensor_ops.specs.Parts.{has_parts, is_reduction, is_contraction}
 use Rattle.tensor_ops.specs.Term.{Term, input, unary, binary, ternary, Unary, Binary}
-use Rattle.tensor_ops.specs.Term.{each, constant, movement, pad, reduce}
-use Rattle.tensor_ops.specs.Term.{pairwise, concat, contract, convolve}
+use Rattle.tensor_ops.specs.Term.{each, constant, movement, pad, reduce, along}
+use Rattle.tensor_ops.specs.Term.{pairwise, concat, contract, convolve, taking}
 use Rattle.tensor_reduce.specs.private.Fusing.{fused_with}
 use Rattle.tensor_reduce.specs.Steps.{combines, combines_two, is_combining}
 use Rattle.tensor_reduce.specs.private.Schedules.{IsScheduleFor, IsFusingFor}
@@ -18,12 +18,14 @@ reduction-combines (constant v) is = is
 reduction-combines (movement m) is = is
 reduction-combines (pad pairs) is = is
 reduction-combines (reduce r axes) is = is
+reduction-combines (along o axis) is = (cc)
 
 contraction-combines : (o : Binary) → is_contraction o ≡ true → combines_two o ≡ true
 contraction-combines (pairwise o) is = is
 contraction-combines (concat axis) is = is
 contraction-combines (contract pairs) is = is
 contraction-combines (convolve axes) is = (cc)
+contraction-combines (taking axis) is = (cc)
 
 parts-combining : (t : Term) → has_parts t ≡ true → is_combining t ≡ true
 parts-combining (input n) parts = parts

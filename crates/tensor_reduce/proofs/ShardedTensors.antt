@@ -16,8 +16,8 @@ use Rattle.tensor_ops.specs.Parts.{has_parts, inner_size, part_value, whole_valu
 use Rattle.tensor_ops.specs.Combining.{combination}
 use Rattle.tensor_ops.specs.Result.{dims_of, shape_of}
 use Rattle.tensor_ops.specs.Term.{Term, input, unary, binary, ternary}
-use Rattle.tensor_ops.specs.Term.{each, constant, movement, pad, reduce}
-use Rattle.tensor_ops.specs.Term.{pairwise, concat, contract, convolve}
+use Rattle.tensor_ops.specs.Term.{each, constant, movement, pad, reduce, along}
+use Rattle.tensor_ops.specs.Term.{pairwise, concat, contract, convolve, taking}
 use Rattle.tensor_ops.specs.Reducer.{Reducer}
 use Rattle.tensor_ops.specs.Value.{value, value_of_place, tensor_of}
 use Rattle.tensor_ops.proofs.Evaluated.{map-values_from, tensor_of-made}
@@ -38,12 +38,14 @@ combination-shards_of (unary (pad pairs) a) inputs p w parts wide = (cc)
 combination-shards_of (unary (reduce r axes) a) inputs p w parts wide =
     reduced-shards r axes (shape_of a inputs) (value a inputs)
     (index_of (shape_of (unary (reduce r axes) a) inputs) p) w wide
+combination-shards_of (unary (along o axis) a) inputs p w parts wide = (cc)
 combination-shards_of (binary (pairwise o) a b) inputs p w parts wide = (cc)
 combination-shards_of (binary (concat axis) a b) inputs p w parts wide = (cc)
 combination-shards_of (binary (contract pairs) a b) inputs p w parts wide =
     contracted-shards pairs (shape_of a inputs) (shape_of b inputs) (value a inputs)
     (value b inputs) (index_of (shape_of (binary (contract pairs) a b) inputs) p) w wide
 combination-shards_of (binary (convolve axes) a b) inputs p w parts wide = (cc)
+combination-shards_of (binary (taking axis) a b) inputs p w parts wide = (cc)
 combination-shards_of (ternary o a b c) inputs p w parts wide = (cc)
 
 -- those of a value among those of all

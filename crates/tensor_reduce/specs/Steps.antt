@@ -2,23 +2,26 @@
 use Rattle.std.specs.Prelude.{ℕ, ◌+◌, ◌^◌, ◌%◌, List, [], ◌∷◌, ◌++◌, length}
 use Rattle.std.specs.Prelude.{Bool, true, false, not, ◌&&◌, ◌||◌, if◌then◌else◌}
 use Rattle.tensor_ops.specs.Term.{Term, input, unary, binary, ternary}
-use Rattle.tensor_ops.specs.Term.{Unary, each, constant, movement, pad, reduce}
-use Rattle.tensor_ops.specs.Term.{Binary, pairwise, concat, contract, convolve}
+use Rattle.tensor_ops.specs.Term.{Unary, each, constant, movement, pad, reduce, along}
+use Rattle.tensor_ops.specs.Term.{Binary, pairwise, concat, contract, convolve, taking}
 
--- whether an operation combines many values of an operand into one: reductions do
+-- whether an operation goes over its operand as a tensor of its own: reductions do, which combine
+-- many values into one, and operations along an axis
 abbrev pub combines : Unary → Bool
 combines (each o) = false
 combines (constant v) = false
 combines (movement m) = false
 combines (pad pairs) = false
 combines (reduce r axes) = true
+combines (along o axis) = true
 
--- the same of two operands: contractions and convolutions do
+-- the same of two operands: contractions, convolutions and takes do
 abbrev pub combines_two : Binary → Bool
 combines_two (pairwise o) = false
 combines_two (concat axis) = false
 combines_two (contract pairs) = true
 combines_two (convolve axes) = true
+combines_two (taking axis) = true
 
 -- whether the last operation of a term does
 abbrev pub is_combining : Term → Bool

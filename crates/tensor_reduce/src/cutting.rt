@@ -116,13 +116,13 @@ fn dims_over(inputs: &Inputs, expr: &Expr, operands: &[Dims]) -> Dims
     dims
 }
 
-/// Whether an operation combines many values of its operand into one.
+/// Whether an operation goes over its operand as a tensor of its own.
 fn combines(operation: Unary<'_>) -> bool
     ensures { result ≡ combines (unary_at operation.entry) }
 {
     match operation {
         Unary::Each(_) | Unary::Constant(_) | Unary::Move(_) | Unary::Pad(_) => false,
-        Unary::Reduce(_, _) => true,
+        Unary::Reduce(_, _) | Unary::Along(_, _) => true,
     }
 }
 
@@ -132,7 +132,7 @@ fn combines_two(operation: Binary<'_>) -> bool
 {
     match operation {
         Binary::Pairwise(_) | Binary::Concat(_) => false,
-        Binary::Contract(_) | Binary::Convolve(_) => true,
+        Binary::Contract(_) | Binary::Convolve(_) | Binary::Take(_) => true,
     }
 }
 

@@ -5,8 +5,8 @@ use Rattle.expr_reader.specs.Index.{size_of}
 use Rattle.expr_reader.specs.Request.{Asked, tensors_of}
 use Rattle.expr_reader.specs.Result.{shape_of}
 use Rattle.expr_reader.specs.Term.{Term, input, unary, binary, ternary}
-use Rattle.expr_reader.specs.Term.{Unary, each, constant, movement, pad, reduce}
-use Rattle.expr_reader.specs.Term.{Binary, pairwise, concat, contract, convolve}
+use Rattle.expr_reader.specs.Term.{Unary, each, constant, movement, pad, reduce, along}
+use Rattle.expr_reader.specs.Term.{Binary, pairwise, concat, contract, convolve, taking}
 use Rattle.expr_reader.specs.Value.{tensor_of}
 use Rattle.tensor_reduce.specs.Contraction.{firsts}
 use Rattle.tensor_reduce.specs.Steps.{combines, combines_two}
@@ -33,8 +33,9 @@ unary_steps (constant v) size ds below = 0
 unary_steps (movement m) size ds below = 0
 unary_steps (pad pairs) size ds below = 0
 unary_steps (reduce r axes) size ds below = size_of ds * below + (size + size_of ds)
+unary_steps (along o axis) size ds below = size_of ds * below + (size + size_of ds)
 
--- or for each product
+-- or for each product; a take has a step for each place of the result
 abbrev pub binary_steps : Binary → ℕ → List ℕ → ℕ → List ℕ → ℕ → ℕ
 binary_steps (pairwise o) size ds below es beside = 0
 binary_steps (concat axis) size ds below es beside = 0
@@ -43,6 +44,8 @@ binary_steps (contract pairs) size ds below es beside =
     + (size + size * size_of (dims_at (firsts pairs) ds))
 binary_steps (convolve axes) size ds below es beside =
     size_of ds * below + size_of es * beside + (size + size * size_of es)
+binary_steps (taking axis) size ds below es beside =
+    size_of ds * below + size_of es * beside + size
 
 module _ (inputs : List Contents) where
   abbrev pub places : Term → ℕ

@@ -196,7 +196,9 @@ fn unary_steps(operation: Unary<'_>, dims: &Dims, first: &Count) -> u128
 {
     match operation {
         Unary::Each(_) | Unary::Constant(_) | Unary::Move(_) | Unary::Pad(_) => 0,
-        Unary::Reduce(_, _) => { worked_out(first) + u128::from(dims.size() + first.dims.size()) }
+        Unary::Reduce(_, _) | Unary::Along(_, _) => {
+            worked_out(first) + u128::from(dims.size() + first.dims.size())
+        }
     }
 }
 
@@ -218,6 +220,7 @@ fn binary_steps(operation: Binary<'_>, dims: &Dims, first: &Count, second: &Coun
         Binary::Convolve(_) => {
             worked_out(first) + worked_out(second) + products(dims, &second.dims)
         }
+        Binary::Take(_) => worked_out(first) + worked_out(second) + u128::from(dims.size()),
     }
 }
 
@@ -248,13 +251,13 @@ fn paired_dims(pairs: &[(u64, u64)], first: &Dims) -> Dims
     dims_at(firsts.as_slice(), first)
 }
 
-/// Whether an operation combines many values of its operand into one.
+/// Whether an operation goes over its operand as a tensor of its own.
 fn combines(operation: Unary<'_>) -> bool
     ensures { result ≡ combines (unary_at operation.entry) }
 {
     match operation {
         Unary::Each(_) | Unary::Constant(_) | Unary::Move(_) | Unary::Pad(_) => false,
-        Unary::Reduce(_, _) => true,
+        Unary::Reduce(_, _) | Unary::Along(_, _) => true,
     }
 }
 
@@ -264,6 +267,6 @@ fn combines_two(operation: Binary<'_>) -> bool
 {
     match operation {
         Binary::Pairwise(_) | Binary::Concat(_) => false,
-        Binary::Contract(_) | Binary::Convolve(_) => true,
+        Binary::Contract(_) | Binary::Convolve(_) | Binary::Take(_) => true,
     }
 }

@@ -18,7 +18,7 @@ use Rattle.tensor_terms.specs.Value.{value, value_of_place}
 use Rattle.tensor_terms.proofs.Combined.{fold-next, fold-last, wrap-next}
 use Rattle.tensor_terms.proofs.Convolutions.{product_under, convolved-fold}
 use Rattle.tensor_terms.proofs.Shapes.{Ok-unwrap, with_two-known}
-use Rattle.tensor_terms.proofs.WindowIndex.{IsIndexOf-under}
+use Rattle.tensor_terms.proofs.Convolutions.{IsIndexOf-under}
 
 module _ (inputs : List Contents) (axes : List ℕ) (a b : Term) where
   -- what is known of a convolution that has result dims

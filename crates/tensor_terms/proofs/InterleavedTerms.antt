@@ -18,7 +18,19 @@ use Rattle.tensor_terms.proofs.Pads.{pad-known, IsIndexOf-moved_back}
 use Rattle.tensor_terms.proofs.SameValues.{Agree}
 use Rattle.tensor_terms.proofs.Shapes.{with_one-known, with_two-known}
 use Rattle.tensor_terms.proofs.Interleavings.{IsConcatenation, concatenation-known, concatenated-interleaved, widths-some, size_of-parts, drop-others, size_of-concatenation}
-use Rattle.tensor_terms.proofs.ListSets.{IsIndexOf-set, set-itself}
+
+-- lists with one number set
+pub set-itself : (k : ℕ) (ds : List ℕ) → set ds k (get_or ds k 0) ≡ ds
+set-itself k [] = refl
+set-itself zero (d ∷ ds) = refl
+set-itself (suc k) (d ∷ ds) = ap (λ l. d ∷ l) (set-itself k ds)
+
+pub IsIndexOf-set : (k n m : ℕ) (ds is : List ℕ) → k < length ds → IsIndexOf (set ds k n) is → get_or is k 0 < m → IsIndexOf (set ds k m) is
+IsIndexOf-set k n m [] is within index below = absurd (omega arith)
+IsIndexOf-set zero n m (d ∷ ds) [] within index below = absurd index
+IsIndexOf-set (suc k) n m (d ∷ ds) [] within index below = absurd index
+IsIndexOf-set zero n m (d ∷ ds) (i ∷ is) within index below = (below, index.1)
+IsIndexOf-set (suc k) n m (d ∷ ds) (i ∷ is) within index below = (index.0, IsIndexOf-set k n m ds is (omega arith) index.1 below)
 
 -- an index list past the first's part is one of the second, less that part
 IsIndexOf-past : (k : ℕ) (ds es is : List ℕ) → length ds ≡ length es → k < length ds → remove ds k ≡ remove es k

@@ -43,7 +43,7 @@ are_legal-shuffle ds order legal long all =
     (omega (arith, bulk_of-permutation ds (length ds) order (omega arith) long all, bulk_of-take-le ds (length ds)))
 
 -- a chip has an axis fewer
-bulk_of-remove : (ds : List ℕ) (k : ℕ) → bulk_of (remove ds k) ≤ bulk_of ds
+pub bulk_of-remove : (ds : List ℕ) (k : ℕ) → bulk_of (remove ds k) ≤ bulk_of ds
 bulk_of-remove [] zero = omega arith
 bulk_of-remove [] (suc k) = omega arith
 bulk_of-remove (d ∷ ds) zero =

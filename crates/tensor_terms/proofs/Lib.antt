@@ -1,3 +1,5 @@
+pub mod AlongTerms
+pub mod AxisLines
 pub mod Combined
 pub mod Convolutions
 pub mod ConvolvedTerms
@@ -5,7 +7,6 @@ pub mod DimsAt
 pub mod Dropped
 pub mod Known
 pub mod Legality
-pub mod ListSets
 pub mod MoreTensors
 pub mod Moved
 pub mod OtherAxes
@@ -14,7 +15,6 @@ pub mod Permutations
 pub mod Widening
 pub mod SameValues
 pub mod Shapes
-pub mod WindowIndex
 pub mod InterleavedTerms
 pub mod Interleavings
 pub mod Splits

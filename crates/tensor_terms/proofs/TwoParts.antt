@@ -59,7 +59,7 @@ drop-index_of ds es p =
     ∙ drop-append_seam (index_of ds p) (index_of es (p / size_of ds))
 
 -- that of both places
-index_of-joined : (ds es : List ℕ) (j i : ℕ) → j < size_of ds
+pub index_of-joined : (ds es : List ℕ) (j i : ℕ) → j < size_of ds
     → index_of (ds ++ es) (j + size_of ds * i) ≡ index_of ds j ++ index_of es i
 index_of-joined ds es j i below =
     let n : ℕ = size_of ds in

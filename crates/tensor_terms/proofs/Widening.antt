@@ -7,6 +7,7 @@ use Rattle.std.proofs.lemmas.Bool.{cases_Bool, and_parts, and_from, leb-true, le
 use Rattle.tensor_shape.specs.Index.{size_of}
 use Rattle.tensor_shape.specs.Legal.{highest_rank, widest, most_elements, bulk_of, are_legal, IsPossible}
 use Rattle.tensor_shape.specs.declared.bounds.Bounds.{Bounds}
+use Rattle.tensor_terms.specs.Along.{replaced_dims}
 use Rattle.tensor_terms.specs.Contents.{Contents}
 use Rattle.tensor_terms.specs.Concatenation.{joined_dims}
 use Rattle.tensor_terms.specs.Contraction.{firsts, seconds, outer_dims, few_products}
@@ -17,7 +18,8 @@ use Rattle.tensor_terms.specs.Result.{shape_of, dims_of, unary_dims, binary_dims
 use Rattle.tensor_terms.specs.Shaped.{Shaped, legal_dims, with_one, with_two, with_three}
 use Rattle.tensor_terms.specs.Merged.{dims_at}
 use Rattle.tensor_terms.specs.Term.{Term, input, unary, binary, ternary, Unary, Binary}
-use Rattle.tensor_terms.specs.Term.{each, constant, movement, pad, reduce, pairwise, concat, contract, convolve}
+use Rattle.tensor_terms.specs.Term.{each, constant, movement, pad, reduce, along}
+use Rattle.tensor_terms.specs.Term.{pairwise, concat, contract, convolve, taking}
 use Rattle.tensor_terms.specs.Term.{broadcast, slice, shuffle, reshape, chip, reverse, stride}
 use Rattle.tensor_terms.specs.declared.fault.ExprFault.{ExprFault}
 use Rattle.tensor_terms.specs.declared.fault.ExprFault.TheVariants.{ShapeMismatch, OutOfRange}
@@ -77,6 +79,7 @@ module _ (bounds : Bounds) (within : IsPossible bounds) where
   unary_dims-wider (pad pairs) d =
       Widens-check (nat_eq (length pairs) (length d)) _ _ ShapeMismatch (legal_dims-wider (padded_dims pairs d))
   unary_dims-wider (reduce r axes) d = Widens-same _
+  unary_dims-wider (along o axis) d = Widens-same _
 
   binary_dims-wider : (o : Binary) (d e : List ℕ) → Widens (binary_dims bounds o d e) (binary_dims widest o d e)
   binary_dims-wider (pairwise o) d e = Widens-same _
@@ -90,6 +93,8 @@ module _ (bounds : Bounds) (within : IsPossible bounds) where
       (Widens-one (few_products (size_of (dims_at (firsts pairs) d))) (few_products (size_of (dims_at (firsts pairs) d)))
       _ _ (λ f. Widens-same _) (legal_dims-wider (outer_dims pairs d e))))
   binary_dims-wider (convolve axes) d e = Widens-same _
+  binary_dims-wider (taking axis) d e =
+      Widens-check (nat_lt axis (length d)) _ _ OutOfRange (legal_dims-wider (replaced_dims axis e d))
 
   two-wider : (o : Binary) (first second wider other : Shaped) → Widens first wider → Widens second other
       → Widens (with_two (binary_dims bounds o) first second) (with_two (binary_dims widest o) wider other)

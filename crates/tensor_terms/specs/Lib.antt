@@ -1,3 +1,5 @@
+pub mod Along
+pub mod AxisLines
 pub mod Concatenation
 pub mod Contents
 pub mod Contraction

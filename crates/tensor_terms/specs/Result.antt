@@ -3,6 +3,7 @@ use Rattle.std.specs.Prelude.{ℕ, List, [], ◌∷◌, Ok}
 use Rattle.std.specs.Result.{result_unwrap_or}
 use Rattle.tensor_shape.specs.Legal.{widest}
 use Rattle.tensor_shape.specs.declared.bounds.Bounds.{Bounds}
+use Rattle.tensor_terms.specs.Along.{along_dims, taken_dims}
 use Rattle.tensor_terms.specs.Contents.{Contents, input_of}
 use Rattle.tensor_terms.specs.Concatenation.{concatenated_dims}
 use Rattle.tensor_terms.specs.Contraction.{contracted_dims}
@@ -12,8 +13,9 @@ use Rattle.tensor_terms.specs.Padding.{pad_dims}
 use Rattle.tensor_terms.specs.Reduction.{reduced_dims}
 use Rattle.tensor_terms.specs.Shaped.{Shaped, with_one, equal_dims}
 use Rattle.tensor_terms.specs.Term.{Term, input, unary, binary, ternary}
-use Rattle.tensor_terms.specs.Term.{Unary, each, constant, movement, pad, reduce}
-use Rattle.tensor_terms.specs.Term.{Binary, pairwise, concat, contract, convolve, Ternary, select}
+use Rattle.tensor_terms.specs.Term.{Unary, each, constant, movement, pad, reduce, along}
+use Rattle.tensor_terms.specs.Term.{Binary, pairwise, concat, contract, convolve, taking}
+use Rattle.tensor_terms.specs.Term.{Ternary, select}
 
 -- what an operation says of the dims of its operands: its own dims within bounds, or the first of
 -- its own faults
@@ -23,12 +25,14 @@ unary_dims bounds (constant v) d = Ok d
 unary_dims bounds (movement m) d = moved_dims bounds m d
 unary_dims bounds (pad pairs) d = pad_dims bounds pairs d
 unary_dims bounds (reduce r axes) d = reduced_dims axes d
+unary_dims bounds (along o axis) d = along_dims o axis d
 
 abbrev pub binary_dims : Bounds → Binary → List ℕ → List ℕ → Shaped
 binary_dims bounds (pairwise o) d e = equal_dims d e
 binary_dims bounds (concat axis) d e = concatenated_dims bounds axis d e
 binary_dims bounds (contract pairs) d e = contracted_dims bounds pairs d e
 binary_dims bounds (convolve axes) d e = convolved_dims axes d e
+binary_dims bounds (taking axis) d e = taken_dims bounds axis d e
 
 abbrev pub ternary_dims : Ternary → List ℕ → List ℕ → List ℕ → Shaped
 ternary_dims select c d e = with_one (λ both. equal_dims both e) (equal_dims c d)

@@ -1,5 +1,6 @@
 -- Expressions as terms: a constructor an arity, and the arguments inside the operation.
 use Rattle.std.specs.Prelude.{ℕ, ◌+◌, ℤ, List, Bool, nat_lt, ◌&&◌}
+use Rattle.tensor_scans.specs.declared.operation.LineOperation.{LineOperation}
 use Rattle.tensor_values.specs.declared.operations.UnaryScalar.{UnaryScalar}
 use Rattle.tensor_values.specs.declared.operations.BinaryScalar.{BinaryScalar}
 use Rattle.tensor_values.specs.declared.reducer.Reducer.{Reducer}
@@ -15,21 +16,24 @@ pub data Movement : Type 0 where
   stride : List ℕ → Movement
 
 -- the operations on one tensor: on each value, one value everywhere, a movement, zeroes round it,
--- or a reduction over axes
+-- a reduction over axes, or an operation along an axis
 pub data Unary : Type 0 where
   each : UnaryScalar → Unary
   constant : ℤ → Unary
   movement : Movement → Unary
   pad : List (ℕ × ℕ) → Unary
   reduce : Reducer → List ℕ → Unary
+  along : LineOperation → ℕ → Unary
 
 -- the operations on two tensors: on each pair of values, one behind the other along an axis, a
--- contraction over pairs of axes, or a convolution along axes
+-- contraction over pairs of axes, a convolution along axes, or what the second's numbers take of the
+-- first along an axis
 pub data Binary : Type 0 where
   pairwise : BinaryScalar → Binary
   concat : ℕ → Binary
   contract : List (ℕ × ℕ) → Binary
   convolve : List ℕ → Binary
+  taking : ℕ → Binary
 
 -- the operations on three tensors
 pub data Ternary : Type 0 where

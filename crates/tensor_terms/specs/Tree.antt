@@ -1,8 +1,9 @@
 -- The term of an expression, and of the view of its operation.
 use Rattle.tensor_terms.specs.Term.{Term, input, unary, binary, ternary, Movement}
 use Rattle.tensor_terms.specs.Term.{broadcast, slice, shuffle, reshape, chip, reverse, stride}
-use Rattle.tensor_terms.specs.Term.{Unary, each, constant, movement, pad, reduce}
-use Rattle.tensor_terms.specs.Term.{Binary, pairwise, concat, contract, convolve, Ternary, select}
+use Rattle.tensor_terms.specs.Term.{Unary, each, constant, movement, pad, reduce, along}
+use Rattle.tensor_terms.specs.Term.{Binary, pairwise, concat, contract, convolve, taking}
+use Rattle.tensor_terms.specs.Term.{Ternary, select}
 use Rattle.tensor_terms.specs.declared.expr.Expr.{Expr}
 use Rattle.tensor_terms.specs.declared.expr.Expr.TheVariants as expr
 use Rattle.tensor_terms.specs.declared.expr.node.Movement.{Movement as MovementView}
@@ -15,6 +16,7 @@ use Rattle.tensor_terms.specs.declared.expr.node.Ternary.{Ternary as TernaryView
 use Rattle.tensor_terms.specs.declared.expr.node.Ternary.TheVariants as three
 use Rattle.tensor_terms.specs.declared.expr.node.Node.{Node}
 use Rattle.tensor_terms.specs.declared.expr.node.Node.TheVariants as node
+use Rattle.tensor_scans.specs.declared.operation.LineOperation.TheVariants as line_operation
 use Rattle.tensor_values.specs.declared.operations.UnaryScalar.TheVariants as unary_scalar
 use Rattle.tensor_values.specs.declared.operations.BinaryScalar.TheVariants as binary_scalar
 use Rattle.tensor_values.specs.declared.reducer.Reducer.TheVariants as reducer
@@ -70,6 +72,11 @@ term_of (expr.All' p a axes) = unary (reduce reducer.All axes.items) (term_of a)
 term_of (expr.Any' p a axes) = unary (reduce reducer.Any axes.items) (term_of a)
 term_of (expr.Contract' p a q b pairs) = binary (contract pairs.items) (term_of a) (term_of b)
 term_of (expr.Convolve' p a q b axes) = binary (convolve axes.items) (term_of a) (term_of b)
+term_of (expr.Cumsum' p a axis) = unary (along line_operation.Cumsum axis) (term_of a)
+term_of (expr.Cumprod' p a axis) = unary (along line_operation.Cumprod axis) (term_of a)
+term_of (expr.Argmax' p a axis) = unary (along line_operation.Argmax axis) (term_of a)
+term_of (expr.Argmin' p a axis) = unary (along line_operation.Argmin axis) (term_of a)
+term_of (expr.Take' p a q b axis) = binary (taking axis) (term_of a) (term_of b)
 
 -- the operations of a view, without their borrows
 abbrev pub movement_at : MovementView → Movement
@@ -87,12 +94,14 @@ unary_at (one.Constant v) = constant v
 unary_at (one.Move m) = movement (movement_at m)
 unary_at (one.Pad pairs) = pad pairs.now
 unary_at (one.Reduce r axes) = reduce r axes.now
+unary_at (one.Along o axis) = along o axis
 
 abbrev pub binary_at : BinaryView → Binary
 binary_at (two.Pairwise o) = pairwise o
 binary_at (two.Concat axis) = concat axis
 binary_at (two.Contract pairs) = contract pairs.now
 binary_at (two.Convolve axes) = convolve axes.now
+binary_at (two.Take axis) = taking axis
 
 abbrev pub ternary_at : TernaryView → Ternary
 ternary_at three.Select = select

@@ -2,6 +2,7 @@
 use Rattle.std.specs.Prelude.{ℕ, ℤ, List, map, if◌then◌else◌}
 use Rattle.std.specs.List.{range_with_len}
 use Rattle.tensor_shape.specs.Index.{size_of, index_of}
+use Rattle.tensor_terms.specs.Along.{along_value, taken}
 use Rattle.tensor_terms.specs.Contents.{Contents, value_at, input_of}
 use Rattle.tensor_terms.specs.Concatenation.{concatenated}
 use Rattle.tensor_terms.specs.Contraction.{contracted}
@@ -12,8 +13,9 @@ use Rattle.tensor_terms.specs.Reduction.{reduced}
 use Rattle.tensor_terms.specs.Result.{shape_of}
 use Rattle.tensor_values.specs.Scalars.{applied, combined, is_true}
 use Rattle.tensor_terms.specs.Term.{Term, input, unary, binary, ternary}
-use Rattle.tensor_terms.specs.Term.{Unary, each, constant, movement, pad, reduce}
-use Rattle.tensor_terms.specs.Term.{Binary, pairwise, concat, contract, convolve, Ternary, select}
+use Rattle.tensor_terms.specs.Term.{Unary, each, constant, movement, pad, reduce, along}
+use Rattle.tensor_terms.specs.Term.{Binary, pairwise, concat, contract, convolve, taking}
+use Rattle.tensor_terms.specs.Term.{Ternary, select}
 
 -- the value of an operation at an index list, from the dims and the values of its operands
 abbrev pub unary_value : Unary → List ℕ → (List ℕ → ℤ) → List ℕ → ℤ
@@ -22,12 +24,14 @@ unary_value (constant v) d a index = v
 unary_value (movement m) d a index = a (moved m d index)
 unary_value (pad pairs) d a index = padded pairs d a index
 unary_value (reduce r axes) d a index = reduced r axes d a index
+unary_value (along o axis) d a index = along_value o axis d a index
 
 abbrev pub binary_value : Binary → List ℕ → List ℕ → (List ℕ → ℤ) → (List ℕ → ℤ) → List ℕ → ℤ
 binary_value (pairwise o) d e a b index = combined o (a index) (b index)
 binary_value (concat axis) d e a b index = concatenated axis d a b index
 binary_value (contract pairs) d e a b index = contracted pairs d e a b index
 binary_value (convolve axes) d e a b index = convolved axes e a b index
+binary_value (taking axis) d e a b index = taken axis d e a b index
 
 abbrev pub ternary_value : Ternary → (List ℕ → ℤ) → (List ℕ → ℤ) → (List ℕ → ℤ) → List ℕ → ℤ
 ternary_value select c a b index = if is_true (c index) then a index else b index

@@ -1,10 +1,13 @@
 //! The value of an expression at one place.
 
-ghost use Rattle.std.specs.Prelude.{◌≡◌, ◌<◌, List, ℕ, length, IsTrue, IsOk};
+ghost use Rattle.std.specs.Prelude.{◌≡◌, ◌<◌, ◌≤◌, ◌+◌, List, ℕ, length, IsTrue, IsOk};
+ghost use Rattle.std.specs.Prelude.{ℤ, pos, slice_index_or, if◌then◌else◌, IfSome, IsNone};
+ghost use Rattle.tensor_scans.specs.Lines.{is_cumulative, taken_from, width_of};
+ghost use Rattle.tensor_scans.specs.Places.{line_values, number_at};
 ghost use Rattle.tensor_shape.specs.Legal.{widest};
 ghost use Rattle.tensor_shape.specs.Index.{size_of, IsIndexOf, place};
 ghost use Rattle.tensor_terms.specs.Term.{has_inputs, unary, pad, reduce, binary};
-ghost use Rattle.tensor_terms.specs.Term.{concat, contract, convolve};
+ghost use Rattle.tensor_terms.specs.Term.{along as along_axis, concat, contract, convolve, taking};
 ghost use Rattle.tensor_terms.specs.Tree.{term_of};
 ghost use Rattle.tensor_terms.specs.Result.{dims_of, shape_of};
 ghost use Rattle.tensor_terms.specs.Value.{value, value_of_place};
@@ -14,11 +17,13 @@ use crate::dims::convolution_dims::convolved_dims;
 use crate::dims::result_dims::dims_within;
 use crate::expr::Expr;
 use crate::expr::node::{Binary, Node, Ternary, Unary};
+use crate::index::axis_lines::lines_along;
 use crate::index::index_parts::{all_among, dims_at, merged_place, other_dims};
 use crate::index::interleaved_index::{padded_place, turns_along};
 use crate::index::moved_index::moved_place;
 use crate::index::windows::window_place;
 use crate::tensor::inputs::Inputs;
+use tensor_scans::{LineOperation, Lines, Progress};
 use tensor_shape::{Dims, PerAxis, WIDEST};
 use tensor_values::{BinaryScalar, Reducer, applied, combined, is_true};
 
@@ -84,9 +89,13 @@ fn value_at(expr: &Expr, inputs: &Inputs, place: u64) -> i64
             combined(operation, first, second)
         }
         Node::Unary(Unary::Pad(pairs), a) => padded_at(pairs, a, inputs, place),
+        Node::Unary(Unary::Along(operation, axis), a) => {
+            along_at((operation, axis), a, inputs, place)
+        }
         Node::Binary(Binary::Concat(axis), a, b) => concatenated_at(axis, a, b, inputs, place),
         Node::Binary(Binary::Contract(pairs), a, b) => contracted_at(pairs, a, b, inputs, place),
         Node::Binary(Binary::Convolve(axes), a, b) => convolved_at(axes, a, b, inputs, place),
+        Node::Binary(Binary::Take(axis), a, b) => taken_at(axis, (a, b), inputs, place),
         Node::Ternary(Ternary::Select, c, a, b) => {
             if is_true(value_at(c, inputs, place)) {
                 value_at(a, inputs, place)
@@ -206,6 +215,83 @@ fn convolved_at(axes: &[u64], a: &Expr, b: &Expr, inputs: &Inputs, place: u64) -
         value = combined(BinaryScalar::Add, value, combined(BinaryScalar::Mul, x, y));
     }
     value
+}
+
+/// The value of an operation along an axis at a place: what those values of a line give that it is
+/// of.
+#[cycle(value)]
+fn along_at(along: (LineOperation, u64), a: &Expr, inputs: &Inputs, place: u64) -> i64
+    requires inputs { IsTrue (has_inputs (term_of a.now) (length inputs.now.tensors)) }
+    requires dims { IsOk (dims_of widest (unary (along_axis along.0 along.1) (term_of a.now))
+        inputs.now.tensors) }
+    requires below { place < size_of (shape_of
+        (unary (along_axis along.0 along.1) (term_of a.now)) inputs.now.tensors) }
+    ensures { result ≡ value_of_place
+        (unary (along_axis along.0 along.1) (term_of a.now)) inputs.now.tensors place }
+{
+    let (operation, axis) = along;
+    let lines = lines_along(axis, &known_dims(a, inputs));
+    let width = operation.width(lines.length);
+    let place = place as usize;
+    let count = values_up_to(operation, lines, place);
+    let mut progress = Progress::start(operation);
+    for k in 0..count {
+        let value = value_at(a, inputs, lines.place(width, place, k) as u64);
+        progress = progress.after(operation, value);
+    }
+    progress.outcome(operation)
+}
+
+/// How many values of its line the value at a place is of.
+fn values_up_to(operation: LineOperation, lines: Lines, place: usize) -> usize
+    requires { place < line_values lines (width_of operation lines.length) }
+    ensures count { result ≡ if is_cumulative operation
+        then number_at lines lines.length place + 1 else lines.length }
+    ensures few { result ≤ lines.length }
+{
+    if operation.is_cumulative() {
+        lines.number(lines.length, place) + 1
+    } else {
+        lines.length
+    }
+}
+
+/// The value of a take at a place: the first operand's at the number that the second has there.
+#[cycle(value)]
+fn taken_at(axis: u64, operands: (&Expr, &Expr), inputs: &Inputs, place: u64) -> i64
+    requires inputs_a { IsTrue (has_inputs (term_of operands.0.now) (length inputs.now.tensors)) }
+    requires inputs_b { IsTrue (has_inputs (term_of operands.1.now) (length inputs.now.tensors)) }
+    requires dims { IsOk (dims_of widest
+        (binary (taking axis) (term_of operands.0.now) (term_of operands.1.now)) inputs.now.tensors) }
+    requires below { place < size_of (shape_of
+        (binary (taking axis) (term_of operands.0.now) (term_of operands.1.now)) inputs.now.tensors) }
+    ensures { result ≡ value_of_place
+        (binary (taking axis) (term_of operands.entry.0.now) (term_of operands.entry.1.now)) inputs.now.tensors place }
+{
+    let (a, b) = operands;
+    let lines = lines_along(axis, &known_dims(a, inputs));
+    let width = known_dims(b, inputs).size() as usize;
+    let place = place as usize;
+    let number = value_at(b, inputs, lines.number(width, place) as u64);
+    match number_within(number, lines.length) {
+        Some(k) => value_at(a, inputs, lines.place(width, place, k) as u64),
+        None => 0,
+    }
+}
+
+/// Which of the numbers of a line, which has so many, a value is.
+fn number_within(value: i64, count: usize) -> Option<usize>
+    ensures some { IfSome result (λ k.
+        (line : List ℤ) → taken_from line value ≡ slice_index_or line k (pos 0)) }
+    ensures below { IfSome result (λ k. k < count) }
+    ensures none { IsNone result
+        → (line : List ℤ) → length line ≤ count → taken_from line value ≡ pos 0 }
+{
+    if value < 0 || value as u64 >= count as u64 {
+        None
+    } else {
+        Some(value as usize)
+    }
 }
 
 /// What a contraction adds up over: both operands' dims and their paired axes.

@@ -1,5 +1,6 @@
 //! Result dims: of each kind of operation, and of whole expressions.
 
+pub(crate) mod along_dims;
 pub(crate) mod concatenation_dims;
 pub(crate) mod contraction_dims;
 pub(crate) mod convolution_dims;

@@ -4,11 +4,12 @@ pub(crate) mod node;
 pub(crate) mod rebuilt;
 
 ghost use Rattle.std.specs.Prelude.{◌≡◌};
-ghost use Rattle.tensor_terms.specs.Term.{unary, binary, each, movement, reduce, pairwise};
+ghost use Rattle.tensor_terms.specs.Term.{unary, binary, along, each, movement, reduce, pairwise};
 ghost use Rattle.tensor_terms.specs.Tree.{term_of, movement_at, term_at};
 
 use crate::expr::node::{Binary, Movement, Node, Ternary, Unary};
 use std::alloc::Global;
+use tensor_scans::LineOperation;
 use tensor_values::{BinaryScalar, Reducer, UnaryScalar};
 
 /// A tree of operations over inputs, a variant an operation. Values are of the `i64` range, and
@@ -107,6 +108,18 @@ pub enum Expr {
     /// The sums of products of a kernel, the second, and what lies under it at each place where it
     /// stays within the first. These axes of the first are those of the kernel, in their order.
     Convolve(Box<Expr>, Box<Expr>, Vec<u64>),
+    /// The sum of each value and those before it along this axis.
+    Cumsum(Box<Expr>, u64),
+    /// Their product.
+    Cumprod(Box<Expr>, u64),
+    /// The first index along this axis where the greatest value stands, 0 where there are none; the
+    /// axis is gone then.
+    Argmax(Box<Expr>, u64),
+    /// The same of the least.
+    Argmin(Box<Expr>, u64),
+    /// What stands in the first at the indices along this axis that the second has, whose axes take
+    /// its place; 0 for an index that the axis hasn't.
+    Take(Box<Expr>, Box<Expr>, u64),
 }
 
 // Said once, where a derived drop is unfolded wherever one may be dropped.
@@ -157,7 +170,12 @@ impl Drop for Expr {
             | Expr::All(_, _)
             | Expr::Any(_, _)
             | Expr::Contract(_, _, _)
-            | Expr::Convolve(_, _, _) => {}
+            | Expr::Convolve(_, _, _)
+            | Expr::Cumsum(_, _)
+            | Expr::Cumprod(_, _)
+            | Expr::Argmax(_, _)
+            | Expr::Argmin(_, _)
+            | Expr::Take(_, _, _) => {}
         }
     }
 }
@@ -219,6 +237,18 @@ impl Expr {
         }
     }
 
+    /// An operation along an axis.
+    pub fn along(operation: LineOperation, operand: Box<Expr>, axis: u64) -> Expr
+        ensures { term_of result ≡ unary (along operation axis) (term_of operand.value) }
+    {
+        match operation {
+            LineOperation::Cumsum => Expr::Cumsum(operand, axis),
+            LineOperation::Cumprod => Expr::Cumprod(operand, axis),
+            LineOperation::Argmax => Expr::Argmax(operand, axis),
+            LineOperation::Argmin => Expr::Argmin(operand, axis),
+        }
+    }
+
     /// The operation and its operands.
     pub fn node(&self) -> Node<'_>
         ensures { term_at result ≡ term_of self.now }
@@ -269,6 +299,11 @@ impl Expr {
             Expr::Any(a, axes) => reduced(Reducer::Any, axes, a),
             Expr::Contract(a, b, pairs) => Node::Binary(Binary::Contract(pairs), a, b),
             Expr::Convolve(a, b, axes) => Node::Binary(Binary::Convolve(axes), a, b),
+            Expr::Cumsum(a, axis) => along(LineOperation::Cumsum, *axis, a),
+            Expr::Cumprod(a, axis) => along(LineOperation::Cumprod, *axis, a),
+            Expr::Argmax(a, axis) => along(LineOperation::Argmax, *axis, a),
+            Expr::Argmin(a, axis) => along(LineOperation::Argmin, *axis, a),
+            Expr::Take(a, b, axis) => Node::Binary(Binary::Take(*axis), a, b),
         }
     }
 }
@@ -300,4 +335,11 @@ fn reduced<'a>(reducer: Reducer, axes: &'a [u64], operand: &'a Expr) -> Node<'a>
     ensures { term_at result ≡ unary (reduce reducer axes.now) (term_of operand.now) }
 {
     Node::Unary(Unary::Reduce(reducer, axes), operand)
+}
+
+/// The node of an operation along an axis.
+fn along<'a>(operation: LineOperation, axis: u64, operand: &'a Expr) -> Node<'a>
+    ensures { term_at result ≡ unary (along operation axis) (term_of operand.now) }
+{
+    Node::Unary(Unary::Along(operation, axis), operand)
 }

@@ -12,6 +12,7 @@ mod laws;
 mod tensor;
 
 pub use cursor::Cursor;
+pub use dims::along_dims::{along_dims, taken_dims};
 pub use dims::concatenation_dims::concatenated_dims;
 pub use dims::contraction_dims::{contracted_dims, paired_axes};
 pub use dims::convolution_dims::convolved_dims;
@@ -20,6 +21,7 @@ pub use dims::reduction_dims::reduced_dims;
 pub use expr::Expr;
 pub use expr::node::{Binary, Movement, Node, Ternary, Unary};
 pub use fault::ExprFault;
+pub use index::axis_lines::lines_along;
 pub use index::index_parts::{all_among, axes_first, dims_at, other_dims};
 pub use index::interleaved_index::turns_along;
 pub use index::merged::{among, next_among, next_other, others, span};

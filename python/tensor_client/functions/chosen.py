@@ -2,14 +2,15 @@
 
 from __future__ import annotations
 
-from typing import Any, List, Sequence, Tuple
+from typing import Any, List, Optional, Sequence, Tuple
 
-from .. import rules
 from .. import tensors
 from ..expressions import Expr
-from ..faults import OutOfRange, ShapeMismatch, TooLarge
+from ..faults import OutOfRange, ShapeMismatch
+from ..memory import Held
 from ..tensors import Tensor, an_expr, tensor
-from .common import all_pairs, beside_axis, flat, moved, part
+from ..values import numpy
+from .common import all_pairs, flat, moved, part
 from .joined import concatenate
 
 __all__ = [
@@ -18,7 +19,7 @@ __all__ = [
 
 
 # So many nodes what is taken in parts may have.
-MOST_IN_PARTS = 150
+MOST_IN_PARTS = 30
 Run = Tuple[int, int, int]
 
 
@@ -49,78 +50,83 @@ def select(condlist: Sequence[Any], choicelist: Sequence[Any], default: Any = 0)
 
 
 def offsets(named: Any, length: int) -> Expr:
-    """Offsets from 0 up, of a list of offsets that may count from behind. Those of a tensor have to
-    be there; those of an expression aren't known, and one that isn't there chooses nothing, 0."""
+    """Offsets from 0 up, of offsets that may count from behind. Those of a tensor have to be there;
+    those of an expression aren't known, and one that isn't there chooses nothing, 0."""
     expr = an_expr(named)
     if expr.truth:
         raise TypeError(
             "0 and 1 as offsets are x + 0; a choice by truth has dims by its values: "
             "x[numpy.asarray(run(it), bool)]"
         )
-    if not isinstance(expr, Tensor):
-        return where(expr.lt(0), expr.add(length), expr)
-    for it in expr.values:
-        if not -length <= it < length:
-            raise OutOfRange(f"offset {it} of {length}")
-    return Tensor([it % length for it in expr.values], expr.shape)
+    if isinstance(expr, Tensor):
+        ends = ends_of(expr.own)
+        for it in ends:
+            if not -length <= it < length:
+                raise OutOfRange(f"offset {it} of {length}")
+        if not ends or ends[0] >= 0:
+            return expr
+        if not expr.is_large:
+            return Tensor([it % length for it in expr.values], expr.shape)
+    return where(expr.lt(0), expr.add(length), expr)
+
+
+def ends_of(values: Held) -> Tuple[int, ...]:
+    """The least and the greatest of values, if there are any.
+
+    >>> ends_of([3, 1, 2]), ends_of([])
+    ((1, 3), ())
+    """
+    if not len(values):
+        return ()
+    if numpy is not None and isinstance(values, memoryview):
+        array = numpy.asarray(values)
+        return int(array.min()), int(array.max())
+    return min(values), max(values)
 
 
 def take(a: Any, indices: Any, axis: Any = None, out: None = None, mode: str = "raise") -> Expr:
-    """What stands at these offsets of an axis, or of all values. A list with a step is a part;
-    another is a product with matrices of 0 and 1, which have a place for each pair of an offset
-    and a place of the axis.
+    """What stands at these offsets of an axis, or of all values, which may count from behind. Where
+    they aren't known yet, one that isn't there gives 0.
 
-    >>> run(take([5, 6, 7, 8], [3, 0, 1])).values
+    >>> run(take([5, 6, 7, 8], [3, 0, -3])).values
     [8, 5, 6]
     """
     expr, along = flat(a, axis)
     length = expr.shape[along]
+    if mode == "raise":
+        at = offsets(indices, length)
+        if not at.shape and isinstance(at, Tensor):
+            return expr.chip(at.item(), along)
+        return at_offsets(expr, at, along)
+    if mode not in ("clip", "wrap"):
+        raise ValueError(f'a mode is "raise", "clip" or "wrap" and not {mode!r}')
     named = an_expr(indices)
-    if mode == "clip":
-        named = named.clip(0, length - 1)
-    elif mode != "raise":
-        raise ValueError(f'a mode is "raise" or "clip" and not {mode!r}')
-    if not named.shape and isinstance(named, Tensor):
-        return expr.chip(offsets(named, length).item(), along)
-    if named.ndim != 1:
-        # In the request's order, in which the list is taken apart again.
-        line = named.in_dims([named.size])
-        if isinstance(named, Tensor):
-            line = Tensor(named.values, [named.size], named.truth)
-        return take(expr, line, along).in_dims(beside_axis(expr.shape, along, named.shape))
-    return at_offsets(expr, offsets(named, length), along)
+    at = named.clip(0, length - 1) if mode == "clip" else named.remainder(length)
+    return expr.taken(at, along)
 
 
 def at_offsets(expr: Expr, at: Expr, axis: int) -> Expr:
-    """What stands at a list of offsets along an axis: parts of it, where these are few and the
-    expression is short, since each part has the expression in it; else by products with 0 and
-    1."""
-    runs = runs_of(at.values) if isinstance(at, Tensor) else None
-    if runs is not None and len(runs) * expr.nodes <= MOST_IN_PARTS:
-        return concatenate([run_along(expr, *it, axis) for it in runs], axis)
-    count, length = at.size, expr.shape[axis]
-    if not count:
-        return part(expr, axis, 0, 0)
-    piece = rules.piece(count, length)
-    if count > piece * rules.MOST_PIECES:
-        raise TooLarge(f"taking {count:,} offsets of {length:,}: run a part of them at a time")
-    numbers, pieces = tensor(range(length)), []
-    for begin in range(0, count, piece):
-        named = part(at, 0, begin, min(begin + piece, count))
-        chosen = named.in_dims([named.size, 1]).eq(numbers)
-        pieces.append(moved(chosen.contract(expr, [(1, axis)]), 0, axis))
-    return concatenate(pieces, axis)
+    """What stands at these offsets of an axis: parts of it, where these are few and the expression
+    is short, since each part has the expression in it; or else what the request takes."""
+    if isinstance(at, Tensor) and at.ndim == 1:
+        runs = runs_of(at.held, max(MOST_IN_PARTS // expr.nodes, 1))
+        if runs is not None:
+            return in_parts(expr, runs, axis)
+    return expr.taken(at, axis)
 
 
-def runs_of(numbers: Sequence[int]) -> List[Run]:
-    """A list of offsets as runs of these, each its first one, a step and how many there are.
+def runs_of(numbers: Sequence[int], most: int) -> Optional[List[Run]]:
+    """A list of offsets as runs of these, each its first one, a step and how many there are; if
+    there are no more than so many.
 
-    >>> runs_of([2, 1, 0, 1, 2, 3, 3, 3])
-    [(2, -1, 3), (1, 1, 3), (3, 0, 2)]
+    >>> runs_of([2, 1, 0, 1, 2, 3, 3, 3], 3), runs_of([0, 2, 1], 1)
+    ([(2, -1, 3), (1, 1, 3), (3, 0, 2)], None)
     """
     found: List[Run] = []
     begin = 0
     while begin < len(numbers):
+        if len(found) == most:
+            return None
         step = numbers[begin + 1] - numbers[begin] if begin + 1 < len(numbers) else 1
         end = begin + 1
         while end < len(numbers) and numbers[end] - numbers[end - 1] == step:
@@ -128,6 +134,11 @@ def runs_of(numbers: Sequence[int]) -> List[Run]:
         found.append((numbers[begin], step, end - begin))
         begin = end
     return found or [(0, 1, 0)]
+
+
+def in_parts(expr: Expr, runs: Sequence[Run], axis: int) -> Expr:
+    """What stands at runs of offsets along an axis, one behind another."""
+    return concatenate([run_along(expr, *it, axis) for it in runs], axis)
 
 
 def run_along(expr: Expr, first: int, step: int, count: int, axis: int) -> Expr:

@@ -9,7 +9,7 @@ from ..expressions import Expr
 from ..faults import OutOfRange
 from ..indexing import Slice, is_list, parts_of
 from ..tensors import Tensor, an_expr
-from .chosen import in_a_line, offsets, take
+from .chosen import at_offsets, in_a_line, offsets, take
 
 
 def at_lists(expr: Expr, index: Tuple[Any, ...]) -> Any:
@@ -34,7 +34,7 @@ def at_lists(expr: Expr, index: Tuple[Any, ...]) -> Any:
     order = others[:to] + chosen[::-1] + others[to:]
     turned = found.shuffle(order)
     dims = [*turned.shape[:to], rules.product(lengths), *turned.shape[to + len(chosen) :]]
-    return take(turned.in_dims(dims), at, to)
+    return at_offsets(turned.in_dims(dims), at, to)
 
 
 def offsets_for(expr: Expr, index: Tuple[Any, ...]) -> Iterator[Any]:

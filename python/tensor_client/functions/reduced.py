@@ -7,7 +7,8 @@ from typing import Any, Callable
 from .. import rules
 from ..expressions import Expr
 from ..faults import ShapeMismatch
-from ..tensors import an_expr, tensor, where
+from ..methods import written_nowhere
+from ..tensors import an_expr, tensor
 from ..values import whole
 from .common import beside_axis, flat, part
 from .rearranged import broadcast_to
@@ -81,7 +82,7 @@ def argmax(a: Any, axis: Any = None, out: None = None, keepdims: bool = False) -
     >>> run(argmax([3, 9, 9])).item()
     1
     """
-    return first_offset("max", a, axis, keepdims)
+    return first_offset("argmax", a, axis, out, keepdims)
 
 
 def argmin(a: Any, axis: Any = None, out: None = None, keepdims: bool = False) -> Expr:
@@ -90,18 +91,17 @@ def argmin(a: Any, axis: Any = None, out: None = None, keepdims: bool = False) -
     >>> run(argmin([3, 1, 1])).item()
     1
     """
-    return first_offset("min", a, axis, keepdims)
+    return first_offset("argmin", a, axis, out, keepdims)
 
 
-def first_offset(best: str, a: Any, axis: Any, keepdims: bool) -> Expr:
-    expr, along = flat(a, axis)
-    length = expr.shape[along]
-    if not length:
-        raise ValueError(f"arg{best} of nothing")
-    is_best = expr.eq(getattr(expr, best)(axis=along, keepdims=True))
-    offsets = tensor(range(length)).in_dims([length] + [1] * (expr.ndim - along - 1))
-    found = where(is_best, offsets, length).min(axis=along, keepdims=keepdims)
-    return found.in_dims([1] * an_expr(a).ndim) if keepdims and axis is None else found
+def first_offset(operation: str, a: Any, axis: Any, out: None, keepdims: bool) -> Expr:
+    written_nowhere(out)
+    expr, at = flat(a, axis)
+    if not expr.shape[at]:
+        raise ValueError(f"{operation} of nothing")
+    found = expr.along(operation, at)
+    kept = [1] * an_expr(a).ndim if axis is None else beside_axis(expr.shape, at, [1])
+    return found.in_dims(kept) if keepdims else found
 
 
 # Over an axis.

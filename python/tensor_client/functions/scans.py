@@ -1,11 +1,14 @@
-"""What values come to up to each place of an axis, as numpy's cumsum and cumprod have it."""
+"""What values come to up to each place of an axis, as numpy's cumsum and cumprod have it, and
+accumulate of its functions of two values."""
 
 from __future__ import annotations
 
-from typing import Any, NamedTuple
+from functools import partial
+from typing import Any, Callable, Dict, NamedTuple
 
 from .. import rules
 from ..expressions import Expr
+from ..methods import written_nowhere
 from ..tensors import an_expr, where
 from ..values import GREATEST, LEAST
 from .common import all_pairs, as_dtype, flat, moved, part
@@ -17,23 +20,27 @@ __all__ = [
 
 
 def cumsum(a: Any, axis: Any = None, dtype: Any = None, out: None = None) -> Expr:
-    """The sum of each value and all before it along an axis, or in all values: by products with
-    triangles of ones, in rows of 32 where there are many places.
+    """The sum of each value and all before it along an axis, or in all values.
 
     >>> run(cumsum([1, 2, 3])).values
     [1, 3, 6]
     """
-    return scanned(SUMS, a, axis, dtype, out)
+    return along("cumsum", a, axis, dtype, out)
 
 
 def cumprod(a: Any, axis: Any = None, dtype: Any = None, out: None = None) -> Expr:
-    """The product of each value and all before it along an axis, or in all values: over all pairs
-    of two places, in rows of 8 where these are many.
+    """The product of each value and all before it along an axis, or in all values.
 
     >>> run(cumprod([1, 2, 3])).values
     [1, 2, 6]
     """
-    return scanned(PRODUCTS, a, axis, dtype, out)
+    return along("cumprod", a, axis, dtype, out)
+
+
+def along(operation: str, a: Any, axis: Any, dtype: Any, out: None) -> Expr:
+    written_nowhere(out)
+    expr, at = flat(a, axis)
+    return as_dtype(expr.along(operation, at), dtype)
 
 
 def cumulative_sum(x: Any, axis: Any = None, dtype: Any = None) -> Expr:
@@ -59,6 +66,9 @@ def axis_asked(x: Any, axis: Any) -> Any:
         raise ValueError(f"an axis has to be named, of dims {an_expr(x).shape}")
     return axis
 
+
+# What the request has no operation for: the greatest value up to each place, and the least; and in
+# texts sums and products.
 
 # Up to so many pairs of places of a line go in one step, and else in rows of so many places: each
 # value takes as many products of a sum, and of others is repeated as often.
@@ -89,28 +99,28 @@ class Scan(NamedTuple):
 
 
 SUMS, PRODUCTS = Scan("add", "sum", 0), Scan("mul", "prod", 1)
-# By the names of numpy's functions of two values.
-SCANS = {
-    "add": SUMS,
-    "multiply": PRODUCTS,
-    "maximum": Scan("cwise_max", "max", LEAST),
-    "minimum": Scan("cwise_min", "min", GREATEST),
-}
+MAXIMA, MINIMA = Scan("cwise_max", "max", LEAST), Scan("cwise_min", "min", GREATEST)
 
 
-def scanned(scan: Scan, a: Any, axis: Any, dtype: Any = None, out: None = None) -> Expr:
+def scanned(scan: Scan, a: Any, axis: Any) -> Expr:
     """What values come to up to each place of an axis.
 
-    >>> run(scanned(SCANS["maximum"], [3, 1, 4, 1, 5], 0)).values
+    >>> run(scanned(MAXIMA, [3, 1, 4, 1, 5], 0)).values
     [3, 3, 4, 4, 5]
     """
-    if out is not None:
-        raise TypeError("an expression is written nowhere: run(it, out=..)")
-    expr, along = flat(a, axis)
+    expr, at = flat(a, axis)
     with all_pairs("going over an axis"):
-        found = over_first(scan, moved(expr, along, 0))
-    asked: Expr = as_dtype(moved(found, 0, along), dtype)
-    return asked
+        found = over_first(scan, moved(expr, at, 0))
+    return moved(found, 0, at)
+
+
+# By the names of numpy's functions of two values.
+ACCUMULATED: Dict[str, Callable[..., Expr]] = {
+    "add": cumsum,
+    "multiply": cumprod,
+    "maximum": partial(scanned, MAXIMA),
+    "minimum": partial(scanned, MINIMA),
+}
 
 
 def over_first(scan: Scan, x: Expr) -> Expr:

@@ -7,7 +7,7 @@ from typing import Any, Callable, NoReturn
 from ..tensors import an_expr
 from ..values import whole
 from .common import as_dtype
-from .scans import SCANS, scanned
+from .scans import ACCUMULATED
 
 __all__ = [
     "abs", "absolute", "add", "around", "astype", "bitwise_and", "bitwise_invert",
@@ -66,9 +66,9 @@ def of_two(name: str, method: str, *text: str) -> Any:
         return getattr(an_expr(array), REDUCED[name])(axis=axis, **more)
 
     def accumulate(array: Any, axis: int = 0) -> Any:
-        if name not in SCANS:
+        if name not in ACCUMULATED:
             raise TypeError(f"the runtime has no reduction by {name}")
-        return scanned(SCANS[name], array, axis)
+        return ACCUMULATED[name](array, axis)
 
     def refused(*_: Any, **more: Any) -> NoReturn:
         raise TypeError("a tensor isn't written: where, bincount and products combine at offsets")

@@ -8,8 +8,10 @@ from typing import Dict, List, Mapping, NamedTuple, Set, Tuple
 from ..expressions import Expr
 from ..rules import product
 
+# Operations along one axis, no value of which is worked out without the others.
+ALONG_AN_AXIS = frozenset("cumsum cumprod argmax argmin take".split())
 # What combines values into others: it is worked out as a list, wherever it stands.
-COMBINING = frozenset("sum prod maximum minimum all any contract convolve".split())
+COMBINING = ALONG_AN_AXIS.union("sum prod maximum minimum all any contract convolve".split())
 # From so many nodes on a part is bound that is worked out place by place: one of fewer costs less
 # again than its values cost in memory.
 LEAST_NODES = 16

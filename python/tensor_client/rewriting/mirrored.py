@@ -8,7 +8,7 @@ from typing import Any, Callable, Dict, List, Optional, Sequence
 from ..expressions import Expr
 from ..rules import Dims
 from ..tensors import Tensor
-from .bindings import in_order
+from .bindings import ALONG_AN_AXIS, in_order
 
 # Operations value by value, which are the same whatever the order of the axes.
 VALUEWISE = frozenset(
@@ -106,8 +106,8 @@ def chipped(expr: Expr, operands: List[Expr]) -> Expr:
     return again(expr, operands, [offset, last_axis(operands[0]) - axis])
 
 
-def joined(expr: Expr, operands: List[Expr]) -> Expr:
-    return again(expr, operands, [last_axis(expr) - expr.arguments[0]])
+def of_one_axis(expr: Expr, operands: List[Expr]) -> Expr:
+    return again(expr, operands, [last_axis(operands[0]) - expr.arguments[0]])
 
 
 def reduced(expr: Expr, operands: List[Expr]) -> Expr:
@@ -145,9 +145,10 @@ MIRRORS: Dict[str, Mirror] = {
     **dict.fromkeys(VALUEWISE, same),
     **dict.fromkeys("broadcast slice reverse stride pad".split(), lists_reversed),
     **dict.fromkeys(REDUCTIONS, reduced),
+    **dict.fromkeys(ALONG_AN_AXIS, of_one_axis),
     "shuffle": shuffled,
     "chip": chipped,
-    "concat": joined,
+    "concat": of_one_axis,
     "contract": contracted,
     "convolve": convolved,
     "reshape": in_other_dims,

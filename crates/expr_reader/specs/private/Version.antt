@@ -1,8 +1,8 @@
 -- The versions and operations of the code, as profiles and operations.
 use Rattle.std.specs.Prelude.{List, [], ◌∷◌}
 use Rattle.tensor_ops.specs.Term as term
-use Rattle.tensor_ops.specs.Term.{each, constant, movement, pad, reduce, pairwise}
-use Rattle.tensor_ops.specs.Term.{concat, contract, convolve}
+use Rattle.tensor_ops.specs.Term.{each, constant, movement, pad, reduce, along, pairwise}
+use Rattle.tensor_ops.specs.Term.{concat, contract, convolve, taking}
 use Rattle.expr_reader.specs.Arguments.{Form, size, sizes, pairs, flags, value, Arguments}
 use Rattle.expr_reader.specs.Profile.{Profile, version_1, version_2, version_3}
 use Rattle.expr_reader.specs.Profile as profile
@@ -18,10 +18,11 @@ use Rattle.expr_reader.specs.declared.operation.Operation.TheVariants.{One, Two,
 use Rattle.expr_reader.specs.declared.operation.Unary.{Unary}
 use Rattle.expr_reader.specs.declared.operation.Unary.TheVariants.{Each, Constant, Broadcast}
 use Rattle.expr_reader.specs.declared.operation.Unary.TheVariants.{Slice, Shuffle, Reshape}
-use Rattle.expr_reader.specs.declared.operation.Unary.TheVariants.{Chip, Reverse, Stride, Pad, Reduce}
+use Rattle.expr_reader.specs.declared.operation.Unary.TheVariants.{Chip, Reverse, Stride, Pad}
+use Rattle.expr_reader.specs.declared.operation.Unary.TheVariants.{Reduce, Along}
 use Rattle.expr_reader.specs.declared.operation.Binary.{Binary}
 use Rattle.expr_reader.specs.declared.operation.Binary.TheVariants.{Pairwise, Concat, Contract}
-use Rattle.expr_reader.specs.declared.operation.Binary.TheVariants.{Convolve}
+use Rattle.expr_reader.specs.declared.operation.Binary.TheVariants.{Convolve, Take}
 
 abbrev pub profile_under : Version → Profile
 profile_under version.One = version_1
@@ -45,6 +46,7 @@ forms_of Reverse = flags ∷ []
 forms_of Stride = sizes ∷ []
 forms_of Pad = pairs ∷ []
 forms_of (Reduce r) = sizes ∷ []
+forms_of (Along o) = size ∷ []
 
 -- what its arguments make
 abbrev pub unary_of : (u : Unary) → Arguments (forms_of u) → term.Unary
@@ -59,6 +61,7 @@ unary_of Reverse a = movement (term.reverse a.0)
 unary_of Stride a = movement (term.stride a.0)
 unary_of Pad a = pad a.0
 unary_of (Reduce r) a = reduce r a.0
+unary_of (Along o) a = along o a.0
 
 -- the same of an operation on two operands
 abbrev pub forms_of_two : Binary → List Form
@@ -66,12 +69,14 @@ forms_of_two (Pairwise o) = []
 forms_of_two Concat = size ∷ []
 forms_of_two Contract = pairs ∷ []
 forms_of_two Convolve = sizes ∷ []
+forms_of_two Take = size ∷ []
 
 abbrev pub binary_of : (b : Binary) → Arguments (forms_of_two b) → term.Binary
 binary_of (Pairwise o) none = pairwise o
 binary_of Concat a = concat a.0
 binary_of Contract a = contract a.0
 binary_of Convolve a = convolve a.0
+binary_of Take a = taking a.0
 
 abbrev pub operation_under : Operation → table.Operation
 operation_under (One u) = one (forms_of u) (unary_of u)

@@ -5,19 +5,19 @@ use Rattle.std.specs.Prelude.{Option, Some, None, option_map, option_and_then, i
 use Rattle.std.specs.Prelude.{Result, MatchResult}
 use Rattle.std.specs.Int.{w64, cast_signed}
 use Rattle.tensor_terms.specs.Term.{Term, input}
-use Rattle.tensor_terms.specs.Term.{Unary, each, constant, movement, pad, reduce}
+use Rattle.tensor_terms.specs.Term.{Unary, each, constant, movement, pad, reduce, along}
 use Rattle.tensor_terms.specs.Term.{broadcast, slice, shuffle, reshape, chip, reverse}
 use Rattle.tensor_terms.specs.Term.{stride}
-use Rattle.tensor_terms.specs.Term.{Binary, pairwise, concat, contract, convolve}
+use Rattle.tensor_terms.specs.Term.{Binary, pairwise, concat, contract, convolve, taking}
 use Rattle.prepared_expressions.specs.declared.kind.UnaryKind.{UnaryKind}
 use Rattle.prepared_expressions.specs.declared.kind.UnaryKind.TheVariants.{Each, Constant}
 use Rattle.prepared_expressions.specs.declared.kind.UnaryKind.TheVariants.{Broadcast, Slice}
 use Rattle.prepared_expressions.specs.declared.kind.UnaryKind.TheVariants.{Shuffle}
 use Rattle.prepared_expressions.specs.declared.kind.UnaryKind.TheVariants.{Reshape, Chip, Reverse}
-use Rattle.prepared_expressions.specs.declared.kind.UnaryKind.TheVariants.{Stride, Pad, Reduce}
+use Rattle.prepared_expressions.specs.declared.kind.UnaryKind.TheVariants.{Stride, Pad, Reduce, Along}
 use Rattle.prepared_expressions.specs.declared.kind.BinaryKind.{BinaryKind}
 use Rattle.prepared_expressions.specs.declared.kind.BinaryKind.TheVariants.{Pairwise, Concat}
-use Rattle.prepared_expressions.specs.declared.kind.BinaryKind.TheVariants.{Contract, Convolve}
+use Rattle.prepared_expressions.specs.declared.kind.BinaryKind.TheVariants.{Contract, Convolve, Take}
 use Rattle.prepared_expressions.specs.declared.refusal.Refusal.{Refusal}
 use Rattle.prepared_expressions.specs.declared.refusal.Refusal.TheVariants.{NoMemory, NoRecord}
 
@@ -82,12 +82,14 @@ unary_from Reverse ns = option_map (λ flags. movement (reverse flags)) (flags_i
 unary_from Stride ns = Some (movement (stride ns))
 unary_from Pad ns = option_map pad (pairs_in ns)
 unary_from (Reduce r) ns = Some (reduce r ns)
+unary_from (Along o) ns = option_map (λ axis. along o axis) (one_in ns)
 
 abbrev pub binary_from : BinaryKind → List ℕ → Option Binary
 binary_from (Pairwise o) ns = of_none (pairwise o) ns
 binary_from Concat ns = option_map concat (one_in ns)
 binary_from Contract ns = option_map contract (pairs_in ns)
 binary_from Convolve ns = Some (convolve ns)
+binary_from Take ns = option_map taking (one_in ns)
 
 abbrev pub input_from : ℕ → List ℕ → Option Term
 input_from inputs ns =

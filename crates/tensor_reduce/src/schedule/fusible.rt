@@ -17,8 +17,12 @@ pub(crate) const SHORT: u64 = 4096;
 pub(crate) fn is_fusible(step: &Step) -> bool {
     let combines = matches!(
         step.expr().node(),
-        Node::Unary(Unary::Reduce(_, _), _)
-            | Node::Binary(Binary::Contract(_) | Binary::Convolve(_), _, _)
+        Node::Unary(Unary::Reduce(_, _) | Unary::Along(_, _), _)
+            | Node::Binary(
+                Binary::Contract(_) | Binary::Convolve(_) | Binary::Take(_),
+                _,
+                _
+            )
     );
     step.dims().size() > SHORT && !combines
 }

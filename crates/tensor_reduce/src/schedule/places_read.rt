@@ -10,8 +10,10 @@ const NEAR: u64 = 32_768;
 /// that combines none has no such tensor, and no places.
 pub(crate) fn places_combined(expr: &Expr, inputs: &Inputs, earlier: &[Tensor]) -> u64 {
     match expr.node() {
-        Node::Unary(Unary::Reduce(_, _), a) => places_of(a, inputs, earlier),
-        Node::Binary(Binary::Contract(_) | Binary::Convolve(_), a, b) => {
+        Node::Unary(Unary::Reduce(_, _) | Unary::Along(_, _), a) => {
+            places_of(a, inputs, earlier)
+        }
+        Node::Binary(Binary::Contract(_) | Binary::Convolve(_) | Binary::Take(_), a, b) => {
             places_of(a, inputs, earlier).max(places_of(b, inputs, earlier))
         }
         _ => 0,
@@ -57,9 +59,13 @@ pub(crate) fn rows_of_column(expr: &Expr, inputs: &Inputs, earlier: &[Tensor]) -
 pub(crate) fn is_read_in_any_order(expr: &Expr, inputs: &Inputs, earlier: &[Tensor]) -> bool {
     match expr.node() {
         Node::Input(_) => places_of(expr, inputs, earlier) <= NEAR,
-        Node::Unary(Unary::Move(Movement::Reshape(_)) | Unary::Pad(_) | Unary::Reduce(_, _), _) => {
-            false
-        }
+        Node::Unary(
+            Unary::Move(Movement::Reshape(_))
+            | Unary::Pad(_)
+            | Unary::Reduce(_, _)
+            | Unary::Along(_, _),
+            _,
+        ) => false,
         Node::Unary(_, a) => is_read_in_any_order(a, inputs, earlier),
         Node::Binary(Binary::Pairwise(_), a, b) => {
             is_read_in_any_order(a, inputs, earlier) && is_read_in_any_order(b, inputs, earlier)

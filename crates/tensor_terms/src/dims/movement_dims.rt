@@ -185,7 +185,7 @@ pub fn shuffled(order: &[u64], numbers: &[u64]) -> PerAxis
 }
 
 /// The sizes but that of one axis.
-fn dims_without(axis: usize, sizes: &[u64]) -> Result<Dims, ExprFault>
+pub(crate) fn dims_without(axis: usize, sizes: &[u64]) -> Result<Dims, ExprFault>
     requires axis { axis < length sizes.now }
     requires few { length sizes.now ≤ highest_rank }
     ensures { result ≡ legal_dims widest (remove sizes.now axis) }

@@ -9,6 +9,7 @@ ghost use Rattle.tensor_terms.specs.Shaped.{equal_dims};
 ghost use Rattle.tensor_terms.specs.Term.{has_inputs};
 ghost use Rattle.tensor_terms.specs.Tree.{term_of, unary_at, binary_at, ternary_at};
 
+use crate::dims::along_dims::{along_dims, taken_dims};
 use crate::dims::concatenation_dims::concatenated_dims;
 use crate::dims::contraction_dims::contracted_dims;
 use crate::dims::convolution_dims::convolved_dims;
@@ -113,6 +114,7 @@ fn unary_dims(bounds: Bounds, operation: Unary<'_>, operand: &Dims) -> Result<Di
         Unary::Move(movement) => moved_dims(bounds, movement, operand),
         Unary::Pad(pairs) => pad_dims(bounds, pairs, operand),
         Unary::Reduce(_, axes) => reduced_dims(axes, operand),
+        Unary::Along(operation, axis) => along_dims(operation, axis, operand),
     }
 }
 
@@ -131,6 +133,7 @@ fn binary_dims(
         Binary::Concat(axis) => concatenated_dims(bounds, axis, first, second),
         Binary::Contract(pairs) => contracted_dims(bounds, pairs, first, second),
         Binary::Convolve(axes) => convolved_dims(axes, first, second),
+        Binary::Take(axis) => taken_dims(bounds, axis, first, second),
     }
 }
 

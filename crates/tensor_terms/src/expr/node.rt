@@ -1,6 +1,7 @@
 //! Expressions by the arity of their operations.
 
 use crate::expr::Expr;
+use tensor_scans::LineOperation;
 use tensor_values::{BinaryScalar, Reducer, UnaryScalar};
 
 /// A movement and its arguments.
@@ -25,6 +26,8 @@ pub enum Unary<'a> {
     Pad(&'a [(u64, u64)]),
     /// Over these axes.
     Reduce(Reducer, &'a [u64]),
+    /// Along this axis.
+    Along(LineOperation, u64),
 }
 
 /// An operation on two tensors.
@@ -37,6 +40,8 @@ pub enum Binary<'a> {
     Contract(&'a [(u64, u64)]),
     /// Along these axes, one for each of the kernel.
     Convolve(&'a [u64]),
+    /// What the second's numbers take of the first along this axis.
+    Take(u64),
 }
 
 /// An operation on three tensors.

@@ -22,6 +22,7 @@ impl Unary<'_> {
             Unary::Reduce(reducer, axes) => {
                 Ok(Expr::reduction(reducer, operand, axes.to_vec(alloc)?))
             }
+            Unary::Along(operation, axis) => Ok(Expr::along(operation, operand, axis)),
         }
     }
 }
@@ -39,6 +40,7 @@ impl Binary<'_> {
             Binary::Concat(axis) => Ok(Expr::Concat(first, second, axis)),
             Binary::Contract(pairs) => Ok(Expr::Contract(first, second, pairs.to_vec(alloc)?)),
             Binary::Convolve(axes) => Ok(Expr::Convolve(first, second, axes.to_vec(alloc)?)),
+            Binary::Take(axis) => Ok(Expr::Take(first, second, axis)),
         }
     }
 }

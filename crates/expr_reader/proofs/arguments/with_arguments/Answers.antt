@@ -7,7 +7,7 @@ use Rattle.tensor_ops.specs.Term.{unary, constant}
 use Rattle.tensor_ops.specs.Tree.{term_of}
 use Rattle.expr_reader.specs.Arguments.{size, sizes, pairs, flags, value}
 use Rattle.expr_reader.specs.private.Version.{unary_of}
-use Rattle.expr_reader.specs.declared.operation.Unary.TheVariants.{Each, Constant, Broadcast, Slice, Shuffle, Reshape, Chip, Reverse, Stride, Pad, Reduce}
+use Rattle.expr_reader.specs.declared.operation.Unary.TheVariants.{Each, Constant, Broadcast, Slice, Shuffle, Reshape, Chip, Reverse, Stride, Pad, Reduce, Along}
 use Rattle.expr_reader.proofs.Forms.{none-made, one-made, one-unread, two-made, two-unread-first, two-unread-second}
 use Rattle.expr_reader.proofs.arguments.with_arguments.Goals as goal
 
@@ -184,3 +184,18 @@ returns-in_ok-axes-in-Reduce-clause-expr c =
     rw (c.in-Reduce.is, c.reduction.ensures)
     (one-made 2 sizes c.index-arguments-0-in-Reduce.result c.args.arguments.now long c.index-arguments-0-in-Reduce.is (λ a. unary (unary_of (Reduce c.in-Reduce.reducer) a) (term_of c.args.operand.value))
     _ c.in_ok-axes-in-Reduce.ensures.items)
+
+pub returns-in_err-axis-in-Along-clause-expr : goal.returns-in_err-axis-in-Along-clause-expr
+returns-in_err-axis-in-Along-clause-expr c =
+    let p = err_from_is_err_and c.from_residual-in_err-axis-in-Along.result c.from_residual-in_err-axis-in-Along.ensures.1 in
+    let long = rw c.in-Along.is at c.requires.arguments in
+    rw (c.in-Along.is, p.1, p.2)
+    (one-unread 2 size c.index-arguments-0-in-Along.result c.args.arguments.now long c.index-arguments-0-in-Along.is (λ a. unary (unary_of (Along c.in-Along.line) a) (term_of c.args.operand.value))
+    _ _ c.in_err-axis-in-Along.ensures.item)
+
+pub returns-in_ok-axis-in-Along-clause-expr : goal.returns-in_ok-axis-in-Along-clause-expr
+returns-in_ok-axis-in-Along-clause-expr c =
+    let long = rw c.in-Along.is at c.requires.arguments in
+    rw (c.in-Along.is, c.along.ensures)
+    (one-made 2 size c.index-arguments-0-in-Along.result c.args.arguments.now long c.index-arguments-0-in-Along.is (λ a. unary (unary_of (Along c.in-Along.line) a) (term_of c.args.operand.value))
+    _ c.in_ok-axis-in-Along.ensures.item)

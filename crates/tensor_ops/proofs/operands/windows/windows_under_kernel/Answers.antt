@@ -8,7 +8,7 @@ use Rattle.tensor_views.specs.Stepped.{stepped}
 use Rattle.tensor_ops.specs.private.FirstRun.{run_axes, run_width}
 use Rattle.tensor_terms.proofs.Dropped.{length-axes}
 use Rattle.tensor_terms.proofs.OtherAxes.{get_or-are_axes}
-use Rattle.tensor_terms.proofs.WindowIndex.{known, length-result}
+use Rattle.tensor_terms.proofs.Convolutions.{known, length-result}
 use Rattle.tensor_ops.proofs.WindowRows.{result-short, kernel-short}
 use Rattle.tensor_ops.proofs.WindowRows.{HasSteps, runs-steps, sum_of_steps, sum_of_steps-below}
 use Rattle.tensor_views.proofs.Stepping.{length-strides_from}

@@ -3,7 +3,7 @@ use Rattle.tensor_shape.specs.Index.{place, index_of}
 use Rattle.tensor_terms.specs.Convolution.{window_index}
 use Rattle.tensor_terms.proofs.Moved.{get_or-legal}
 use Rattle.tensor_terms.proofs.OtherAxes.{get_or-are_axes}
-use Rattle.tensor_terms.proofs.WindowIndex.{known, length-result, IsIndexOf-under, sum-under}
+use Rattle.tensor_terms.proofs.Convolutions.{known, length-result, IsIndexOf-under, sum-under}
 use Rattle.tensor_terms.proofs.Splits.{length-index_of}
 use Rattle.tensor_terms.proofs.index.windows.window_place.Goals as goal
 

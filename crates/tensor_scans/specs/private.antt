@@ -1,0 +1,2 @@
+-- What private clauses and proofs of this crate cite, and no other crate.
+pub mod Rows

@@ -1,0 +1,106 @@
+"""Tests of the client's operations along one axis on random arrays, empty ones too: in each way to
+ask, as texts have them, and by numpy. They are skipped where numpy isn't installed."""
+
+import unittest
+
+import tensor_client as client
+from tensor_client import tensor
+from tensor_client.rewriting.bindings import ALONG_AN_AXIS
+from tensor_client.rewriting.texts import as_in_texts
+from asking import each_way
+from drawn import ByNumpy
+from test_asked import TEXTS
+
+try:
+    import numpy
+except ImportError:
+    numpy = None
+
+
+def first_of(array, axis, first):
+    """An argmax or argmin by numpy; 0 of nothing."""
+    if array.shape[axis]:
+        return first(array, axis)
+    return numpy.zeros(array.shape[:axis] + array.shape[axis + 1 :], dtype=numpy.int64)
+
+
+def taken(array, indices, axis):
+    """A take by numpy, 0 where the axis has no such index: a zero stands behind each line."""
+    length = array.shape[axis]
+    zeros = numpy.zeros_like(array, shape=array.shape[:axis] + (1,) + array.shape[axis + 1 :])
+    is_there = (indices >= 0) & (indices < length)
+    there = numpy.where(is_there, indices, length)
+    return numpy.concatenate([array, zeros], axis).take(there, axis)
+
+
+@unittest.skipIf(numpy is None, "numpy isn't installed")
+class AlongAxes(ByNumpy):
+    """Operations along one axis on random arrays, and by numpy."""
+
+    def along(self, operation, wanted):
+        for source in self.each_trial(operation):
+            for dims in ([1 + source.upto(2), *source.dims()], [2, 0, 3]):
+                array = source.array(dims)
+                for axis in range(array.ndim):
+                    expr = tensor(array).along(operation, axis)
+                    for it in (expr, as_in_texts(expr)):
+                        self.agree(it, wanted(array, axis), source)
+                if array.size:
+                    for axis in (None, 0, -1):
+                        expr = getattr(tensor(array), operation)(axis)
+                        self.agree(expr, getattr(numpy, operation)(array, axis), source)
+
+    def test_cumsum(self):
+        self.along("cumsum", lambda array, axis: array.cumsum(axis))
+
+    def test_cumprod(self):
+        self.along("cumprod", lambda array, axis: array.cumprod(axis))
+
+    def test_argmax(self):
+        self.along("argmax", lambda array, axis: first_of(array, axis, numpy.argmax))
+
+    def test_argmin(self):
+        self.along("argmin", lambda array, axis: first_of(array, axis, numpy.argmin))
+
+    def test_take(self):
+        for source in self.each_trial("take"):
+            array = source.array([source.upto(3), *source.dims()])
+            for axis, length in enumerate(array.shape):
+                dims = source.dims()[:2]
+                for most in (length, 5):
+                    count = int(numpy.prod(dims))
+                    numbers = [source.source.randint(-most, most) for _ in range(count)]
+                    indices = numpy.array(numbers, dtype=numpy.int64).reshape(dims)
+                    for offsets in (tensor(indices), tensor(indices) + 0):
+                        expr = tensor(array).taken(offsets, axis)
+                        wanted = taken(array, indices, axis)
+                        self.agree(expr, wanted, source)
+                        self.agree(as_in_texts(expr), wanted, source)
+                    # Where they aren't known, those from behind are there too, and others give 0.
+                    known = numpy.where(indices < 0, indices + length, indices)
+                    expr = client.take(array, tensor(indices) + 0, axis)
+                    self.agree(expr, taken(array, known, axis), source)
+
+    def test_take_as_numpy(self):
+        for source in self.each_trial("offsets"):
+            array = source.array([1 + source.upto(2), 1 + source.upto(2), *source.dims(least=1)])
+            for axis, length in [(None, array.size), *enumerate(array.shape)]:
+                dims = source.dims()[:2]
+                count = int(numpy.prod(dims))
+                numbers = [source.source.randrange(-length, length) for _ in range(count)]
+                indices = numpy.array(numbers, dtype=numpy.int64).reshape(dims)
+                # No text has a remainder.
+                modes = [("raise", 1), ("clip", 3)] + [("wrap", 3)] * (self.way not in TEXTS)
+                for mode, most in modes:
+                    wanted = numpy.take(array, indices * most, axis, mode=mode)
+                    found = client.take(array, indices * most, axis, mode=mode)
+                    self.agree(found, numpy.asarray(wanted), source)
+
+    def test_every_operation_is_here(self):
+        self.assertLessEqual({f"test_{it}" for it in ALONG_AN_AXIS}, set(dir(self)))
+
+
+each_way(globals(), AlongAxes)
+
+if __name__ == "__main__":
+    unittest.main()
