@@ -1,6 +1,5 @@
-//! Why a concatenation, a contraction, a convolution or a take of two operands fails.
+//! Why a concatenation, a contraction or a convolution of two operands fails.
 
-use crate::shapes::Call;
 use crate::sizes::{no_axis, places, sizes_in, why_axes, why_illegal};
 use serde_json::Value;
 use std::alloc::{AllocError, Global};
@@ -176,24 +175,4 @@ fn why_many(alloc: Global, slid: &[u64], kernel: &[u64]) -> Result<Option<String
         result.saturating_mul(each)
     )?;
     Ok(Some(reason))
-}
-
-/// Why the second's numbers can't take what stands along an axis of the first.
-pub(crate) fn why_take(
-    alloc: Global,
-    call: Call<'_>,
-    first: &[u64],
-    second: &[u64],
-) -> Result<Option<String>, AllocError> {
-    let Some(axis) = call.arguments.first().and_then(Value::as_u64) else {
-        return Ok(None);
-    };
-    if axis >= first.len() as u64 {
-        return no_axis(alloc, axis, first);
-    }
-    let axis = axis as usize;
-    let mut taken = Vec::from_slice(alloc, &first[..axis])?;
-    taken.extend_from_slice(second)?;
-    taken.extend_from_slice(&first[axis + 1..])?;
-    why_illegal(alloc, call.version, taken.as_slice())
 }

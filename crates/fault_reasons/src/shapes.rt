@@ -3,8 +3,8 @@
 use crate::movements::{
     why_broadcast, why_chip, why_lengths, why_order, why_pad, why_reshape, why_slice, why_steps,
 };
-use crate::pairs::{why_concat, why_contract, why_convolve, why_take};
-use crate::sizes::{no_axis, sizes_in, why_axes};
+use crate::pairs::{why_concat, why_contract, why_convolve};
+use crate::sizes::{sizes_in, why_axes};
 use expr_reader::{Dims, Fault, Parsed, read_part};
 use serde_json::Value;
 use std::alloc::{AllocError, Global};
@@ -73,10 +73,6 @@ fn why_one(alloc: Global, call: Call<'_>, dims: &[u64]) -> Result<Option<String>
         "pad" => why_pad(alloc, call.version, argument, dims),
         "chip" => why_chip(alloc, call.arguments, dims),
         "slice" => why_slice(alloc, call.arguments, dims),
-        "cumsum" | "cumprod" | "argmax" | "argmin" => match argument.as_u64() {
-            Some(axis) => no_axis(alloc, axis, dims),
-            None => Ok(None),
-        },
         _ => match sizes_in(alloc, argument)? {
             Some(sizes) => why_sizes(alloc, call, sizes.as_slice(), dims),
             None => Ok(None),
@@ -117,7 +113,6 @@ fn why_two(
     match call.name {
         "concat" => why_concat(alloc, call.version, argument, first, second),
         "contract" => why_contract(alloc, call.version, argument, first, second),
-        "take" => why_take(alloc, call, first, second),
         _ => why_convolve(alloc, argument, first, second),
     }
 }

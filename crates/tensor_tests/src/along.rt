@@ -40,6 +40,7 @@ fn three_inputs(alloc: Global) -> Result<Inputs<'static>, Fail>
 }
 
 /// What is known of an expression: how many steps it has, its dims and its values.
+#[derive(Drop)]
 struct Known<'a> {
     steps: usize,
     sizes: &'a [u64],
