@@ -8,7 +8,7 @@ use Rattle.tensor_ops.specs.PartEvaluator.{term_in_parts, inputs_in_parts}
 use Rattle.tensor_ops.specs.Combining.{combination}
 use Rattle.tensor_ops.specs.Result.{shape_of}
 use Rattle.tensor_ops.specs.Term.{Term, input, unary, binary, ternary}
-use Rattle.tensor_ops.specs.Term.{Unary, each, constant, movement, pad, reduce}
+use Rattle.tensor_ops.specs.Term.{Unary, each, constant, movement, pad, reduce, along}
 use Rattle.tensor_ops.specs.Reducer.{Reducer}
 use Rattle.tensor_ops.specs.Reducer.TheVariants.{Sum}
 use Rattle.tensor_reduce.specs.Shards.{Shard, shards_in}
@@ -21,6 +21,7 @@ reducer_in (constant v) = Sum
 reducer_in (movement m) = Sum
 reducer_in (pad pairs) = Sum
 reducer_in (reduce r axes) = r
+reducer_in (along o axis) = Sum
 
 abbrev pub reducer_of : Term → Reducer
 reducer_of (input n) = Sum
