@@ -7,7 +7,7 @@ use Rattle.tensor_scans.specs.Lines.{taken_from, width_of}
 use Rattle.tensor_scans.specs.Places.{along_at, line_through, line_values, number_at, taken_at}
 use Rattle.tensor_scans.specs.declared.lines.Lines.{Lines}
 use Rattle.tensor_scans.specs.declared.operation.LineOperation.{LineOperation}
-use Rattle.tensor_shape.specs.Index.{size_of, index_of}
+use Rattle.tensor_shape.specs.Index.{size_of}
 use Rattle.tensor_shape.proofs.Sizes.{size_of-le-bulk_of}
 use Rattle.tensor_shape.specs.Legal.{are_legal, bulk_of, highest_rank, most_elements, widest}
 use Rattle.tensor_terms.specs.Along.{along_dims, along_value, replaced_dims, taken, taken_dims}

@@ -262,11 +262,14 @@ fn taken_at(axis: u64, operands: (&Expr, &Expr), inputs: &Inputs, place: u64) ->
     requires inputs_a { IsTrue (has_inputs (term_of operands.0.now) (length inputs.now.tensors)) }
     requires inputs_b { IsTrue (has_inputs (term_of operands.1.now) (length inputs.now.tensors)) }
     requires dims { IsOk (dims_of widest
-        (binary (taking axis) (term_of operands.0.now) (term_of operands.1.now)) inputs.now.tensors) }
+        (binary (taking axis) (term_of operands.0.now) (term_of operands.1.now))
+        inputs.now.tensors) }
     requires below { place < size_of (shape_of
-        (binary (taking axis) (term_of operands.0.now) (term_of operands.1.now)) inputs.now.tensors) }
+        (binary (taking axis) (term_of operands.0.now) (term_of operands.1.now))
+        inputs.now.tensors) }
     ensures { result ≡ value_of_place
-        (binary (taking axis) (term_of operands.entry.0.now) (term_of operands.entry.1.now)) inputs.now.tensors place }
+        (binary (taking axis) (term_of operands.entry.0.now) (term_of operands.entry.1.now))
+        inputs.now.tensors place }
 {
     let (a, b) = operands;
     let lines = lines_along(axis, &known_dims(a, inputs));

@@ -1,10 +1,10 @@
-use Rattle.std.proofs.Common.{◌≡◌, ◌<◌, length, Ok, refl, sym, ◌∙◌, arith}
+use Rattle.std.proofs.Common.{length, refl, sym, ◌∙◌}
 use Rattle.std.specs.Cow.{cow_slice_items}
 use Rattle.tensor_ops.specs.declared.lowered.Lowered.TheVariants.{Stored}
 use Rattle.tensor_ops.specs.private.Lowering.{meaning_at}
 use Rattle.tensor_ops.proofs.AlongValues.{along-count, values-of-along}
 use Rattle.tensor_ops.proofs.Worked.{gives-worked}
-use Rattle.tensor_terms.specs.Along.{along_dims, along_value}
+use Rattle.tensor_terms.specs.Along.{along_value}
 use Rattle.tensor_terms.proofs.AlongTerms.{along-known}
 use Rattle.tensor_values.specs.Values.{value_in}
 use Rattle.tensor_ops.proofs.lowering.axis.lower_along.Goals as goal

@@ -1,11 +1,11 @@
-use Rattle.std.proofs.Common.{◌≡◌, ◌<◌, length, List, ℤ, Ok, refl, sym, ap, subst, ◌∙◌, arith}
+use Rattle.std.proofs.Common.{◌≡◌, ◌<◌, length, List, ℤ, refl, sym, ap, subst, ◌∙◌, arith}
 use Rattle.std.specs.Cow.{cow_slice_items}
 use Rattle.tensor_ops.specs.declared.lowered.Lowered.TheVariants.{Stored}
 use Rattle.tensor_ops.specs.private.Lowering.{meaning_at}
 use Rattle.tensor_ops.proofs.AlongValues.{taken-count, taken-few, taken-size, values-of-taken}
 use Rattle.tensor_ops.proofs.Worked.{gives-worked}
 use Rattle.tensor_scans.specs.Places.{line_values, taken_at}
-use Rattle.tensor_terms.specs.Along.{taken, taken_dims}
+use Rattle.tensor_terms.specs.Along.{taken}
 use Rattle.tensor_terms.proofs.AlongTerms.{taken-known}
 use Rattle.tensor_values.specs.Values.{value_in}
 use Rattle.tensor_ops.proofs.lowering.axis.lower_take.Goals as goal
