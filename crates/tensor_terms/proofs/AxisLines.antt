@@ -1,5 +1,5 @@
 -- Index lists and the lines along an axis.
-use Rattle.std.proofs.Common.{◌≡◌, ℕ, ℤ, zero, suc, ◌+◌, ◌*◌, ◌/◌, ◌%◌, ◌<◌, List, [], ◌∷◌}
+use Rattle.std.proofs.Common.{◌≡◌, ℕ, ℤ, ◌+◌, ◌*◌, ◌/◌, ◌%◌, ◌<◌, List, [], ◌∷◌}
 use Rattle.std.proofs.Common.{◌++◌, length, map, get_or, take, drop, slice_index, remove}
 use Rattle.std.proofs.Common.{refl, ap, sym, subst, ◌∙◌, arith, add-one, zero-add}
 use Rattle.std.proofs.Common.{length-take-le, append_assoc, append-nil}
@@ -16,14 +16,7 @@ use Rattle.tensor_terms.specs.Along.{with_number, line, replaced_dims}
 use Rattle.tensor_terms.specs.AxisLines.{AreLinesAlong}
 use Rattle.tensor_terms.proofs.Splits.{size_of-append, index_of-append, length-index_of}
 use Rattle.tensor_terms.proofs.TwoParts.{in_parts, index_of-joined}
-
--- functions that agree on a run of numbers
-map-run : (f g : ℕ → ℤ) (a n : ℕ) → ((k : ℕ) → k < a + n → f k ≡ g k)
-    → map f (range_with_len a n) ≡ map g (range_with_len a n)
-map-run f g a zero same = refl
-map-run f g a (suc n) same =
-    rw (same a (omega arith))
-    (ap (λ l. g a ∷ l) (map-run f g (a + 1) n (λ k below. same k (omega arith))))
+use Rattle.tensor_values.proofs.Runs.{map-shifted}
 
 -- the first number of an index list, and the others
 index_of-more : (d : ℕ) (ds : List ℕ) (k q : ℕ) → k < d
@@ -242,5 +235,5 @@ module _ (axis : ℕ) (ds es : List ℕ) (lines : Lines) (inside : axis < length
         let is : List ℕ = index_of (replaced_dims axis es ds) p in
         let read : ℕ → ℤ = λ k. f (with_number axis (length es) is k) in
         ap (λ n. map read (range_with_len 0 n)) (sym along.length)
-        ∙ map-run read (λ k. f (index_of ds (line_place lines (size_of es) p k))) 0 lines.length
-        (λ k number. number-value f k (omega arith))
+        ∙ map-shifted read (λ k. f (index_of ds (line_place lines (size_of es) p k))) 0 0 lines.length
+        (λ k number. number-value f (0 + k) (omega arith))
