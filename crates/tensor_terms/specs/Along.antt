@@ -40,6 +40,7 @@ taken_dims bounds axis ds es =
 
 -- the value of a take at an index list: the first operand's at the number along the axis that the
 -- second has, and 0 where the axis has no such number
-abbrev pub taken : ℕ → List ℕ → List ℕ → (List ℕ → ℤ) → (List ℕ → ℤ) → List ℕ → ℤ
+abbrev pub taken :
+    ℕ → List ℕ → List ℕ → (List ℕ → ℤ) → (List ℕ → ℤ) → List ℕ → ℤ
 taken axis ds es a numbers is =
     taken_from (line axis (length es) ds a is) (numbers (take (length es) (drop axis is)))
