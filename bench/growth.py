@@ -18,7 +18,16 @@ TITLES = {
     "axis": "a sum along an axis",
     "shuffle": "a shuffle of three axes",
     "convolution": "under a kernel of three",
+    "cumsum": "cumsum of one line",
+    "cumsum-rows": "cumsum of rows",
+    "argmax-rows": "argmax of rows",
+    "cumsum-columns": "cumsum of columns",
+    "argmax-columns": "argmax of columns",
+    "take-rows": "rows taken",
+    "take-values": "values taken",
 }
+# So many panels stand side by side at most.
+COLUMNS = 6
 
 
 def panel(axes, name, cases):
@@ -41,10 +50,13 @@ def draw(figures, path):
     found = {}
     for it in figures["cases"]:
         found.setdefault(it["what"], []).append(it)
-    picture, places = drawing.panels(1, len(found), 3.4)
+    rows = -(-len(found) // COLUMNS)
+    picture, places = drawing.panels(rows, -(-len(found) // rows), 3.4 + 2.6 * (rows - 1))
     for axes, (name, cases) in zip(places.flat, found.items()):
         panel(axes, name, cases)
-    places[0][0].set_ylabel("nanoseconds a value")
+    for axes in places[:, 0]:
+        axes.set_ylabel("nanoseconds a value")
+    drawing.leave_out(places, len(found))
     handles = places[0][0].get_legend_handles_labels()
     picture.legend(*handles, loc="upper center", ncol=len(LINES), frameon=False)
     said = (

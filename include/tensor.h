@@ -115,14 +115,15 @@ int64_t tensor_evaluate_arrays(const uint8_t *header, size_t header_length,
    place: of each reduction, contraction, convolution, cumsum, cumprod, argmax, argmin and take
    there; and of each operand of one of these, the outermost one too, which isn't such a list
    already. It is one where it is an input, one of these, or a reshape of one; what a contraction
-   takes may also be any movement of one. Where the outermost operation is one of the last five, they
-   are also all its values. Where the header names tensors by `let`, they are also all values of each
-   of these, and the same below its outermost operation. Not counted are at most 32,768 values that
-   are repeated by a movement, and what a contraction packs.
+   takes may also be any movement of one. Where the header names tensors by `let`, they are also all
+   values of each of these, and the same below its outermost operation. Not counted are at most 32,768
+   values that are repeated by a movement, what a contraction packs, and what a part of an outermost
+   cumsum or cumprod reads of its lines before its own places.
 
    Parts pay where they are few beside a part's own values; or, of a contraction and a convolution,
    beside the products that it adds. So they do for operations on each value and movements of inputs,
-   for reductions of an input to many values, and for contractions and convolutions of inputs. */
+   for reductions, argmax and argmin of an input to many values, and for cumsum, cumprod, take,
+   contractions and convolutions of inputs. */
 int64_t tensor_shared(const uint8_t *header, size_t header_length,
                       const struct tensor_array *arrays, size_t count);
 

@@ -1,20 +1,27 @@
 """Tests of the client's operations along one axis on random arrays, empty ones too: in each way to
-ask, as texts have them, and by numpy. They are skipped where numpy isn't installed."""
+ask, as texts have them, and by numpy; and on some hundred thousand values, in parts. They are
+skipped where numpy isn't installed."""
 
+import math
 import unittest
 
 import tensor_client as client
 from tensor_client import tensor
 from tensor_client.rewriting.bindings import ALONG_AN_AXIS
 from tensor_client.rewriting.texts import as_in_texts
-from asking import each_way
+from asking import OneWay, each_way
 from drawn import ByNumpy
 from test_asked import TEXTS
+from test_sizes import line
 
 try:
     import numpy
 except ImportError:
     numpy = None
+
+
+# Of some hundred thousand values: one line, a few long ones or many short ones, and three axes.
+MANY = [(300_007,), (3, 100_003), (61, 71, 83)]
 
 
 def first_of(array, axis, first):
@@ -100,7 +107,48 @@ class AlongAxes(ByNumpy):
         self.assertLessEqual({f"test_{it}" for it in ALONG_AN_AXIS}, set(dir(self)))
 
 
+@unittest.skipIf(numpy is None, "numpy isn't installed")
+class ManyAlongAxes(OneWay):
+    """Operations along one axis on some hundred thousand values, in parts, and by numpy."""
+
+    def agree(self, expr, wanted):
+        for workers in (1, 2, 4):
+            found = self.ask(expr, workers=workers).array()
+            numpy.testing.assert_array_equal(found, wanted, f"{expr!r} on {workers}")
+
+    def each(self):
+        """Arrays in either order of memory, with each of their axes."""
+        for dims in MANY:
+            values = line(math.prod(dims))
+            for order in "CF"[: len(dims)]:
+                array = values.reshape(dims, order=order)
+                for axis in range(len(dims)):
+                    with self.subTest(dims=dims, order=order, axis=axis):
+                        yield array, axis
+
+    def test_cumulative(self):
+        for array, axis in self.each():
+            self.agree(tensor(array).cumsum(axis), array.cumsum(axis))
+            # Of odd numbers no product comes to 0.
+            self.agree(tensor(array | 1).cumprod(axis), (array | 1).cumprod(axis))
+
+    def test_first_places(self):
+        for array, axis in self.each():
+            # Of five numbers the greatest and the least stand in many places.
+            for it in (array, array % 5):
+                self.agree(tensor(it).argmax(axis), it.argmax(axis))
+                self.agree(tensor(it).argmin(axis), it.argmin(axis))
+
+    def test_take(self):
+        for array, axis in self.each():
+            length = array.shape[axis]
+            # Some of them aren't there.
+            indices = line(length) % (length + 2) - 1
+            self.agree(tensor(array).taken(tensor(indices), axis), taken(array, indices, axis))
+
+
 each_way(globals(), AlongAxes)
+each_way(globals(), ManyAlongAxes, ("library", "frames"))
 
 if __name__ == "__main__":
     unittest.main()

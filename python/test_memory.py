@@ -235,13 +235,21 @@ class Threads(unittest.TestCase):
             found = shares(x + 1, size, workers, lambda it=shared: it)
             self.assertEqual(len(found), count)
             self.assertEqual([it for part in found for it in part], list(range(size)))
-        # Of a reduction the values count that it combines.
+        # Of what combines values into one these count, of what goes along an axis else its own.
         rows = tensor([0] * LEAST * 3, dims=(LEAST, 3))
         for expr, size, shared, count in (
             (rows.sum(0), 3, 0, 3),
             (rows.sum(1), LEAST, 0, 3),
             (rows.sum(1), LEAST, 2 * LEAST, 1),
             (rows.sum(), 1, 0, 1),
+            (rows.argmax(0), 3, 0, 3),
+            (rows.argmin(1), LEAST, 0, 3),
+            (rows.argmin(1), LEAST, 2 * LEAST, 1),
+            (rows.argmax(), 1, 0, 1),
+            (rows.cumsum(0), 3 * LEAST, 0, 3),
+            (rows.cumprod(1), 3 * LEAST, 3 * LEAST, 1),
+            (rows.taken([0] * 96, 1), 96 * LEAST, 0, 8),
+            (rows.taken([2, 0], 1), 2 * LEAST, LEAST, 2),
         ):
             self.assertEqual(len(shares(expr, size, 8, lambda it=shared: it)), count)
 
@@ -279,9 +287,10 @@ class Threads(unittest.TestCase):
                 ((rows * 2).reduced("sum", [0]), 6),
                 (rows.contract(rows, [(0, 0)]), 0),
                 (rows.contract(rows * 2, [(0, 0)]), 6),
-                (rows.cumsum(0), 6),
+                (rows.cumsum(0), 0),
+                ((rows * 2).cumsum(0), 6),
                 ((rows * 2).argmax(0) * 2, 6 + 3),
-                (rows.taken([1, 0], 1), 4),
+                (rows.taken([1, 0], 1), 0),
             ):
                 asked = framed(expr, Settings())
                 arrays = arrays_of([as_memory(it) for it in asked.held])
@@ -304,6 +313,11 @@ class Threads(unittest.TestCase):
                         numpy.testing.assert_array_equal(out, array * 3 - 1)
                 found = ask(tensor(rows).sum(axis=1) * 2, workers=4)
                 numpy.testing.assert_array_equal(found.array(), rows.sum(axis=1) * 2)
+                for name in "cumsum cumprod argmax argmin".split():
+                    for axis in (0, 1):
+                        found = ask(getattr(tensor(rows), name)(axis), workers=4)
+                        wanted = getattr(rows, name)(axis)
+                        numpy.testing.assert_array_equal(found.array(), wanted)
         with unittest.mock.patch.object(threads, "POOL", None):
             threads.each(lambda it: seen.add(threading.get_ident()) or it, [range(1)] * 3)
         self.assertIn(threading.get_ident(), seen)

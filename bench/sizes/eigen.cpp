@@ -8,6 +8,32 @@ namespace {
 
 constexpr Index ROWS = 1024, OUTER = 64, MIDDLE = 128;
 
+// The same as of `evaluate`, along an axis: of one line, of rows, which lie one behind the other, or of
+// columns.
+template <typename Device>
+Index evaluate_along(const std::string& what, std::int64_t* a, Index count, std::int64_t* out,
+                     const Device& device) {
+  const Index rows = count / ROWS;
+  const View<2> matrix(a, ROWS, rows);
+  if (what == "cumsum") {
+    View<1>(out, count).device(device) = View<1>(a, count).cumsum(0);
+    return count;
+  }
+  if (what == "cumsum-rows" || what == "cumsum-columns") {
+    View<2>(out, ROWS, rows).device(device) = matrix.cumsum(what == "cumsum-rows" ? 0 : 1);
+    return count;
+  }
+  if (what == "argmax-rows") {
+    View<1>(out, rows).device(device) = matrix.argmax(0);
+    return rows;
+  }
+  if (what == "argmax-columns") {
+    View<1>(out, ROWS).device(device) = matrix.argmax(1);
+    return ROWS;
+  }
+  std::exit(2);
+}
+
 // Evaluates what is asked of so many values, and gives how many the answer has.
 template <typename Device>
 Index evaluate(const std::string& what, std::int64_t* a, Index count, std::int64_t* out,
@@ -43,7 +69,7 @@ Index evaluate(const std::string& what, std::int64_t* a, Index count, std::int64
         matrix.convolve(View<1>(kernel, 3), axes);
     return count - 2 * ROWS;
   }
-  std::exit(2);
+  return evaluate_along(what, a, count, out, device);
 }
 
 }  // namespace

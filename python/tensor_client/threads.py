@@ -16,6 +16,9 @@ from .rules import product
 LEAST = 1 << 15
 FEWEST = 2 * LEAST
 
+# What combines many values of its operand into one.
+COMBINED = frozenset(REDUCTIONS).union(("argmax", "argmin"))
+
 POOL: Optional[ThreadPoolExecutor] = None
 
 
@@ -26,6 +29,8 @@ def shares(expr: Expr, size: int, workers: int, shared: Callable[[], int]) -> Li
 
     >>> shares(tensor([1, 2]) + 1, 2, 4, lambda: 0)
     [range(0, 2)]
+    >>> shares(tensor([0] * 65_536).cumsum(), 65_536, 4, lambda: 0)
+    [range(0, 32768), range(32768, 65536)]
     """
     values = size * combined(expr)
     count = max(min(workers, values // LEAST, size), 1)
@@ -45,12 +50,13 @@ def cut(size: int, count: int) -> List[range]:
 
 
 def combined(expr: Expr) -> int:
-    """How many values a value of a reduction is made of; 1 of others.
+    """How many values a value of a reduction, an argmax or an argmin is made of; 1 of others.
 
-    >>> combined(tensor([[1, 2, 3], [4, 5, 6]]).sum(axis=1)), combined(tensor([1, 2]) * 3)
-    (3, 1)
+    >>> x = tensor([[1, 2, 3], [4, 5, 6]])
+    >>> combined(x.sum(axis=1)), combined(x.argmax(axis=0)), combined(x.cumsum(axis=0))
+    (3, 2, 1)
     """
-    if expr.operation not in REDUCTIONS or expr.dims is None:
+    if expr.operation not in COMBINED or expr.dims is None:
         return 1
     return max(product(expr.operands[0].dims or ()) // max(product(expr.dims), 1), 1)
 

@@ -1,6 +1,5 @@
 """How many values each part of an answer works out anew, counted plainly from the words of
-include/tensor.h on tensor_shared: those of lets, what stands below an outermost operation, and what
-that one gives where it goes along an axis.
+include/tensor.h on tensor_shared: those of lets, and what stands below an outermost operation.
 
 Nothing here is shared with the library.
 """
@@ -11,9 +10,9 @@ from .operations import size
 from .reference import Walk
 from .rules import FRAME_VERSIONS, is_let
 
-# Operations along an axis, no part of whose values is worked out without the others.
-ALONG = frozenset("cumsum cumprod argmax argmin take".split())
-COMBINING = ALONG.union("sum prod maximum minimum all any contract convolve".split())
+COMBINING = frozenset(
+    "sum prod maximum minimum all any contract convolve cumsum cumprod argmax argmin take".split()
+)
 MOVEMENTS = frozenset("broadcast slice shuffle reshape chip reverse stride".split())
 
 
@@ -63,5 +62,4 @@ def shared(header):
     while is_let(walk.version, tree):
         _, _, first, tree = tree
         count += below(walk, first) + walk.size_of[id(first)]
-    is_whole = isinstance(tree, list) and tree[0] in ALONG
-    return count + below(walk, tree) + (walk.size_of[id(tree)] if is_whole else 0)
+    return count + below(walk, tree)

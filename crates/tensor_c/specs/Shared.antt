@@ -41,31 +41,6 @@ is_combined (unary o a) = combines o
 is_combined (binary o a b) = combines_two o
 is_combined (ternary o a b c) = false
 
--- whether an operation goes along an axis: then no part of its values is worked out without the
--- others
-abbrev pub goes_along : Unary → Bool
-goes_along (each o) = false
-goes_along (constant v) = false
-goes_along (movement m) = false
-goes_along (pad pairs) = false
-goes_along (reduce r axes) = false
-goes_along (along o axis) = true
-
--- the same of two operands
-abbrev pub takes : Binary → Bool
-takes (pairwise o) = false
-takes (concat axis) = false
-takes (contract pairs) = false
-takes (convolve axes) = false
-takes (taking axis) = true
-
--- whether the last operation of a term does
-abbrev pub is_whole : Term → Bool
-is_whole (input n) = false
-is_whole (unary o a) = goes_along o
-is_whole (binary o a b) = takes o
-is_whole (ternary o a b c) = false
-
 abbrev pub is_movement : Unary → Bool
 is_movement (each o) = false
 is_movement (constant v) = false
@@ -115,10 +90,6 @@ combined_size t size = if is_combined t then size else 0
 abbrev pub whole_size : Bool → Term → ℕ → ℕ
 whole_size lies t size = if lies then combined_size t size else size
 
--- what each part works out of the outermost operation of a term of so many places
-abbrev pub outermost_size : Term → ℕ → ℕ
-outermost_size t size = if is_whole t then size else 0
-
 -- what an operation has worked out of its operands: a contraction wants them in whatever order, all
 -- others that combine values in order
 abbrev pub operand_size : Unary → Term → ℕ → ℕ
@@ -147,19 +118,16 @@ module _ (inputs : List Contents) where
       shared a + shared b + shared c
       + (combined_size a (size_in a) + combined_size b (size_in b) + combined_size c (size_in c))
 
-  -- that, and what each part works out of this operation
-  abbrev pub shared_by_parts : Term → ℕ
-  shared_by_parts t = shared t + outermost_size t (size_in t)
-
   -- what is worked out of terms whole: all their values, and what lies below the last operation of
   -- each
   abbrev pub shared_whole : List Term → ℕ
   shared_whole [] = 0
   shared_whole (t ∷ ts) = size_in t + shared t + shared_whole ts
 
--- what each part works out of what is asked for: its bindings whole, and what it shares of its term
+-- what each part works out of what is asked for: its bindings whole, and what lies below the last
+-- operation of its term
 abbrev pub asked_shared : Asked → ℕ
-asked_shared a = shared_whole (tensors_of a) a.bindings + shared_by_parts (tensors_of a) a.term
+asked_shared a = shared_whole (tensors_of a) a.bindings + shared (tensors_of a) a.term
 
 -- the same of a header and arrays, or its first fault
 abbrev pub shared_over : List ℕ → List (List ℤ) → Result ℕ Fault

@@ -173,9 +173,8 @@ pub extern "C" fn tensor_run(
 }
 
 /// How many values each part of the answer of a header and arrays works out anew, before the first
-/// of its own: what lies below the outermost operation and isn't worked out place by place, and what
-/// that one gives where it goes along an axis. None is worked out. Of a fault the number is returned,
-/// negated.
+/// of its own: what lies below the outermost operation and isn't worked out place by place. None is
+/// worked out. Of a fault the number is returned, negated.
 #[unsafe(no_mangle)]
 pub extern "C" fn tensor_shared(alloc: Global, header: &[u8], arrays: &[Array<'_>]) -> i64
     ensures call { IsCountCall (shared_over header.now (arrays_under arrays.now)) result }

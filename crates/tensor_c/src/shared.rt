@@ -15,11 +15,9 @@ ghost use Rattle.expr_reader.specs.Tree.{term_of, unary_at, binary_at, movement_
 ghost use Rattle.tensor_c.specs.Call.{IsTooLong};
 ghost use Rattle.tensor_c.specs.Shared.{shared, shared_whole, asked_shared, shared_over};
 ghost use Rattle.tensor_c.specs.Shared.{called_for_count, IsCountCall};
-ghost use Rattle.tensor_c.specs.Shared.{combines, combines_two, goes_along, takes};
-ghost use Rattle.tensor_c.specs.Shared.{is_movement, is_reshape, is_whole};
+ghost use Rattle.tensor_c.specs.Shared.{combines, combines_two, is_movement, is_reshape};
 ghost use Rattle.tensor_c.specs.Shared.{is_combined, is_listed, is_moved_list, keeps_places};
-ghost use Rattle.tensor_c.specs.Shared.{combined_size, whole_size, outermost_size};
-ghost use Rattle.tensor_c.specs.Shared.{operand_size, either_size};
+ghost use Rattle.tensor_c.specs.Shared.{combined_size, whole_size, operand_size, either_size};
 
 use crate::faults::result_of;
 use expr_reader::{Array, Fault, Request, read_arrays};
@@ -46,8 +44,8 @@ pub(crate) fn shared_by_parts(alloc: Global, header: &[u8], arrays: &[Array<'_>]
     }
 }
 
-/// The same of a request: its bindings whole, what lies below the last operation of its expression,
-/// and the values of this one where none is worked out alone.
+/// The same of a request: its bindings whole, and what lies below the last operation of its
+/// expression.
 fn shared_of(request: &Request<'_>) -> u64
     ensures value { result ≡ asked_shared (asked_under request.now) }
     ensures small { result < 2 ^ 63 }
@@ -58,7 +56,7 @@ fn shared_of(request: &Request<'_>) -> u64
     let Ok(found) = counted(request, &request.expr) else {
         unreachable!();
     };
-    bindings + found.shared + outermost_size(&request.expr, &found.dims)
+    bindings + found.shared
 }
 
 /// How many values of the tensors of bindings, and how many are worked out below the last operation
@@ -200,14 +198,6 @@ fn whole_size(lies: bool, expr: &Expr, dims: &Dims) -> u64
     }
 }
 
-/// How many each part works out of an outermost operation with these dims.
-fn outermost_size(expr: &Expr, dims: &Dims) -> u64
-    ensures value { result ≡ outermost_size (term_of expr.now) (size_of dims.now) }
-    ensures small { result ≤ most_elements }
-{
-    if is_whole(expr) { dims.size() } else { 0 }
-}
-
 /// Whether the last operation of an expression combines many values into one.
 fn is_combined(expr: &Expr) -> bool
     ensures { result ≡ is_combined (term_of expr.now) }
@@ -216,17 +206,6 @@ fn is_combined(expr: &Expr) -> bool
         Node::Input(_) | Node::Ternary(_, _, _, _) => false,
         Node::Unary(operation, _) => combines(operation),
         Node::Binary(operation, _, _) => combines_two(operation),
-    }
-}
-
-/// Whether no part of its values is worked out without the others.
-fn is_whole(expr: &Expr) -> bool
-    ensures { result ≡ is_whole (term_of expr.now) }
-{
-    match expr.node() {
-        Node::Input(_) | Node::Ternary(_, _, _, _) => false,
-        Node::Unary(operation, _) => goes_along(operation),
-        Node::Binary(operation, _, _) => takes(operation),
     }
 }
 
@@ -273,29 +252,6 @@ fn combines_two(operation: Binary<'_>) -> bool
     match operation {
         Binary::Pairwise(_) | Binary::Concat(_) => false,
         Binary::Contract(_) | Binary::Convolve(_) | Binary::Take(_) => true,
-    }
-}
-
-fn goes_along(operation: Unary<'_>) -> bool
-    ensures { result ≡ goes_along (unary_at operation.entry) }
-{
-    match operation {
-        Unary::Each(_)
-        | Unary::Constant(_)
-        | Unary::Move(_)
-        | Unary::Pad(_)
-        | Unary::Reduce(_, _) => false,
-        Unary::Along(_, _) => true,
-    }
-}
-
-fn takes(operation: Binary<'_>) -> bool
-    ensures { result ≡ takes (binary_at operation.entry) }
-{
-    match operation {
-        Binary::Pairwise(_) | Binary::Concat(_) | Binary::Contract(_) | Binary::Convolve(_) =>
-            false,
-        Binary::Take(_) => true,
     }
 }
 

@@ -1,8 +1,9 @@
 -- Operations on operands that were lowered, and values that were worked out.
-use Rattle.std.proofs.Common.{◌≡◌, ℕ, ℤ, pos, ◌<◌, List, length, map, [], Ok, refl, ap, sym, ◌∙◌}
+use Rattle.std.proofs.Common.{◌≡◌, ℕ, ℤ, pos, ◌<◌, List, ◌++◌, length, take, map, [], Ok, refl, ap, sym, ◌∙◌}
 use Rattle.std.proofs.Common.{subst, arith}
 use Rattle.std.specs.List.{range_with_len}
 use Rattle.std.specs.Result.{result_unwrap_or}
+use Rattle.std.proofs.Math.Seq.{take-append_seam}
 use Rattle.std.proofs.lemmas.List.FromFn.{length-map-range_with_len, get_or-map-range_with_len}
 use Rattle.tensor_shape.specs.Legal.{widest}
 use Rattle.tensor_shape.specs.Index.{size_of, place, index_of}
@@ -132,6 +133,10 @@ values-worked at items count n ds f values same full = record {
   each = λ p below. ap (λ l. value_in l p) same
       ∙ get_or-map-range_with_len at 0 n p p (pos 0) (omega arith) (omega arith) ∙ values.each p below;
 }
+
+-- a list of which all was written
+pub take-written : (n : ℕ) (xs ys : List ℤ) → n ≡ length xs → take n (xs ++ ys) ≡ xs
+take-written n xs ys whole = rw whole (take-append_seam xs ys)
 
 -- worked out values, lowered
 pub gives-worked : (whole : Lowered) (items : List ℤ) (ds : List ℕ) (f : List ℕ → ℤ)

@@ -5,6 +5,7 @@ pub mod InRuns
 pub mod Meaning
 pub mod Operand
 pub mod OperandRows
+pub mod LineResults
 pub mod Lowering
 pub mod Reduced
 pub mod Root

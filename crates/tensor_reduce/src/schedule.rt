@@ -29,7 +29,7 @@ use crate::schedule::grain::Grain;
 use crate::schedule::rows::{is_tensor, row_width};
 use crate::schedule::sharding::{FEW_VALUES, Sharding, has_contiguous_parts};
 use crate::step::Step;
-use tensor_ops::{Binary, Node, TILED_ROWS};
+use tensor_ops::{Binary, Expr, Node, TILED_ROWS, Unary};
 
 /// From so many rows of both operands on a contraction takes their values wherever they lie, where
 /// with fewer it goes over rows that lie side by side.
@@ -88,7 +88,7 @@ impl Schedule {
 
     /// A step by itself, which combines values of so many places: in shards of a block where it has
     /// few values and the parts of each lie side by side, and else by whole columns of so many rows
-    /// where it is a contraction.
+    /// where it is a contraction. A range of a cumulative one would read all that is before it.
     pub(crate) fn of_step(
         step: Costed<'_>,
         places: u64,
@@ -98,6 +98,9 @@ impl Schedule {
         ensures { IsScheduleFor result (term_of_step step.entry.step.now) }
     {
         let values = step.size();
+        if is_cumulative(step.step.expr()) {
+            return Schedule::Ranged(1, values.max(1));
+        }
         if values <= FEW_VALUES && has_contiguous_parts(step.step.expr()) {
             let grain = grain.for_shards(values, places, step.cost);
             return Schedule::Sharded(Sharding::by_blocks(grain));
@@ -240,4 +243,12 @@ fn is_taken(costed: Costed<'_>, grain: Grain) -> bool {
         return true;
     }
     is_fusible(costed.step) && grain.for_values(costed.size(), costed.cost).workers <= 1
+}
+
+/// Whether each value of an expression is one before it along an axis, and what stands there.
+fn is_cumulative(expr: &Expr) -> bool {
+    match expr.node() {
+        Node::Unary(Unary::Along(operation, _), _) => operation.is_cumulative(),
+        _ => false,
+    }
 }

@@ -58,13 +58,13 @@ min_changed : (m x : ℤ) → int_min m x ≢ m → (int_min m x ≡ x) × (x <�
 min_changed m x other = (grind (arith, ints), grind (arith, ints))
 
 -- no value of a list is above the greatest, nor below the least
-none_above : (xs : List ℤ) (x : ℤ) → combination Max xs <ℤ x → All (λ y. int_eq y x ≡ false) xs
+pub none_above : (xs : List ℤ) (x : ℤ) → combination Max xs <ℤ x → All (λ y. int_eq y x ≡ false) xs
 none_above xs x above k d below =
     let most : slice_index_or xs k d ≤ℤ combination Max xs =
     (fold-int_max_bounds (unit Max) xs (combination Max xs) refl).1 k d below in
     less (slice_index_or xs k d) x (omega (arith, ints, most, above))
 
-none_below : (xs : List ℤ) (x : ℤ) → x <ℤ combination Min xs → All (λ y. int_eq y x ≡ false) xs
+pub none_below : (xs : List ℤ) (x : ℤ) → x <ℤ combination Min xs → All (λ y. int_eq y x ≡ false) xs
 none_below xs x under k d below =
     let least : combination Min xs ≤ℤ slice_index_or xs k d =
     (fold-int_min_bounds (unit Min) xs (combination Min xs) refl).1 k d below in

@@ -2,5 +2,10 @@ pub mod LinePlaces
 pub mod Rows
 pub mod Scans
 pub mod FirstPlaces
+pub mod Steps
 pub mod TakenRows
 pub mod LineReads
+pub mod Chunks
+pub mod SeenFirsts
+pub mod RowPlaces
+pub mod Written

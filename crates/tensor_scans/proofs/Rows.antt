@@ -1,6 +1,6 @@
 -- Where places stand in their blocks, and what lines through them are.
-use Rattle.std.proofs.Common.{◌≡◌, ℕ, ℤ, zero, suc, ◌+◌, ◌-◌, ◌*◌, ◌/◌, ◌%◌, ◌<◌, ◌≤◌, List, [], ◌∷◌, ◌++◌, map, append_assoc}
-use Rattle.std.proofs.Common.{ap, sym, subst, ◌∙◌, arith}
+use Rattle.std.proofs.Common.{◌≡◌, ℕ, ℤ, zero, suc, ◌+◌, ◌*◌, ◌/◌, ◌%◌, ◌<◌, ◌≤◌, List, [], ◌∷◌, ◌++◌, map, append_assoc}
+use Rattle.std.proofs.Common.{ap, sym, ◌∙◌, arith}
 use Rattle.std.specs.List.{range_with_len}
 use Rattle.std.proofs.lemmas.Nat.{div-add-mod', div-mul-add, mod-mul-add, mod_below, div_below, mul-add-lt, row_fits_turned}
 use Rattle.std.proofs.lemmas.List.FromFn.{map-range_with_len_more}
@@ -34,15 +34,6 @@ module _ (s w block i j p : ℕ) (at : IsAt s w block i j p) where
       let below : j * s + i < s * w = mul-add-lt j s i w at.row at.inside in
       ap (λ q. q / (s * w)) turned ∙ div-mul-add block (s * w) (j * s + i) below
 
-  -- it is in its block
-  pub block_before : block * (s * w) ≤ p
-  block_before = grind arith
-
-  pub block_behind : p < (block + 1) * (s * w)
-  block_behind =
-      let below : j * s + i < s * w = mul-add-lt j s i w at.row at.inside in
-      grind arith
-
 -- a factor of a number above another is not 0
 pub some_factor : (s w r : ℕ) → r < s * w → 0 < s
 some_factor zero w r below = absurd (omega arith)
@@ -59,14 +50,6 @@ is_in s w block q within =
       row = div_below q s w some turned;
       place = grind arith;
     }
-
-pub is_at : (s w block p : ℕ) → block * (s * w) ≤ p → p < (block + 1) * (s * w)
-    → IsAt s w block ((p - block * (s * w)) % s) ((p - block * (s * w)) / s) p
-is_at s w block p above below =
-    let q : ℕ = p - block * (s * w) in
-    let within : q < s * w = grind arith in
-    let is : block * (s * w) + q ≡ p = omega arith in
-    subst (IsAt s w block (q % s) (q / s)) is (is_in s w block q within)
 
 -- the line of a block that begins at a place of its first row
 abbrev pub line_in : Lines → (ℕ → ℤ) → ℕ → ℕ → List ℤ

@@ -1,141 +1,107 @@
--- What cumulative operations give at the places of a block, one row after the other.
-use Rattle.std.proofs.Common.{◌≡◌, ℕ, ℤ, zero, suc, ◌+◌, ◌-◌, ◌*◌, ◌/◌, ◌%◌, ◌<◌, ◌≤◌, [], ◌∷◌, map, take, true}
-use Rattle.std.proofs.Common.{refl, ap, sym, ◌∙◌, arith}
-use Rattle.std.specs.Prelude.{FitsSigned}
-use Rattle.std.specs.Int.{w64, int_wrap}
+-- What values of lines are combined to, one row of a block after the other.
+use Rattle.std.proofs.Common.{◌≡◌, ℕ, ℤ, zero, suc, ◌+◌, ◌-◌, ◌*◌, ◌/◌, ◌%◌, ◌<◌, List, [], ◌∷◌, length, map, take}
+use Rattle.std.proofs.Common.{inl, inr, ap, sym, ◌∙◌, arith}
 use Rattle.std.specs.List.{fold, range_with_len}
-use Rattle.std.proofs.lemmas.Int.{ints, int_wrap_fits}
+use Rattle.std.proofs.lemmas.Bool.{cases_lt}
 use Rattle.std.proofs.lemmas.List.FromFn.{map-range_with_len_more, take-map-range_with_len}
 use Rattle.std.proofs.lemmas.List.Sums.{fold-append}
-use Rattle.tensor_scans.specs.Lines.{is_cumulative, reducer_of}
-use Rattle.tensor_scans.specs.Places.{along_at, line_through}
+use Rattle.std.proofs.lemmas.Nat.{div-add-mod', div-mul-add, mod-mul-add, mul-add-lt}
+use Rattle.std.proofs.Math.Nat.{add-div_right, add-mod_right, div-one, mod-one}
+use Rattle.tensor_scans.specs.Places.{line_through}
 use Rattle.tensor_scans.specs.declared.lines.Lines.{Lines}
-use Rattle.tensor_scans.specs.declared.operation.LineOperation.{LineOperation}
-use Rattle.tensor_scans.specs.declared.operation.LineOperation.TheVariants.{Cumsum, Cumprod, Argmax, Argmin}
-use Rattle.tensor_scans.proofs.Rows.{IsAt, is_at, some_factor, number_of, block_before, block_behind, line_through-at}
+use Rattle.tensor_scans.specs.private.Rows.{cumulated_at, rows_combined, running_at}
+use Rattle.tensor_scans.proofs.Rows.{IsAt, is_in, number_of, line_through-at}
 use Rattle.tensor_values.specs.Combining.{combine, combination, unit}
-use Rattle.tensor_values.proofs.Runs.{map-shifted}
+use Rattle.tensor_values.specs.declared.reducer.Reducer.{Reducer}
+use Rattle.tensor_values.specs.Values.{value_in}
+use Rattle.tensor_values.proofs.Runs.{map-shifted, part-read}
 
--- what comes of the first values of a line of a block
-abbrev pub combined_to : LineOperation → Lines → (ℕ → ℤ) → ℕ → ℕ → ℕ → ℤ
-combined_to o lines f block i n =
-    combination (reducer_of o)
-    (map (λ k. f (i + lines.stride * (k + lines.length * block))) (range_with_len 0 n))
+module _ (r : Reducer) (s : ℕ) (f : ℕ → ℤ) where
+  -- one row more
+  pub rows-more : (i n : ℕ)
+      → rows_combined r s f i (n + 1) ≡ combine r (rows_combined r s f i n) (f (i + s * n))
+  rows-more i n =
+      let g : ℕ → ℤ = λ k. f (i + s * k) in
+      ap (fold (combine r) (unit r)) (map-range_with_len_more g 0 n n (omega arith))
+      ∙ fold-append (combine r) (unit r) (map g (range_with_len 0 n)) (g n ∷ [])
 
--- a cumulative operation takes a value for each of a line
-along-cumulative : (o : LineOperation) (lines : Lines) (f : ℕ → ℤ) (p : ℕ) → is_cumulative o ≡ true
-    → along_at o lines f p
-    ≡ combination (reducer_of o)
-    (take (p / lines.stride % lines.length + 1) (line_through lines lines.length f p))
-along-cumulative Cumsum lines f p cumulative = refl
-along-cumulative Cumprod lines f p cumulative = refl
-along-cumulative Argmax lines f p cumulative = (cc)
-along-cumulative Argmin lines f p cumulative = (cc)
+  -- the places of a row have equally many rows before them
+  pub running-row : (q k : ℕ) → q % s + k < s
+      → rows_combined r s f (q % s + k) (q / s + 1) ≡ running_at r s f (q + k)
+  running-row q k inside =
+      let parts : q / s * s + (q % s + k) ≡ q + k = omega (arith, div-add-mod' q s) in
+      let offset : (q + k) % s ≡ q % s + k =
+      ap (λ n. n % s) (sym parts) ∙ mod-mul-add (q / s) s (q % s + k) inside in
+      let row : (q + k) / s ≡ q / s =
+      ap (λ n. n / s) (sym parts) ∙ div-mul-add (q / s) s (q % s + k) inside in
+      sym (ap (λ n. rows_combined r s f n ((q + k) / s + 1)) offset
+      ∙ ap (λ n. rows_combined r s f (q % s + k) (n + 1)) row)
 
--- one value is what it is combined to alone
-combined-one : (o : LineOperation) (x : ℤ) → is_cumulative o ≡ true → FitsSigned w64 x
-    → combination (reducer_of o) (x ∷ []) ≡ x
-combined-one Cumsum x cumulative fits = ap (int_wrap w64) (omega (arith, ints)) ∙ int_wrap_fits w64 x fits
-combined-one Cumprod x cumulative fits = ap (int_wrap w64) (omega (arith, ints)) ∙ int_wrap_fits w64 x fits
-combined-one Argmax x cumulative fits = (cc)
-combined-one Argmin x cumulative fits = (cc)
+  -- the next value of a line
+  running-next : (q : ℕ) → 0 < s → running_at r s f (q + s) ≡ combine r (running_at r s f q) (f (q + s))
+  running-next q some =
+      let offset : (q + s) % s ≡ q % s = add-mod_right q s in
+      let row : (q + s) / s ≡ q / s + 1 = add-div_right q some in
+      let parts : q / s * s + q % s ≡ q = div-add-mod' q s in
+      let place : q % s + s * (q / s + 1) ≡ q + s = grind arith in
+      ap (λ n. rows_combined r s f n ((q + s) / s + 1)) offset
+      ∙ ap (λ n. rows_combined r s f (q % s) (n + 1)) row
+      ∙ rows-more (q % s) (q / s + 1)
+      ∙ ap (λ n. combine r (running_at r s f q) (f n)) place
 
-module _ (o : LineOperation) (lines : Lines) (cumulative : is_cumulative o ≡ true) where
-  along-at : (f : ℕ → ℤ) (block i j p : ℕ) → IsAt lines.stride lines.length block i j p
-      → along_at o lines f p ≡ combined_to o lines f block i (j + 1)
-  along-at f block i j p at =
-      let s = lines.stride in
-      let d = lines.length in
-      along-cumulative o lines f p cumulative
-      ∙ ap (λ n. combination (reducer_of o) (take (n + 1) (line_through lines d f p)))
-      (number_of s d block i j p at)
-      ∙ ap (λ l. combination (reducer_of o) (take (j + 1) l)) (line_through-at lines d f block i j p at)
-      ∙ ap (combination (reducer_of o))
-      (take-map-range_with_len (λ k. f (i + s * (k + d * block))) 0 d (j + 1) (omega arith))
+  -- values that follow each other, from those at the first places on
+  module _ (g : ℕ → ℤ) (from n : ℕ) (some : 0 < s)
+      (first : (k : ℕ) → k < s → k < n → g k ≡ running_at r s f (from + k))
+      (next : (k : ℕ) → k + s < n → g (k + s) ≡ combine r (g k) (f (from + (k + s)))) where
+    followed : (m k : ℕ) → k < m → k < n → g k ≡ running_at r s f (from + k)
+    followed zero k below inside = absurd (omega arith)
+    followed (suc m) k below inside =
+        elim (cases_lt k s) [
+          | inl early ↦ first k early inside
+          | inr late ↦
+              let j : ℕ = k - s in
+              let here : j + s ≡ k = omega (arith, late) in
+              let place : from + j + s ≡ from + (j + s) = omega arith in
+              ap g (sym here) ∙ next j (omega arith)
+              ∙ ap (λ x. combine r x (f (from + (j + s)))) (followed m j (omega arith) (omega arith))
+              ∙ ap (λ q. combine r (running_at r s f (from + j)) (f q)) (sym place)
+              ∙ sym (running-next (from + j) some)
+              ∙ ap (running_at r s f) (omega arith)
+        ]
 
-  -- the first row is as it was
-  along-first : (f : ℕ → ℤ) (block i p : ℕ) → IsAt lines.stride lines.length block i 0 p
-      → FitsSigned w64 (f p) → along_at o lines f p ≡ f p
-  along-first f block i p at fits =
-      along-at f block i 0 p at
-      ∙ ap (λ q. combination (reducer_of o) (f q ∷ [])) (sym at.place)
-      ∙ combined-one o (f p) cumulative fits
+    pub running-follows : (k : ℕ) → k < n → g k ≡ running_at r s f (from + k)
+    running-follows k inside = followed (k + 1) k (omega arith) inside
 
-  -- each other is combined with the row before
-  along-more : (f : ℕ → ℤ) (block i j p q : ℕ)
-      → IsAt lines.stride lines.length block i (j + 1) p
-      → IsAt lines.stride lines.length block i j q
-      → along_at o lines f p ≡ combine (reducer_of o) (along_at o lines f q) (f p)
-  along-more f block i j p q at before =
-      let g : ℕ → ℤ = λ k. f (i + lines.stride * (k + lines.length * block)) in
-      let r = reducer_of o in
-      along-at f block i (j + 1) p at
-      ∙ ap (fold (combine r) (unit r)) (map-range_with_len_more g 0 (j + 1) (j + 1) (omega arith))
-      ∙ fold-append (combine r) (unit r) (map g (range_with_len 0 (j + 1))) (g (j + 1) ∷ [])
-      ∙ ap (λ x. combine r x (g (j + 1))) (sym (along-at f block i j q before))
-      ∙ ap (λ m. combine r (along_at o lines f q) (f m)) (sym at.place)
+-- along one line alone
+pub running-line : (r : Reducer) (values : List ℤ) (q : ℕ) → q < length values
+    → combination r (take (q + 1) values) ≡ running_at r 1 (value_in values) q
+running-line r values q within =
+    let f : ℕ → ℤ = value_in values in
+    let g : ℕ → ℤ = λ k. f (q % 1 + 1 * k) in
+    ap (combination r) (part-read values 0 (q + 1) (omega arith))
+    ∙ ap (combination r) (map-shifted f g 0 0 (q + 1) (λ k below. ap f (omega (arith, mod-one q))))
+    ∙ ap (λ n. combination r (map g (range_with_len 0 (n + 1)))) (sym (div-one q))
 
-  -- values of other blocks don't matter
-  along-ext : (f g : ℕ → ℤ) (block i j p : ℕ) → IsAt lines.stride lines.length block i j p
-      → ((q : ℕ) → block * (lines.stride * lines.length) ≤ q
-      → q < (block + 1) * (lines.stride * lines.length) → f q ≡ g q)
-      → along_at o lines f p ≡ along_at o lines g p
-  along-ext f g block i j p at same =
-      let s = lines.stride in
-      let d = lines.length in
-      let each : (k : ℕ) → k < j + 1
-      → f (i + s * (0 + k + d * block)) ≡ g (i + s * (0 + k + d * block)) =
-      λ k below.
-      let here : IsAt s d block i k (i + s * (0 + k + d * block)) =
-      record { inside = at.inside; row = omega (arith, at.row); place = ap (λ n. i + s * (n + d * block)) (omega arith) } in
-      same _ (block_before s d block i k _ here) (block_behind s d block i k _ here) in
-      along-at f block i j p at
-      ∙ ap (combination (reducer_of o))
-      (map-shifted (λ k. f (i + s * (k + d * block))) (λ k. g (i + s * (k + d * block))) 0 0 (j + 1) each)
-      ∙ sym (along-at g block i j p at)
-
-  module _ (f : ℕ → ℤ) (block p : ℕ)
-      (above : block * (lines.stride * lines.length) ≤ p)
-      (below : p < (block + 1) * (lines.stride * lines.length)) where
-    -- a place of the first row of its block
-    pub scan-first : p < block * (lines.stride * lines.length) + lines.stride → FitsSigned w64 (f p)
-        → f p ≡ along_at o lines f p
-    scan-first first fits =
-        let s = lines.stride in
-        let d = lines.length in
-        let some : 0 < d = some_factor d s (p - block * (s * d)) (grind arith) in
-        let at : IsAt s d block (p - block * (s * d)) 0 p =
-        record { inside = omega arith; row = some; place = grind arith } in
-        sym (along-first f block (p - block * (s * d)) p at fits)
-
-    -- and one of another
-    scan-from : (i j : ℕ) → IsAt lines.stride lines.length block i j p
-        → block * (lines.stride * lines.length) + lines.stride ≤ p
-        → along_at o lines f p ≡ combine (reducer_of o) (along_at o lines f (p - lines.stride)) (f p)
-    scan-from i zero at behind = absurd (grind arith)
-    scan-from i (suc j) at behind =
-        let s = lines.stride in
-        let d = lines.length in
-        let whole : p ≡ s + (i + s * (j + d * block)) = grind arith in
-        let here : IsAt s d block i (j + 1) p =
-        record { inside = at.inside; row = omega (arith, at.row); place = grind arith } in
-        let before : IsAt s d block i j (p - s) =
-        record { inside = at.inside; row = omega (arith, at.row); place = omega arith } in
-        along-more f block i j p (p - s) here before
-
-    pub scan-more : block * (lines.stride * lines.length) + lines.stride ≤ p
-        → along_at o lines f p ≡ combine (reducer_of o) (along_at o lines f (p - lines.stride)) (f p)
-    scan-more behind =
-        let s = lines.stride in
-        let q : ℕ = p - block * (s * lines.length) in
-        scan-from (q % s) (q / s) (is_at s lines.length block p above below) behind
-
-    -- and one whose block has the same values in another list
-    pub scan-ext : (g : ℕ → ℤ)
-        → ((q : ℕ) → block * (lines.stride * lines.length) ≤ q
-        → q < (block + 1) * (lines.stride * lines.length) → f q ≡ g q)
-        → along_at o lines f p ≡ along_at o lines g p
-    scan-ext g same =
-        let s = lines.stride in
-        let q : ℕ = p - block * (s * lines.length) in
-        along-ext f g block (q % s) (q / s) p (is_at s lines.length block p above below) same
+-- a place of a block, whose values are a part of all
+pub running-block : (r : Reducer) (lines : Lines) (f g : ℕ → ℤ) (block q : ℕ)
+    → q < lines.stride * lines.length
+    → ((k : ℕ) → k < lines.stride * lines.length
+    → g k ≡ f (block * (lines.stride * lines.length) + k))
+    → running_at r lines.stride g q ≡ cumulated_at r lines f (block * (lines.stride * lines.length) + q)
+running-block r lines f g block q within same =
+    let s = lines.stride in
+    let d = lines.length in
+    let i : ℕ = q % s in
+    let j : ℕ = q / s in
+    let p : ℕ = block * (s * d) + q in
+    let at : IsAt s d block i j p = is_in s d block q within in
+    let h : ℕ → ℤ = λ k. f (i + s * (k + d * block)) in
+    let each : (k : ℕ) → k < j + 1 → g (i + s * (0 + k)) ≡ h (0 + k) =
+    λ k below.
+    let inside : k * s + i < s * d = mul-add-lt k s i d (omega (arith, at.row)) at.inside in
+    ap g (grind arith) ∙ same (k * s + i) inside ∙ ap f (grind arith) in
+    ap (combination r) (map-shifted (λ k. g (i + s * k)) h 0 0 (j + 1) each)
+    ∙ ap (combination r) (sym (take-map-range_with_len h 0 d (j + 1) (omega (arith, at.row))))
+    ∙ ap (λ l. combination r (take (j + 1) l)) (sym (line_through-at lines d f block i j p at))
+    ∙ ap (λ n. combination r (take (n + 1) (line_through lines d f p)))
+    (sym (number_of s d block i j p at))

@@ -10,6 +10,7 @@
 //! ```
 #![tactic(auto)]
 
+mod along;
 mod lines;
 mod located;
 mod operation;
@@ -17,6 +18,8 @@ mod progress;
 mod scanned;
 mod taken;
 
+pub use along::AlongLines;
 pub use lines::Lines;
 pub use operation::LineOperation;
 pub use progress::Progress;
+pub use taken::TakenLines;

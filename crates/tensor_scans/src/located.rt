@@ -1,61 +1,52 @@
 //! One value for each line: where its greatest or its least stands first.
 
-ghost use Rattle.std.specs.Prelude.{◌≡◌, ◌<◌, ◌^◌, ℕ, length, IfOk, false};
-ghost use Rattle.tensor_scans.specs.Lines.{is_cumulative, outcome};
-ghost use Rattle.tensor_scans.specs.Places.{along_at, line_place, line_through, line_values};
+mod by_rows;
+mod side_by_side;
+
+ghost use Rattle.std.specs.Prelude.{◌≡◌, ◌<◌, ◌≤◌, ◌+◌, ℕ, length, false};
+ghost use Rattle.tensor_scans.specs.Lines.{is_cumulative};
+ghost use Rattle.tensor_scans.specs.Places.{along_at, line_values};
 ghost use Rattle.tensor_values.specs.Values.{value_in};
 
-use crate::lines::Lines;
+use crate::along::AlongLines;
 use crate::operation::LineOperation;
-use crate::progress::Progress;
-use std::alloc::{AllocError, Global};
 
-impl Lines {
-    /// Where each line of values has its first greatest, or its first least; 0 for a line of none.
-    pub fn located(
-        self,
-        alloc: Global,
-        operation: LineOperation,
-        values: &[i64],
-    ) -> Result<Vec<i64>, AllocError>
+impl AlongLines<'_> {
+    /// Writes where each line has its first greatest, or its first least (0 for a line of none), at
+    /// the places of the result from one on, by an operation that is known where this is compiled.
+    #[inline(always)]
+    pub(crate) fn fill_located(self, operation: LineOperation, first: usize, out: &mut [i64])
         requires single { is_cumulative operation ≡ false }
-        requires whole { length values.now ≡ line_values self self.length }
-        requires few { line_values self 1 < 2 ^ 60 }
-        ensures count { IfOk result (λ r. length r.items ≡ line_values self 1) }
-        ensures values { IfOk result (λ r. (p : ℕ) → p < line_values self 1
-            → value_in r.items p ≡ along_at operation self (value_in values.now) p) }
+        requires within { first + length out.old ≤ line_values self.lines 1 }
+        ensures len { length out.new ≡ length out.old }
+        ensures each { (k : ℕ) → k < length out.old → value_in out.new k
+            ≡ along_at operation self.entry.lines (value_in self.entry.values.now) (first + k) }
     {
-        let count = self.stride * self.blocks;
-        let mut results = Vec::with_capacity(alloc, count)?;
-        for place in 0..count {
-            results.push_reserved(self.outcome(operation, values, place));
+        let (lines, values) = (self.lines, self.values);
+        if lines.length == 0 {
+            set_all(out, 0);
+            return;
         }
-        Ok(results)
+        let along = AlongLines {
+            operation,
+            lines,
+            values,
+        };
+        if lines.stride == 1 {
+            along.fill_side_by_side(first, out);
+        } else {
+            along.fill_by_rows(first, out);
+        }
     }
+}
 
-    /// What one line gives, that of a place of the result.
-    fn outcome(self, operation: LineOperation, values: &[i64], place: usize) -> i64
-        requires whole { length values.now ≡ line_values self self.length }
-        requires below { place < line_values self 1 }
-        ensures { result ≡ outcome operation (line_through self 1 (value_in values.now) place) }
-    {
-        let start = self.start(place);
-        let mut progress = Progress::start(operation);
-        for k in 0..self.length {
-            progress = progress.after(operation, values[start + k * self.stride]);
-        }
-        progress.outcome(operation)
-    }
-
-    /// Where that line starts, if it has a value.
-    fn start(self, place: usize) -> usize
-        requires few { line_values self self.length < 2 ^ 63 }
-        requires below { place < line_values self 1 }
-        ensures { 0 < self.length → result ≡ line_place self 1 place 0 }
-    {
-        if self.length == 0 {
-            return 0;
-        }
-        self.place(1, place, 0)
+/// Makes all values one value.
+#[inline(always)]
+fn set_all(values: &mut [i64], value: i64)
+    ensures len { length values.new ≡ length values.old }
+    ensures each { (k : ℕ) → k < length values.old → value_in values.new k ≡ value }
+{
+    for place in values.iter_mut() {
+        *place = value;
     }
 }

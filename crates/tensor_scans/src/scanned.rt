@@ -1,56 +1,176 @@
-//! Cumulative operations, on the values where they are.
+//! Cumulative operations: each value of a line combined with those before it, by ranges of places of
+//! the result.
 
-ghost use Rattle.std.specs.Int.{w64};
-ghost use Rattle.std.specs.Prelude.{◌≡◌, ◌<◌, ◌≤◌, ℕ, length, true, FitsSigned};
-ghost use Rattle.tensor_scans.specs.Lines.{is_cumulative};
-ghost use Rattle.tensor_scans.specs.Places.{along_at, line_values};
-ghost use Rattle.tensor_scans.specs.private.Rows.{IsScanned};
+ghost use Rattle.std.specs.Prelude.{◌≡◌, ◌<◌, ◌≤◌, ◌+◌, ◌%◌, ℕ, length, take};
+ghost use Rattle.tensor_scans.specs.Places.{line_values};
+ghost use Rattle.tensor_scans.specs.private.Rows.{Follows, cumulated_at, running_at};
+ghost use Rattle.tensor_values.specs.Combining.{combination, combine, unit};
 ghost use Rattle.tensor_values.specs.Values.{value_in};
 
-use crate::lines::Lines;
-use crate::operation::LineOperation;
+use crate::along::AlongLines;
+use tensor_values::Reducer;
 
-impl Lines {
-    /// Each value of a line becomes what it and all before it are combined to.
-    pub fn scan(self, operation: LineOperation, values: &mut Vec<i64>)
-        requires cumulative { is_cumulative operation ≡ true }
-        requires whole { length values.now.items ≡ line_values self self.length }
-        ensures count { length values.new.items ≡ length values.old.items }
-        ensures values { (p : ℕ) → p < line_values self self.length
-            → value_in values.new.items p ≡ along_at operation self (value_in values.old.items) p }
+impl AlongLines<'_> {
+    /// Writes what values combined one after the other give at the places of the result from one on,
+    /// by a reducer that is known where this is compiled: block by block.
+    #[inline(always)]
+    pub(crate) fn fill_cumulative(self, reducer: Reducer, first: usize, out: &mut [i64])
+        requires { first + length out.old ≤ line_values self.lines self.lines.length }
+        ensures len { length out.new ≡ length out.old }
+        ensures each { (k : ℕ) → k < length out.old → value_in out.new k
+            ≡ cumulated_at reducer self.entry.lines (value_in self.entry.values.now) (first + k) }
     {
-        for block in 0..self.blocks {
-            self.scan_block(operation, values, block);
+        if out.is_empty() {
+            return;
         }
-    }
-
-    /// The same of one block: each of its rows but the first is combined with the row before.
-    fn scan_block(self, operation: LineOperation, values: &mut [i64], block: usize)
-        requires cumulative { is_cumulative operation ≡ true }
-        requires whole { length values.old ≡ line_values self self.length }
-        requires below { block < self.blocks }
-        ensures { IsScanned operation self block values.old values.new }
-    {
-        let reducer = operation.reducer();
-        let width = self.stride * self.length;
-        let start = block * width;
-        let second = start + self.stride.min(width);
-        read_values(values, start, second);
-        for place in second..start + width {
-            values[place] = reducer.combine(values[place - self.stride], values[place]);
+        let stride = self.lines.stride;
+        let width = stride * self.lines.length;
+        let mut block = first / width;
+        let mut from = first % width;
+        let mut done = 0;
+        while done < out.len() {
+            let start = block * width;
+            let count = (width - from).min(out.len() - done);
+            let values = &self.values[start..start + width];
+            let part = &mut out[done..done + count];
+            Block { stride, values }.fill(reducer, from, part);
+            done += count;
+            block += 1;
+            from = 0;
         }
     }
 }
 
-/// Reads a run of values, and does nothing with them: what was read is known to be of the `i64`
-/// range, so that its sum or its product alone, modulo 2^64, is itself.
+/// A block of lines, row after row: a row has one value of each.
+#[derive(Clone, Copy, Drop)]
+struct Block<'a> {
+    stride: usize,
+    values: &'a [i64],
+    ghost some: { 0 < stride },
+}
+
+impl Block<'_> {
+    /// Writes what is combined at the places of a block from one on.
+    #[inline(always)]
+    fn fill(self, reducer: Reducer, from: usize, out: &mut [i64])
+        requires within { from + length out.old ≤ length self.values.now }
+        ensures len { length out.new ≡ length out.old }
+        ensures each { (k : ℕ) → k < length out.old → value_in out.new k
+            ≡ running_at reducer self.entry.stride (value_in self.entry.values.now) (from + k) }
+    {
+        if self.stride == 1 {
+            fill_line(reducer, self.values, from, out);
+        } else {
+            self.fill_rows(reducer, from, out);
+        }
+    }
+
+    /// The same of a block of rows. The first values, with none a stride before them here, are combined
+    /// from the unit, and each other follows that one.
+    #[inline(always)]
+    fn fill_rows(self, reducer: Reducer, from: usize, out: &mut [i64])
+        requires within { from + length out.old ≤ length self.values.now }
+        ensures len { length out.new ≡ length out.old }
+        ensures each { (k : ℕ) → k < length out.old → value_in out.new k
+            ≡ running_at reducer self.entry.stride (value_in self.entry.values.now) (from + k) }
+    {
+        let stride = self.stride;
+        let head = out.len().min(stride);
+        let mut done = 0;
+        while done < head {
+            let place = from + done;
+            let count = (stride - place % stride).min(head - done);
+            self.fold_rows(reducer, place, &mut out[done..done + count]);
+            done += count;
+        }
+        follow(reducer, stride, &self.values[from..], out);
+    }
+
+    /// Writes at places of one row what their lines' values up to there are combined to.
+    #[inline(always)]
+    fn fold_rows(self, reducer: Reducer, from: usize, out: &mut [i64])
+        requires some { 0 < length out.old }
+        requires row { from % self.stride + length out.old ≤ self.stride }
+        requires within { from + length out.old ≤ length self.values.now }
+        ensures len { length out.new ≡ length out.old }
+        ensures each { (k : ℕ) → k < length out.old → value_in out.new k
+            ≡ running_at reducer self.entry.stride (value_in self.entry.values.now) (from + k) }
+    {
+        let stride = self.stride;
+        let block = self.values;
+        let first = from % stride;
+        begin_row(reducer, out, &block[first..first + out.len()]);
+        for row in 1..from / stride + 1 {
+            let start = first + row * stride;
+            fold_row(reducer, out, &block[start..start + out.len()]);
+        }
+    }
+}
+
+/// Writes what the values of one line are combined to, from one of its numbers on: what there is so far
+/// is at hand.
 #[inline(always)]
-fn read_values(values: &[i64], from: usize, to: usize)
-    requires order { from ≤ to }
-    requires within { to ≤ length values.now }
-    ensures { (p : ℕ) → from ≤ p → p < to → FitsSigned w64 (value_in values.now p) }
+fn fill_line(reducer: Reducer, line: &[i64], from: usize, out: &mut [i64])
+    requires { from + length out.old ≤ length line.now }
+    ensures len { length out.new ≡ length out.old }
+    ensures each { (k : ℕ) → k < length out.old
+        → value_in out.new k ≡ combination reducer (take (from + k + 1) line.now) }
 {
-    for place in from..to {
-        let _value = values[place];
+    let mut all = combined(reducer, &line[..from]);
+    for i in 0..out.len() {
+        all = reducer.combine(all, line[from + i]);
+        out[i] = all;
+    }
+}
+
+/// The values, combined from the unit.
+#[inline(always)]
+fn combined(reducer: Reducer, values: &[i64]) -> i64
+    ensures { result ≡ combination reducer values.now }
+{
+    let mut all = reducer.unit();
+    for value in values {
+        all = reducer.combine(all, *value);
+    }
+    all
+}
+
+/// Writes each value of a row, combined with the unit.
+#[inline(always)]
+fn begin_row(reducer: Reducer, row: &mut [i64], values: &[i64])
+    requires { length row.old ≡ length values.now }
+    ensures len { length row.new ≡ length row.old }
+    ensures each { (i : ℕ) → i < length row.old
+        → value_in row.new i ≡ combine reducer (unit reducer) (value_in values.now i) }
+{
+    let unit = reducer.unit();
+    for i in 0..values.len() {
+        row[i] = reducer.combine(unit, values[i]);
+    }
+}
+
+/// Combines each value with that at its place in another row.
+#[inline(always)]
+fn fold_row(reducer: Reducer, row: &mut [i64], others: &[i64])
+    requires { length row.old ≡ length others.now }
+    ensures len { length row.new ≡ length row.old }
+    ensures each { (i : ℕ) → i < length row.old
+        → value_in row.new i ≡ combine reducer (value_in row.old i) (value_in others.now i) }
+{
+    for i in 0..others.len() {
+        row[i] = reducer.combine(row[i], others[i]);
+    }
+}
+
+/// Makes each value but the first ones that a stride before, combined with the one at its place in
+/// a list.
+#[inline(always)]
+fn follow(reducer: Reducer, stride: usize, values: &[i64], out: &mut [i64])
+    requires stride { 0 < stride }
+    requires within { length out.old ≤ length values.now }
+    ensures { Follows reducer stride (value_in values.now) out.old out.new }
+{
+    for i in stride..out.len() {
+        out[i] = reducer.combine(out[i - stride], values[i]);
     }
 }

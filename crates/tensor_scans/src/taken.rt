@@ -1,84 +1,205 @@
-//! The values of lines that a list of numbers takes.
+//! The values of lines that a list of numbers takes, written where they are wanted.
+//!
+//! What the lines of a block have at one number, a row of the block, lies side by side, and so it does
+//! in the result.
 
-ghost use Rattle.std.specs.Prelude.{◌≡◌, ◌<◌, ◌≤◌, ◌+◌, ◌*◌, ◌^◌, ◌++◌, ℕ, length, IfOk};
-ghost use Rattle.std.specs.Prelude.{vec_len, vec_capacity};
+ghost use Rattle.std.specs.Prelude.{◌≡◌, ◌<◌, ◌≤◌, ◌+◌, ◌-◌, ◌*◌, ◌^◌, ℕ, length, min};
+ghost use Rattle.tensor_scans.specs.Lines.{taken_from};
 ghost use Rattle.tensor_scans.specs.Places.{line_values, taken_at};
-ghost use Rattle.tensor_scans.specs.private.Rows.{block_taken, row_of, row_taken};
+ghost use Rattle.tensor_scans.specs.private.Rows.{line_at, row_of, taken_in};
 ghost use Rattle.tensor_values.specs.Values.{value_in};
 
 use crate::lines::Lines;
-use std::alloc::{AllocError, Global};
 
-impl Lines {
-    /// The values of each line at these numbers, in their order, in the place of the line; 0 where a
-    /// number is none of the line's.
-    pub fn taken(
-        self,
-        alloc: Global,
-        values: &[i64],
-        numbers: &[i64],
-    ) -> Result<Vec<i64>, AllocError>
-        requires whole { length values.now ≡ line_values self self.length }
-        requires few { line_values self (length numbers.now) < 2 ^ 60 }
-        ensures count { IfOk result (λ r.
-            length r.items ≡ line_values self (length numbers.now)) }
-        ensures values { IfOk result (λ r. (p : ℕ) → p < line_values self (length numbers.now)
-            → value_in r.items p ≡ taken_at self numbers.now (value_in values.now) p) }
+/// A take of the values of lines at numbers.
+#[derive(Clone, Copy, Drop)]
+pub struct TakenLines<'a> {
+    /// Where the lines lie.
+    pub lines: Lines,
+    /// The values of all lines.
+    pub values: &'a [i64],
+    /// The numbers of each line whose values stand in its place.
+    pub numbers: &'a [i64],
+    ghost whole: { length values.now ≡ line_values lines lines.length },
+}
+
+impl<'a> TakenLines<'a> {
+    /// Writes the values that are taken (0 where a number is none of the line's) at the places of the
+    /// result from one on, as many as there is room for, whatever stands there.
+    pub fn fill(self, first: usize, out: &mut [i64])
+        requires { first + length out.old ≤ line_values self.lines (length self.numbers.now) }
+        ensures len { length out.new ≡ length out.old }
+        ensures each { (k : ℕ) → k < length out.old → value_in out.new k
+            ≡ taken_at self.entry.lines self.entry.numbers.now (value_in self.entry.values.now)
+            (first + k) }
     {
-        if self.blocks == 0 {
-            return Ok(Vec::new(alloc));
+        if out.is_empty() {
+            return;
         }
-        let mut results = Vec::with_capacity(alloc, self.stride * numbers.len() * self.blocks)?;
-        let width = self.stride * self.length;
-        for block in 0..self.blocks {
+        match self.lines.stride {
+            1 => self.of_stride(1).fill_by_rows(first, out),
+            2 => self.of_stride(2).fill_by_rows(first, out),
+            3 => self.of_stride(3).fill_by_rows(first, out),
+            4 => self.of_stride(4).fill_by_rows(first, out),
+            _ => self.fill_by_rows(first, out),
+        }
+    }
+
+    /// The same take, by a stride that is known where this is compiled.
+    #[inline(always)]
+    fn of_stride(self, stride: usize) -> TakenLines<'a>
+        requires { stride ≡ self.lines.stride }
+        ensures lines { result.lines ≡ self.entry.lines }
+        ensures values { result.values.now ≡ self.entry.values.now }
+        ensures numbers { result.numbers.now ≡ self.entry.numbers.now }
+    {
+        let lines = Lines {
+            stride,
+            ..self.lines
+        };
+        TakenLines {
+            lines,
+            values: self.values,
+            numbers: self.numbers,
+        }
+    }
+
+    /// Writes what is taken block by block, where there is room for some.
+    #[inline(always)]
+    fn fill_by_rows(self, first: usize, out: &mut [i64])
+        requires some { 0 < length out.old }
+        requires within { first + length out.old ≤ line_values self.lines (length self.numbers.now) }
+        ensures len { length out.new ≡ length out.old }
+        ensures each { (k : ℕ) → k < length out.old → value_in out.new k
+            ≡ taken_at self.entry.lines self.entry.numbers.now (value_in self.entry.values.now)
+            (first + k) }
+    {
+        let lines = self.lines;
+        let stride = lines.stride;
+        let width = stride * lines.length;
+        let row = first / stride;
+        let mut block = row / self.numbers.len();
+        let mut j = row % self.numbers.len();
+        let mut column = first % stride;
+        let mut done = 0;
+        while done < out.len() {
             let from = block * width;
-            self.push_block(&mut results, &values[from..from + width], numbers);
+            let values = &self.values[from..from + width];
+            let rows = Block { lines, values };
+            done += rows.take_from(&self.numbers[j..], column, &mut out[done..]);
+            block += 1;
+            j = 0;
+            column = 0;
         }
-        Ok(results)
+    }
+}
+
+/// A block of lines, row after row: a row has one value of each.
+#[derive(Clone, Copy, Drop)]
+struct Block<'a> {
+    lines: Lines,
+    values: &'a [i64],
+    ghost some: { 0 < lines.stride },
+    ghost whole: { length values.now ≡ lines.stride * lines.length },
+}
+
+impl Block<'_> {
+    /// Writes the rows at numbers, the first of them from a column on, and tells how many values there
+    /// was room for.
+    #[inline(always)]
+    fn take_from(self, numbers: &[i64], column: usize, out: &mut [i64]) -> usize
+        requires column { column < self.lines.stride }
+        requires some { 0 < length numbers.now }
+        ensures count { result
+            ≡ min (self.entry.lines.stride * length numbers.now - column) (length out.old) }
+        ensures len { length out.new ≡ length out.old }
+        ensures each { (k : ℕ) → k < result → value_in out.new k
+            ≡ taken_in self.entry.lines numbers.now (value_in self.entry.values.now) (column + k) }
+    {
+        if column == 0 {
+            return self.take_rows(numbers, out);
+        }
+        let count = (self.lines.stride - column).min(out.len());
+        self.put_part(numbers[0], column, &mut out[..count]);
+        count + self.take_rows(&numbers[1..], &mut out[count..])
     }
 
-    /// Those of one block of lines.
-    fn push_block(self, results: &mut Vec<i64>, block: &[i64], numbers: &[i64])
-        requires whole { length block.now ≡ self.stride * self.length }
-        requires room { vec_len results.old + self.stride * length numbers.now
-            ≤ vec_capacity results.old }
-        ensures items { results.new.items ≡ results.old.items
-            ++ block_taken self (value_in block.now) numbers.now }
-        ensures len { vec_len results.new
-            ≡ vec_len results.old + self.stride * length numbers.now }
-        ensures capacity { vec_capacity results.new ≡ vec_capacity results.old }
+    /// Writes the rows at numbers, and tells how many values there was room for.
+    #[inline(always)]
+    fn take_rows(self, numbers: &[i64], out: &mut [i64]) -> usize
+        ensures count { result ≡ min (self.entry.lines.stride * length numbers.now) (length out.old) }
+        ensures len { length out.new ≡ length out.old }
+        ensures each { (k : ℕ) → k < result → value_in out.new k
+            ≡ taken_in self.entry.lines numbers.now (value_in self.entry.values.now) k }
     {
+        let stride = self.lines.stride;
+        if stride == 1 {
+            return take_each(self.values, numbers, out);
+        }
+        let mut done = 0;
         for number in numbers {
-            self.push_row(results, block, *number);
-        }
-    }
-
-    /// Those at one number, a row.
-    fn push_row(self, results: &mut Vec<i64>, block: &[i64], number: i64)
-        requires whole { length block.now ≡ self.stride * self.length }
-        requires room { vec_len results.old + self.stride ≤ vec_capacity results.old }
-        ensures items { results.new.items ≡ results.old.items
-            ++ row_taken self (value_in block.now) number }
-        ensures len { vec_len results.new ≡ vec_len results.old + self.stride }
-        ensures capacity { vec_capacity results.new ≡ vec_capacity results.old }
-    {
-        let row = self.row_of(number);
-        for i in 0..self.stride {
-            match row {
-                Some(first) => results.push_reserved(block[first + i]),
-                None => results.push_reserved(0),
+            if out.len() - done < stride {
+                self.put_part(*number, 0, &mut out[done..]);
+                return out.len();
             }
+            self.put_row(*number, 0, &mut out[done..done + stride]);
+            done += stride;
+        }
+        done
+    }
+
+    /// Writes a part of the row at a number, from a column on: the first or the last of all.
+    #[inline(never)]
+    fn put_part(self, number: i64, column: usize, out: &mut [i64])
+        requires inside { column + length out.old ≤ self.lines.stride }
+        ensures len { length out.new ≡ length out.old }
+        ensures each { (k : ℕ) → k < length out.old → value_in out.new k ≡ taken_from
+            (line_at self.entry.lines (value_in self.entry.values.now) (column + k)) number }
+    {
+        self.put_row(number, column, out);
+    }
+
+    /// The same, as a part of the code around.
+    #[inline(always)]
+    fn put_row(self, number: i64, column: usize, out: &mut [i64])
+        requires inside { column + length out.old ≤ self.lines.stride }
+        ensures len { length out.new ≡ length out.old }
+        ensures each { (k : ℕ) → k < length out.old → value_in out.new k ≡ taken_from
+            (line_at self.entry.lines (value_in self.entry.values.now) (column + k)) number }
+    {
+        match self.row_of(number) {
+            Some(row) => {
+                let from = row + column;
+                out.copy_from_slice(&self.values[from..from + out.len()]);
+            }
+            None => out.fill(0),
         }
     }
 
-    /// Where the row of a number begins in its block, if it is one of a line's.
+    /// Where the row of a number begins, if it is one of a line's.
+    #[inline(always)]
     fn row_of(self, number: i64) -> Option<usize>
-        requires few { self.stride * self.length < 2 ^ 63 }
-        ensures { result ≡ row_of self number }
+        ensures { result ≡ row_of self.entry.lines number }
     {
-        if number < 0 || number as u64 >= self.length as u64 {
+        if number < 0 || number as u64 >= self.lines.length as u64 {
             return None;
         }
-        Some(number as usize * self.stride)
+        Some(number as usize * self.lines.stride)
     }
+}
+
+/// Writes what a line has at each number, and tells how many there was room for.
+#[inline(always)]
+fn take_each(line: &[i64], numbers: &[i64], out: &mut [i64]) -> usize
+    ensures count { result ≡ min (length numbers.now) (length out.old) }
+    ensures len { length out.new ≡ length out.old }
+    ensures each { (k : ℕ) → k < result
+        → value_in out.new k ≡ taken_from line.now (value_in numbers.now k) }
+{
+    let count = numbers.len().min(out.len());
+    for i in 0..count {
+        let number = numbers[i].cast_unsigned() as usize;
+        out[i] = if number < line.len() { line[number] } else { 0 };
+    }
+    count
 }

@@ -8,7 +8,7 @@ from typing import Dict, List, Mapping, NamedTuple, Set, Tuple
 from ..expressions import Expr
 from ..rules import product
 
-# Operations along one axis, no value of which is worked out without the others.
+# Operations along one axis, whose operands are worked out as lists.
 ALONG_AN_AXIS = frozenset("cumsum cumprod argmax argmin take".split())
 # What combines values into others: it is worked out as a list, wherever it stands.
 COMBINING = ALONG_AN_AXIS.union("sum prod maximum minimum all any contract convolve".split())

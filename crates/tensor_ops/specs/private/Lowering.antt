@@ -4,9 +4,11 @@ use Rattle.tensor_shape.specs.Index.{size_of, IsIndexOf, place, index_of}
 use Rattle.tensor_shape.specs.Legal.{most_elements}
 use Rattle.tensor_kernels.specs.Contracting.{contraction_value}
 use Rattle.tensor_views.specs.Axes.{are_along, by_steps}
+use Rattle.tensor_ops.specs.private.LineResults.{value_along}
 use Rattle.tensor_ops.specs.private.Meaning.{meaning, count_of, IsSound}
 use Rattle.tensor_kernels.specs.declared.contraction.Contraction.{Contraction}
 use Rattle.tensor_ops.specs.declared.lowered.Lowered.{Lowered}
+use Rattle.tensor_ops.specs.declared.operands.along.LineResults.{LineResults}
 use Rattle.tensor_views.specs.declared.axis.Axis.{Axis}
 
 -- so many values, one a place, are those of a function at all index lists of these dims
@@ -33,6 +35,10 @@ meaning_at lowered ds index = meaning lowered (place ds index)
 -- the value of a contraction at an index list of its result dims
 abbrev pub contraction_at : Contraction → List ℕ → List ℕ → ℤ
 contraction_at c ds index = contraction_value c (place ds index)
+
+-- the value of what goes along lines at an index list of its result dims
+abbrev pub along_at : LineResults → List ℕ → List ℕ → ℤ
+along_at a ds index = value_along a (place ds index)
 
 -- a lowered expression of these dims, read along axes from a start in another one
 pub record IsView (inner : Lowered) (start : ℕ) (axes : List Axis)

@@ -14,10 +14,12 @@ ghost use Rattle.tensor_terms.specs.Value.{value};
 
 use crate::lowered::Lowered;
 use crate::lowered::sinking::sunk_over;
+use crate::lowering::axis::{along_of, take_of};
 use crate::lowering::convolution::convolution_of;
 use crate::lowering::part::Part;
 use crate::lowering::ready::{contraction_of, reduction_of};
 use crate::lowering::{lower, lower_two};
+use crate::operands::along::LineResults;
 use crate::operands::reduction::Reduction;
 use std::alloc::{AllocError, Allocator, Global};
 use tensor_kernels::Contraction;
@@ -28,19 +30,20 @@ use tensor_terms::{Binary, Expr, Node, Tensors, Unary};
 /// of values.
 pub(crate) const MOST_STORED: usize = 32_768;
 
-/// What the values of an expression are asked of: a reduction or a contraction where that is its
-/// last operation.
+/// What the values of an expression are asked of: a reduction, a contraction or what goes along an
+/// axis where that is its last operation.
 pub(crate) enum Root<'a> {
     Lowered(Lowered<'a>),
     Reduction(Reduction<'a>),
     Contraction(Contraction<'a>),
+    Along(LineResults<'a>),
 }
 
 // Said once, where a derived drop is unfolded wherever one may be dropped.
 impl Drop for Root<'_> {
     fn drop(self) {
         match self {
-            Root::Lowered(_) | Root::Reduction(_) | Root::Contraction(_) => {}
+            Root::Lowered(_) | Root::Reduction(_) | Root::Contraction(_) | Root::Along(_) => {}
         }
     }
 }
@@ -79,6 +82,16 @@ impl<'a> Root<'a> {
                 let (contraction, dims) = convolution_of(alloc, axes, operand, kernel)?;
                 Ok((Root::Contraction(contraction), dims))
             }
+            Node::Unary(Unary::Along(operation, axis), operand) => {
+                let operand = lower(alloc, operand, tensors, &mut room)?;
+                let (along, dims) = along_of(alloc, operation, axis, operand)?;
+                Ok((Root::Along(along), dims))
+            }
+            Node::Binary(Binary::Take(axis), first, second) => {
+                let (first, second) = lower_two(alloc, first, second, tensors, &mut room)?;
+                let (along, dims) = take_of(alloc, axis, first, second)?;
+                Ok((Root::Along(along), dims))
+            }
             _ => {
                 let part = lower_and_sink(alloc, expr, tensors, &mut room)?;
                 Ok((Root::Lowered(part.lowered), part.dims))
@@ -105,6 +118,7 @@ impl<'a> Root<'a> {
             Root::Lowered(lowered) => lowered.values(alloc, target, first, last),
             Root::Reduction(reduction) => reduction.values(target, first, last),
             Root::Contraction(contraction) => contraction.values(target, first, last),
+            Root::Along(along) => along.values(target, first, last),
         }
     }
 
@@ -128,6 +142,7 @@ impl<'a> Root<'a> {
             Root::Lowered(lowered) => lowered.fill(alloc, first, last, out)?,
             Root::Reduction(reduction) => reduction.fill(first, out),
             Root::Contraction(contraction) => contraction.fill(first, out)?,
+            Root::Along(along) => along.fill(first, out),
         }
         Ok(())
     }

@@ -66,10 +66,11 @@ pub(crate) fn cost_of(step: &Step, inputs: &Inputs, earlier: &[Tensor], left: &[
             let width = size_of(kernel, inputs, earlier, left);
             values.saturating_mul(width.saturating_mul(MULTIPLIED).saturating_add(SLID))
         }
-        // Those along an axis are worked out beforehand, and then copied.
-        Node::Unary(Unary::Along(_, _), _) | Node::Binary(Binary::Take(_), _, _) => {
-            values.saturating_mul(IN_ROWS)
+        Node::Unary(Unary::Along(operation, _), operand) => {
+            let places = size_of(operand, inputs, earlier, left);
+            places.saturating_mul(combining(operation.reducer()))
         }
+        Node::Binary(Binary::Take(_), _, _) => values.saturating_mul(SCATTERED),
         _ => values.saturating_mul(thousand_of(step.expr(), values)),
     };
     thousandfold / 1000
@@ -132,7 +133,7 @@ fn one_operand(operation: Unary<'_>) -> u64 {
         Unary::Move(Movement::Shuffle(_) | Movement::Stride(_)) | Unary::Pad(_) => SCATTERED,
         Unary::Move(_) => IN_ROWS,
         Unary::Reduce(reducer, _) => combining(reducer),
-        Unary::Along(_, _) => IN_ROWS,
+        Unary::Along(operation, _) => combining(operation.reducer()),
     }
 }
 
@@ -148,8 +149,7 @@ fn two_operands(operation: Binary<'_>) -> u64 {
         ) => SUMS,
         Binary::Pairwise(BinaryScalar::FloorDivide | BinaryScalar::Remainder) => QUOTIENTS,
         Binary::Pairwise(_) => PRODUCTS,
-        Binary::Concat(_) => SCATTERED,
-        Binary::Take(_) => IN_ROWS,
+        Binary::Concat(_) | Binary::Take(_) => SCATTERED,
         Binary::Contract(_) | Binary::Convolve(_) => MULTIPLIED,
     }
 }

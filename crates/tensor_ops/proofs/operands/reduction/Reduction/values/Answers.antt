@@ -1,18 +1,14 @@
-use Rattle.std.proofs.Common.{◌≡◌, ℕ, ℤ, pos, ◌+◌, ◌-◌, ◌<◌, List, ◌++◌, length, take, drop, rules}
+use Rattle.std.proofs.Common.{◌≡◌, ℕ, ℤ, pos, ◌+◌, ◌-◌, ◌<◌, length, drop, rules}
 use Rattle.std.proofs.Common.{ap, sym, ◌∙◌, arith}
 use Rattle.std.specs.Prelude.{replicate}
 use Rattle.std.specs.List.{range_with_len}
 use Rattle.std.proofs.lemmas.List.{get_or-replicate, length-replicate}
 use Rattle.std.proofs.lemmas.List.FromFn.{length-range_with_len, get_or-range_with_len}
-use Rattle.std.proofs.Math.Seq.{take-append_seam}
 use Rattle.tensor_values.specs.Values.{value_in}
 use Rattle.tensor_ops.specs.private.Reduced.{combined_at, reduction_at}
 use Rattle.tensor_values.proofs.Runs.{places-read}
+use Rattle.tensor_ops.proofs.Worked.{take-written}
 use Rattle.tensor_ops.proofs.operands.reduction.Reduction.values.Goals as goal
-
--- a list of which all was written
-take-written : (n : ℕ) (xs ys : List ℤ) → n ≡ length xs → take n (xs ++ ys) ≡ xs
-take-written n xs ys whole = rw whole (take-append_seam xs ys)
 
 pub returns : goal.returns
 returns g c =
