@@ -212,6 +212,10 @@ fn folded(
     requires inside { (t : ℕ) → t < run → first + t * step < length values.now }
     ensures { result ≡ folded reducer value (λ t. value_in values.now (first + t * step)) run }
 {
+    // Values side by side are read as vectors where the loop knows that they are.
+    if step == 1 && run > 0 {
+        return all_with(reducer, value, &values[first..first + run]);
+    }
     let mut all = value;
     for t in 0..run {
         all = reducer.combine(all, values[first + t * step]);
