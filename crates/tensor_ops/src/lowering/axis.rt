@@ -119,11 +119,7 @@ pub(crate) fn lower_take<'a>(
 }
 
 /// What lines give that were made ready, with these result dims, worked out.
-fn worked_out<'a>(
-    alloc: Global,
-    along: LineResults<'_>,
-    dims: Dims,
-) -> Result<Part<'a>, AllocError>
+fn worked_out<'a>(alloc: Global, along: LineResults<'_>, dims: Dims) -> Result<Part<'a>, AllocError>
     requires { places_along along ≡ size_of dims }
     ensures dims { IfOk result (λ r. r.dims ≡ dims) }
     ensures lowered { IfOk result (λ r. Gives r.lowered r.dims (along_at along.entry dims)) }
