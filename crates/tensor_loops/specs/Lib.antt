@@ -1,4 +1,5 @@
 pub mod Chain
 pub mod Folds
 pub mod Loops
+pub mod Putting
 pub mod Tiles

@@ -19,4 +19,5 @@ pub use gather::tiles::{Neighbours, Tiled};
 pub use gather::{picked, picked_along};
 pub use loops::chain::{Link, are_same, combine_chain};
 pub use loops::combining::{combine_along, has_long_rows};
-pub use loops::{SelectOrder, apply, combine, combine_row, put_combined, select};
+pub use loops::putting::{Others, combined_list, put_applied, put_combined};
+pub use loops::{SelectOrder, apply, combine, combine_row, select};

@@ -3,6 +3,7 @@
 
 pub(crate) mod chain;
 pub(crate) mod combining;
+pub(crate) mod putting;
 
 ghost use Rattle.std.specs.Prelude.{◌≡◌, ◌<◌, ◌≤◌, ◌+◌, ℕ, pos, length, slice_index_or};
 ghost use Rattle.std.specs.Prelude.{if◌then◌else◌};
@@ -48,65 +49,6 @@ pub fn combine(link: Link, values: &mut [i64], others: &[i64])
         (slice_index_or others.now k (pos 0)) }
 {
     combine_row(link, values, 0, others, Row::whole(others.len()));
-}
-
-/// Each value becomes the operation's of those of two lists at its place, of which the second comes
-/// first where they are swapped.
-pub fn put_combined(link: Link, values: &mut [i64], first: &[i64], second: &[i64])
-    requires first { length values.old ≡ length first.now }
-    requires second { length second.now ≡ length first.now }
-    ensures len { length values.new ≡ length first.now }
-    ensures each { (k : ℕ) → k < length first.now → slice_index_or values.new k (pos 0)
-        ≡ either_way link.operation link.swapped (slice_index_or first.now k (pos 0))
-        (slice_index_or second.now k (pos 0)) }
-{
-    let swapped = link.swapped;
-    match link.operation {
-        BinaryScalar::Add => put_each(BinaryScalar::Add, swapped, values, first, second),
-        BinaryScalar::Sub => put_each(BinaryScalar::Sub, swapped, values, first, second),
-        BinaryScalar::Mul => put_each(BinaryScalar::Mul, swapped, values, first, second),
-        BinaryScalar::CwiseMax => put_each(BinaryScalar::CwiseMax, swapped, values, first, second),
-        BinaryScalar::CwiseMin => put_each(BinaryScalar::CwiseMin, swapped, values, first, second),
-        BinaryScalar::Lt => put_each(BinaryScalar::Lt, swapped, values, first, second),
-        BinaryScalar::Le => put_each(BinaryScalar::Le, swapped, values, first, second),
-        BinaryScalar::Eq => put_each(BinaryScalar::Eq, swapped, values, first, second),
-        BinaryScalar::Ne => put_each(BinaryScalar::Ne, swapped, values, first, second),
-        BinaryScalar::Gt => put_each(BinaryScalar::Gt, swapped, values, first, second),
-        BinaryScalar::Ge => put_each(BinaryScalar::Ge, swapped, values, first, second),
-        BinaryScalar::And => put_each(BinaryScalar::And, swapped, values, first, second),
-        BinaryScalar::Or => put_each(BinaryScalar::Or, swapped, values, first, second),
-        BinaryScalar::FloorDivide => put_each(
-            BinaryScalar::FloorDivide,
-            swapped,
-            values,
-            first,
-            second,
-        ),
-        BinaryScalar::Remainder => put_each(
-            BinaryScalar::Remainder,
-            swapped,
-            values,
-            first,
-            second,
-        ),
-        BinaryScalar::BitAnd => put_each(BinaryScalar::BitAnd, swapped, values, first, second),
-        BinaryScalar::BitOr => put_each(BinaryScalar::BitOr, swapped, values, first, second),
-        BinaryScalar::BitXor => put_each(BinaryScalar::BitXor, swapped, values, first, second),
-        BinaryScalar::ShiftLeft => put_each(
-            BinaryScalar::ShiftLeft,
-            swapped,
-            values,
-            first,
-            second,
-        ),
-        BinaryScalar::ShiftRight => put_each(
-            BinaryScalar::ShiftRight,
-            swapped,
-            values,
-            first,
-            second,
-        ),
-    }
 }
 
 /// The values from a place on become the operation's of them and a list's along a row, of which the
@@ -285,30 +227,9 @@ fn select_each(order: SelectOrder, values: &mut [i64], second: &[i64], third: &[
     }
 }
 
-#[inline(always)]
-fn put_each(
-    operation: BinaryScalar,
-    swapped: bool,
-    values: &mut [i64],
-    first: &[i64],
-    second: &[i64],
-)
-    requires first { length values.old ≡ length first.now }
-    requires second { length second.now ≡ length first.now }
-    ensures len { length values.new ≡ length first.now }
-    ensures each { (k : ℕ) → k < length first.now → slice_index_or values.new k (pos 0)
-        ≡ either_way operation swapped (slice_index_or first.now k (pos 0))
-        (slice_index_or second.now k (pos 0)) }
-{
-    let link = Link { operation, swapped };
-    for place in 0..first.len() {
-        values[place] = either_way(link, first[place], second[place]);
-    }
-}
-
 /// The operation on two values, of which the second comes first where they are swapped.
 #[inline(always)]
-fn either_way(link: Link, x: i64, y: i64) -> i64
+pub(crate) fn either_way(link: Link, x: i64, y: i64) -> i64
     ensures { result ≡ either_way link.operation link.swapped x y }
 {
     if link.swapped {

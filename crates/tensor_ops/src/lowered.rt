@@ -12,7 +12,7 @@ ghost use Rattle.std.specs.Cow.{cow_slice_items};
 ghost use Rattle.std.specs.List.{range_with_len};
 ghost use Rattle.tensor_shape.specs.Index.{size_of};
 ghost use Rattle.tensor_loops.specs.Loops.{either_way};
-ghost use Rattle.tensor_ops.specs.private.Meaning.{meaning, count_of, IsSound, IsListOf, IsReadingOf};
+ghost use Rattle.tensor_ops.specs.private.Meaning.{meaning, count_of, IsSound, IsListOf, IsReadingOf, AreOthers};
 ghost use Rattle.tensor_views.specs.Places.{places_of, AreBelow};
 ghost use Rattle.tensor_values.specs.Values.{value_in};
 ghost use Rattle.tensor_ops.specs.private.Lowering.{HasValues, meaning_at};
@@ -22,8 +22,9 @@ use crate::lowered::sinking::sunk_over;
 use std::alloc::{AllocError, Allocator, Global};
 use std::borrow::CowSlice;
 use tensor_loops::{
-    Link, SelectOrder, apply, combine, combine_along, combine_chain, combine_row, has_long_rows,
-    interleaved_list, interleaved_run, picked, picked_along, places_of_each, select,
+    Link, Others, SelectOrder, apply, combine, combine_along, combine_chain, combine_row,
+    combined_list, has_long_rows, interleaved_list, interleaved_run, picked, picked_along,
+    places_of_each, select,
 };
 use tensor_shape::Dims;
 use tensor_values::{Turns, UnaryScalar};
@@ -144,6 +145,39 @@ impl<'a> Lowered<'a> {
         })
     }
 
+    /// Its values at places, where these are a run and it is a list.
+    pub(crate) fn run(&self, places: &Places<'_>) -> Option<&[i64]>
+        requires { AreBelow places.now (count_of self.now) }
+        ensures { IfSome result (λ values. values.now
+            ≡ map (meaning self.now) (places_of places.now)) }
+    {
+        let Places::Run(first, last) = places else {
+            return None;
+        };
+        let list = self.list()?;
+        Some(&list[*first..*last])
+    }
+
+    /// Its values at places as they stand second in a loop, where no memory is needed for them.
+    pub(crate) fn others(&self, places: &Places<'_>) -> Option<Others<'_>>
+        requires { AreBelow places.now (count_of self.now) }
+        ensures { IfSome result (λ others. AreOthers others
+            (map (meaning self.now) (places_of places.now))) }
+    {
+        if let Lowered::Filled(value, _) = self {
+            return Some(Others::Filled(*value));
+        }
+        Some(Others::Listed(self.run(places)?))
+    }
+
+    /// Whether it is one value at all its places.
+    pub(crate) fn is_filled(&self) -> bool {
+        match self {
+            Lowered::Filled(_, _) => true,
+            _ => false,
+        }
+    }
+
     /// Its values, where they are a list.
     pub(crate) fn list(&self) -> Option<&[i64]>
         ensures { IfSome result (λ values. IsListOf self.now values.now) }
@@ -244,6 +278,10 @@ pub(crate) fn values_at<'t, 'a>(
             Ok(CowSlice::Owned(values))
         }
         Lowered::Binary(link, first, second) => {
+            if let (Some(list), Some(others)) = (first.run(places), second.others(places)) {
+                let values = combined_list(alloc, *link, list, others)?;
+                return Ok(CowSlice::Owned(values));
+            }
             let mut values = owned(alloc, values_at(alloc, first, places)?)?;
             combine_at(alloc, *link, &mut values, second, places)?;
             Ok(CowSlice::Owned(values))

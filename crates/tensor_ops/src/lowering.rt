@@ -132,7 +132,7 @@ fn lower_unary<'a>(
             Ok(Part {
                 lowered: Lowered::Filled(value, count),
                 dims: operand.dims,
-                pieces: 1,
+                pieces: 0,
             })
         }
         Unary::Move(movement) => lower_movement(alloc, movement, operand, room),
@@ -171,7 +171,8 @@ fn lower_binary<'a>(
     }
 }
 
-/// An operation on each two values, lowered. The operand that wants more pieces comes first.
+/// An operation on each two values, lowered. The operand that wants more pieces comes first, and one
+/// value at all places second.
 fn lower_pairwise<'a>(
     alloc: Global,
     operation: BinaryScalar,
@@ -186,7 +187,7 @@ fn lower_pairwise<'a>(
     ensures lowered { IfOk result (λ r. IsOperationOn r.lowered left.entry.lowered
         (λ p. combined operation (meaning left.entry.lowered p) (meaning right.entry.lowered p))) }
 {
-    if left.pieces < right.pieces {
+    if left.pieces < right.pieces || left.lowered.is_filled() {
         let link = Link {
             operation,
             swapped: true,
@@ -306,7 +307,7 @@ pub(crate) fn lower_movement<'a>(
         return Ok(Part {
             lowered: Lowered::Filled(0, 0),
             dims,
-            pieces: 1,
+            pieces: 0,
         });
     }
     if let Movement::Reshape(_) = movement {

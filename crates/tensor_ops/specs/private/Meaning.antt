@@ -5,6 +5,8 @@ use native.Mathlib.Nat.{ℕ_set}
 use Rattle.tensor_shape.specs.Legal.{most_elements}
 use Rattle.tensor_loops.specs.Chain.{chained}
 use Rattle.tensor_loops.specs.Loops.{either_way, selected}
+use Rattle.tensor_loops.specs.Putting.{other_at, IsAsLong}
+use Rattle.tensor_loops.specs.declared.loops.putting.Others.{Others}
 use Rattle.tensor_values.specs.Values.{value_in}
 use Rattle.tensor_values.specs.Scalars.{applied}
 use Rattle.tensor_values.specs.Interleaving.{interleaved, HaveTurns}
@@ -91,6 +93,11 @@ IsSound-prop (Interleaved' turns k a l b) =
 pub record IsListOf (lowered : Lowered) (values : List ℤ) : Type 0 where
   pub count : count_of lowered ≡ length values
   pub each : (p : ℕ) → meaning lowered p ≡ value_in values p
+
+-- what stands second in a loop is these values
+pub record AreOthers (others : Others) (values : List ℤ) : Type 0 where
+  pub long : IsAsLong others (length values)
+  pub each : (k : ℕ) → k < length values → other_at others k ≡ value_in values k
 
 -- its values are those that are read along a view, which stays in the list
 pub record IsReadingOf (lowered : Lowered) (reading : Reading) : Type 0 where

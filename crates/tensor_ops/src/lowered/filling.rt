@@ -6,7 +6,7 @@ ghost use Rattle.tensor_values.specs.Values.{value_in};
 
 use crate::lowered::{Lowered, PIECE, combine_at, values_at};
 use std::alloc::{AllocError, Global};
-use tensor_loops::{Tiled, apply, combine_chain, put_combined, select};
+use tensor_loops::{Tiled, apply, combine_chain, put_applied, put_combined, select};
 use tensor_views::Places;
 
 impl Lowered<'_> {
@@ -64,12 +64,16 @@ fn fill_piece(
     let places = Places::Run(from, to);
     match lowered {
         Lowered::Unary(operation, operand) => {
+            if let Some(list) = operand.run(&places) {
+                put_applied(*operation, out, list);
+                return Ok(());
+            }
             fill_piece(alloc, operand, from, to, out)?;
             apply(*operation, out);
         }
         Lowered::Binary(link, first, second) => {
-            if let (Some(one), Some(other)) = (first.list(), second.list()) {
-                put_combined(*link, out, &one[from..to], &other[from..to]);
+            if let (Some(list), Some(others)) = (first.run(&places), second.others(&places)) {
+                put_combined(*link, out, list, others);
                 return Ok(());
             }
             fill_piece(alloc, first, from, to, out)?;

@@ -74,25 +74,25 @@ values_at-values_at-requires t c = (
 pub values_at-values_at-requires-in-Binary : goal.values_at-values_at-requires-in-Binary
 values_at-values_at-requires-in-Binary t c =
     let sound = rw c.in-Binary.is at c.requires.sound in (
-      omega (arith, c.decreases, ap depth_of c.in-Binary.is, ap depth_of c.deref-in-Binary.ensures),
+      omega (arith, c.decreases, ap depth_of c.in-Binary.is, ap depth_of c.deref-in-Binary-3.ensures),
       (
-        rw (c.deref-in-Binary.ensures) sound.0,
-        rw (c.deref-in-Binary.ensures) (rw c.in-Binary.is at c.requires.places),
+        rw (c.deref-in-Binary-3.ensures) sound.0,
+        rw (c.deref-in-Binary-3.ensures) (rw c.in-Binary.is at c.requires.places),
       ),
     )
 
 pub values_at-combine_at-requires : goal.values_at-combine_at-requires
 values_at-combine_at-requires t c =
     let sound = rw c.in-Binary.is at c.requires.sound in (
-      omega (arith, c.decreases, ap depth_of c.in-Binary.is, ap depth_of c.deref-in-Binary-2.ensures),
+      omega (arith, c.decreases, ap depth_of c.in-Binary.is, ap depth_of c.deref-in-Binary-4.ensures),
       (
-        rw (c.deref-in-Binary-2.ensures) sound.1.0,
+        rw (c.deref-in-Binary-4.ensures) sound.1.0,
         (
-          rw (c.deref-in-Binary-2.ensures, sound.1.1) (rw c.in-Binary.is at c.requires.places),
+          rw (c.deref-in-Binary-4.ensures, sound.1.1) (rw c.in-Binary.is at c.requires.places),
           omega (
             arith,
-            ap length (c.in_ok-values-in-Binary.ensures ∙ c.in_ok-values_at-in-Binary.ensures),
-            length-map (places_of c.args.places.now) (meaning c.deref-in-Binary.result.now),
+            ap length (c.in_ok-values-in-Binary-2.ensures ∙ c.in_ok-values_at-in-Binary.ensures),
+            length-map (places_of c.args.places.now) (meaning c.deref-in-Binary-3.result.now),
           ),
         ),
       ),
@@ -167,16 +167,36 @@ values_at-returns-in_ok-values-in-Unary t c =
     ∙ ap (λ a. map (meaning a) (places_of c.args.places.now)) c.deref.ensures)
     c.apply.ensures.len c.apply.ensures.each)
 
+pub values_at-returns-in-Some-Some : goal.values_at-returns-in-Some-Some
+values_at-returns-in-Some-Some t c =
+    let places = places_of c.args.places.now in
+    let o = either_way c.in-Binary.link.operation c.in-Binary.link.swapped in
+    let f : ℕ → ℤ = meaning c.in-Binary.first.value in
+    let g : ℕ → ℤ = meaning c.in-Binary.second.value in
+    let list = c.in-Some-Some.list.now in
+    let others = c.in-Some-Some.ensures' in
+    let are : list ≡ map f places =
+    c.in-Some-Some.ensures ∙ ap (λ a. map (meaning a) places) c.deref-in-Binary.ensures in
+    let many : length list ≡ length places = ap length are ∙ length-map places f in
+    rw c.in-Binary.is
+    (places-paired places o f g list c.in_ok-values-in-Binary.values.items are
+    (c.in_ok-values-in-Binary.ensures.len ∙ many)
+    (λ k below. c.in_ok-values-in-Binary.ensures.each k (omega (arith, below, many))
+    ∙ ap (o (get_or list k (pos 0)))
+    (others.each k (omega (arith, below, length-map places (meaning c.deref-in-Binary-2.result.now)))
+    ∙ get_or-map (meaning c.deref-in-Binary-2.result.now) places k 0 (pos 0) below
+    ∙ ap (λ a. meaning a (get_or places k 0)) c.deref-in-Binary-2.ensures)))
+
 pub values_at-returns-in_ok-combine_at-in-Binary : goal.values_at-returns-in_ok-combine_at-in-Binary
 values_at-returns-in_ok-combine_at-in-Binary t c =
     let places = places_of c.args.places.now in
     let o = either_way c.in-Binary.link.operation c.in-Binary.link.swapped in
-    let values = c.in_ok-values-in-Binary.values in
+    let values = c.in_ok-values-in-Binary-2.values in
     let old = c.deref_mut-in-Binary.result.now in
     let new = c.combine_at.new.values in
     let are : old ≡ map (meaning c.in-Binary.first.value) places =
-    c.deref_mut-in-Binary.ensures.value ∙ c.in_ok-values-in-Binary.ensures ∙ c.in_ok-values_at-in-Binary.ensures
-    ∙ ap (λ a. map (meaning a) places) c.deref-in-Binary.ensures in
+    c.deref_mut-in-Binary.ensures.value ∙ c.in_ok-values-in-Binary-2.ensures ∙ c.in_ok-values_at-in-Binary.ensures
+    ∙ ap (λ a. map (meaning a) places) c.deref-in-Binary-3.ensures in
     let long : length old ≡ length places = ap length are ∙ length-map places (meaning c.in-Binary.first.value) in
     rw c.in-Binary.is
     (all-written values.len new values.items
@@ -184,7 +204,7 @@ values_at-returns-in_ok-combine_at-in-Binary t c =
     ∙ places-paired places o (meaning c.in-Binary.first.value) (meaning c.in-Binary.second.value) old new are
     c.in_ok-combine_at-in-Binary.ensures.len
     (λ k below. c.in_ok-combine_at-in-Binary.ensures.each k below
-    ∙ ap (λ a. o (get_or old k (pos 0)) (meaning a (get_or places k 0))) c.deref-in-Binary-2.ensures))
+    ∙ ap (λ a. o (get_or old k (pos 0)) (meaning a (get_or places k 0))) c.deref-in-Binary-4.ensures))
 
 pub values_at-returns-in_ok-sources-in-View : goal.values_at-returns-in_ok-sources-in-View
 values_at-returns-in_ok-sources-in-View t c =

@@ -5,13 +5,13 @@ use Rattle.std.specs.Int.{w64}
 use mir.Val.{SFits, to_z, of_z}
 use Rattle.tensor_loops.specs.Loops.{either_way}
 use Rattle.tensor_values.proofs.Runs.{each-more}
-use Rattle.tensor_loops.proofs.loops.put_each.Goals as goal
+use Rattle.tensor_loops.proofs.loops.putting.put_of_lists.Goals as goal
 
 pub loop-place-preserved : goal.loop-place-preserved
 loop-place-preserved c =
     let vs = c.loop-place.values in
     let i = c.loop-place.place in
-    let o = either_way c.args.operation c.args.swapped in
+    let o = either_way c.args.link.operation c.args.link.swapped in
     let xs = c.args.first.now in
     let ys = c.args.second.now in
     let fits : SFits w64 c.either_way.result = search rules in

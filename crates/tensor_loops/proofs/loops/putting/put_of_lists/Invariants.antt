@@ -1,7 +1,7 @@
 -- The places below the counter have their values.
 use Rattle.std.proofs.Common.{◌≡◌, ℕ, ◌<◌, pos, length, slice_index_or}
 use Rattle.tensor_loops.specs.Loops.{either_way}
-use Rattle.tensor_loops.proofs.loops.put_each.Given as goal
+use Rattle.tensor_loops.proofs.loops.putting.put_of_lists.Given as goal
 
 abbrev pub invariant-loop-place : goal.invariant-loop-place
 invariant-loop-place l = record {
