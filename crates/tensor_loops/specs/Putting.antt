@@ -1,7 +1,10 @@
--- What stands second where values of operations are put.
-use Rattle.std.specs.Prelude.{◌≡◌, ℕ, ℤ, pos, length, slice_index_or}
+-- Values that are put over whatever is there.
+use Rattle.std.specs.Prelude.{◌≡◌, ◌+◌, ◌<◌, ◌≤◌, ℕ, ℤ, List, pos, length, slice_index_or}
 use Rattle.tensor_loops.specs.declared.loops.putting.Others.{Others}
 use Rattle.tensor_loops.specs.declared.loops.putting.Others.TheVariants.{Listed, Filled}
+use Rattle.tensor_values.specs.Values.{value_in}
+use Rattle.tensor_views.specs.declared.row.Row.{Row}
+use Rattle.tensor_views.specs.View.{place_in}
 
 -- the value that stands second at a place
 abbrev pub other_at : Others → ℕ → ℤ
@@ -12,3 +15,10 @@ other_at (Filled value) k = value
 abbrev pub IsAsLong : Others → ℕ → Type 0
 IsAsLong (Listed values) count = length values.now ≡ count
 IsAsLong (Filled value) count = Unit {0}
+
+-- so many values from a place on are a list's along a row, and the others stay
+pub record PutsRow (old list : List ℤ) (row : Row) (at count : ℕ) (new : List ℤ) : Type 0 where
+  pub len : length new ≡ length old
+  pub each : (k : ℕ) → k < count → value_in new (at + k) ≡ value_in list (place_in row k)
+  pub before : (k : ℕ) → k < at → value_in new k ≡ value_in old k
+  pub after : (k : ℕ) → at + count ≤ k → value_in new k ≡ value_in old k

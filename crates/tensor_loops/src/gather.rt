@@ -1,5 +1,6 @@
 //! Values of a list at places, and along views.
 
+pub(crate) mod along;
 pub(crate) mod interleaved;
 pub(crate) mod tiles;
 

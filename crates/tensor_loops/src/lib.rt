@@ -14,6 +14,7 @@ mod gather;
 mod loops;
 
 pub use folds::{add_combined, combine_runs, combined_with};
+pub use gather::along::put_along;
 pub use gather::interleaved::{interleaved_list, interleaved_run, places_of_each};
 pub use gather::tiles::{Neighbours, Tiled};
 pub use gather::{picked, picked_along};

@@ -1,18 +1,19 @@
 //! Lowered expressions: what is left of an expression once index lists are dealt with, a tree whose
 //! values are asked for by place. The values are worked out by loops over places.
 
+pub(crate) mod at_hand;
 pub(crate) mod chaining;
 pub(crate) mod filling;
 pub(crate) mod operands;
 pub(crate) mod sinking;
 
 ghost use Rattle.std.specs.Prelude.{◌≡◌, ◌<◌, ◌≤◌, ◌-◌, ◌+◌, ◌++◌, ℕ, pos, length, map};
-ghost use Rattle.std.specs.Prelude.{IfOk, IfSome, OnOk, slice_index, slice_index_or};
+ghost use Rattle.std.specs.Prelude.{IfOk, OnOk, slice_index, slice_index_or};
 ghost use Rattle.std.specs.Cow.{cow_slice_items};
 ghost use Rattle.std.specs.List.{range_with_len};
 ghost use Rattle.tensor_shape.specs.Index.{size_of};
 ghost use Rattle.tensor_loops.specs.Loops.{either_way};
-ghost use Rattle.tensor_ops.specs.private.Meaning.{meaning, count_of, IsSound, IsListOf, IsReadingOf, AreOthers};
+ghost use Rattle.tensor_ops.specs.private.Meaning.{meaning, count_of, IsSound};
 ghost use Rattle.tensor_views.specs.Places.{places_of, AreBelow};
 ghost use Rattle.tensor_values.specs.Values.{value_in};
 ghost use Rattle.tensor_ops.specs.private.Lowering.{HasValues, meaning_at};
@@ -22,9 +23,8 @@ use crate::lowered::sinking::sunk_over;
 use std::alloc::{AllocError, Allocator, Global};
 use std::borrow::CowSlice;
 use tensor_loops::{
-    Link, Others, SelectOrder, apply, combine, combine_along, combine_chain, combine_row,
-    combined_list, has_long_rows, interleaved_list, interleaved_run, picked, picked_along,
-    places_of_each, select,
+    Link, SelectOrder, apply, combine, combine_along, combine_chain, combine_row, combined_list,
+    has_long_rows, interleaved_list, interleaved_run, picked, picked_along, places_of_each, select,
 };
 use tensor_shape::Dims;
 use tensor_values::{Turns, UnaryScalar};
@@ -119,74 +119,6 @@ impl<'a> Lowered<'a> {
     {
         let sunk = sunk_over(alloc, self, dims)?;
         sunk.worked_out(alloc, dims)
-    }
-
-    /// Whether a value takes no operation: it is in a list, at its place or along a view.
-    pub(crate) fn is_at_hand(&self) -> bool {
-        match self {
-            Lowered::Borrowed(_) | Lowered::Stored(_) | Lowered::Filled(_, _) => true,
-            Lowered::View(_, operand) => operand.list().is_some(),
-            _ => false,
-        }
-    }
-
-    /// What is read, where it is a list along a view.
-    pub(crate) fn reading(&self) -> Option<Reading<'_>>
-        requires { IsSound self.now }
-        ensures { IfSome result (IsReadingOf self.now) }
-    {
-        let Lowered::View(view, operand) = self else {
-            return None;
-        };
-        let list = operand.list()?;
-        Some(Reading {
-            list,
-            view: view.as_ref(),
-        })
-    }
-
-    /// Its values at places, where these are a run and it is a list.
-    pub(crate) fn run(&self, places: &Places<'_>) -> Option<&[i64]>
-        requires { AreBelow places.now (count_of self.now) }
-        ensures { IfSome result (λ values. values.now
-            ≡ map (meaning self.now) (places_of places.now)) }
-    {
-        let Places::Run(first, last) = places else {
-            return None;
-        };
-        let list = self.list()?;
-        Some(&list[*first..*last])
-    }
-
-    /// Its values at places as they stand second in a loop, where no memory is needed for them.
-    pub(crate) fn others(&self, places: &Places<'_>) -> Option<Others<'_>>
-        requires { AreBelow places.now (count_of self.now) }
-        ensures { IfSome result (λ others. AreOthers others
-            (map (meaning self.now) (places_of places.now))) }
-    {
-        if let Lowered::Filled(value, _) = self {
-            return Some(Others::Filled(*value));
-        }
-        Some(Others::Listed(self.run(places)?))
-    }
-
-    /// Whether it is one value at all its places.
-    pub(crate) fn is_filled(&self) -> bool {
-        match self {
-            Lowered::Filled(_, _) => true,
-            _ => false,
-        }
-    }
-
-    /// Its values, where they are a list.
-    pub(crate) fn list(&self) -> Option<&[i64]>
-        ensures { IfSome result (λ values. IsListOf self.now values.now) }
-    {
-        match self {
-            Lowered::Borrowed(values) => Some(values),
-            Lowered::Stored(values) => Some(values.as_slice()),
-            _ => None,
-        }
     }
 }
 

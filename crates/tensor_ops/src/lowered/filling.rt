@@ -1,12 +1,12 @@
 //! The values of lowered expressions, written where they are wanted.
 
-ghost use Rattle.std.specs.Prelude.{◌≡◌, ◌<◌, ◌≤◌, ◌-◌, ◌+◌, ℕ, length, OnOk};
+ghost use Rattle.std.specs.Prelude.{◌≡◌, ◌<◌, ◌≤◌, ◌-◌, ◌+◌, ◌^◌, ℕ, length, OnOk};
 ghost use Rattle.tensor_ops.specs.private.Meaning.{meaning, count_of, IsSound};
 ghost use Rattle.tensor_values.specs.Values.{value_in};
 
 use crate::lowered::{Lowered, PIECE, combine_at, values_at};
 use std::alloc::{AllocError, Global};
-use tensor_loops::{Tiled, apply, combine_chain, put_applied, put_combined, select};
+use tensor_loops::{Tiled, apply, combine_chain, put_along, put_applied, put_combined, select};
 use tensor_views::Places;
 
 impl Lowered<'_> {
@@ -90,10 +90,30 @@ fn fill_piece(
             let third = values_at(alloc, third, &places)?;
             select(*order, out, second.as_slice(), third.as_slice());
         }
-        _ => {
-            let piece = values_at(alloc, lowered, &places)?;
-            out.copy_from_slice(piece.as_slice());
-        }
+        _ => fill_read(alloc, lowered, from, out)?,
     }
+    Ok(())
+}
+
+/// The same of what is no operation, from a place on: what is read along a view is written as it is
+/// read.
+fn fill_read(
+    alloc: Global,
+    lowered: &Lowered<'_>,
+    from: usize,
+    out: &mut [i64],
+) -> Result<(), AllocError>
+    requires sound { IsSound lowered.now }
+    requires fits { from + length out.old < 2 ^ 64 }
+    requires within { from + length out.old ≤ count_of lowered.now }
+    ensures len { length out.new ≡ length out.old }
+    ensures each { OnOk result ((k : ℕ) → k < length out.old
+        → value_in out.new k ≡ meaning lowered.now (from + k)) }
+{
+    if let Some(reading) = lowered.reading() {
+        return put_along(alloc, out, reading, from);
+    }
+    let piece = values_at(alloc, lowered, &Places::Run(from, from + out.len()))?;
+    out.copy_from_slice(piece.as_slice());
     Ok(())
 }
