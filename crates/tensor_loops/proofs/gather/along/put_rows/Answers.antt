@@ -1,4 +1,4 @@
-use Rattle.std.proofs.Common.{◌≡◌, ◌+◌, ◌*◌, ◌/◌, ℕ, ℤ, pos, length, get_or, refl, ap, sym, ◌∙◌, arith}
+use Rattle.std.proofs.Common.{◌+◌, ◌*◌, ◌/◌, length, get_or, refl, ap, sym, ◌∙◌, arith}
 use Rattle.tensor_values.specs.Values.{value_in}
 use Rattle.tensor_views.specs.View.{along, steps_to}
 use Rattle.tensor_loops.proofs.CombinedRows.{rows-more}
