@@ -1,6 +1,5 @@
-use Rattle.std.proofs.Common.{◌≡◌, ◌<◌, ℕ, ℤ, pos, ◌+◌, ◌-◌, List, [], ◌∷◌, ◌++◌, get_or, length, map, take, drop, IfOk, refl, ap, sym, subst, ◌∙◌, rules, arith}
+use Rattle.std.proofs.Common.{◌≡◌, ◌<◌, ℕ, ℤ, pos, ◌+◌, ◌-◌, [], ◌∷◌, get_or, length, map, IfOk, refl, ap, sym, subst, ◌∙◌, rules, arith}
 use Rattle.std.specs.List.{range_with_len}
-use Rattle.std.proofs.Math.Seq.{take-append_seam}
 use Rattle.std.proofs.lemmas.List.FromFn.{length-range_with_len, get_or-range_with_len, length-map-range_with_len}
 use Rattle.std.proofs.lemmas.List.{length-map, get_or-map}
 use Rattle.std.proofs.lemmas.Result.{on_ok_weaker}
@@ -19,6 +18,7 @@ use Rattle.tensor_views.specs.View.{reached, view_size, place_in}
 use Rattle.tensor_values.proofs.InTurns.{firsts-run, seconds-run, first_places-below, second_places-below, map-first_alone, map-second_alone}
 use Rattle.tensor_values.proofs.Runs.{places-applied, places-paired, places-selected, places-moved, map-constant}
 use Rattle.tensor_views.proofs.Soundness.{reached-within}
+use Rattle.tensor_ops.proofs.Filled.{all-written, other-read}
 use Rattle.tensor_ops.proofs.lowered.+values_at.Goals as goal
 
 -- combined with what is read along a view, or with values
@@ -26,14 +26,12 @@ pub combine_at-combine_row-requires-clause-room : goal.combine_at-combine_row-re
 combine_at-combine_row-requires-clause-room t c =
     omega (arith, c.repeated.ensures.count, c.len.ensures, c.requires.same)
 
-pub combine_at-combine_along-requires-clause-within :
-    goal.combine_at-combine_along-requires-clause-within
+pub combine_at-combine_along-requires-clause-within : goal.combine_at-combine_along-requires-clause-within
 combine_at-combine_along-requires-clause-within t c =
     let below = rw c.in-Run.is at c.requires.places in
     omega (arith, below.1, c.in-Some.ensures.count)
 
-pub combine_at-combine_along-requires-clause-inside :
-    goal.combine_at-combine_along-requires-clause-inside
+pub combine_at-combine_along-requires-clause-inside : goal.combine_at-combine_along-requires-clause-inside
 combine_at-combine_along-requires-clause-inside t c = c.in-Some.ensures.inside
 
 pub combine_at-combine-requires : goal.combine_at-combine-requires
@@ -152,10 +150,6 @@ values_at-values_at-requires-in-View t c = (
   ),
 )
 
--- a list of which all was written, as a slice
-all-written : (n : ℕ) (new items : List ℤ) → length new ≡ n → take n (new ++ drop (length new) items) ≡ new
-all-written n new items whole = rw (← whole) (take-append_seam new (drop (length new) items))
-
 pub values_at-returns-in_ok-values-in-Unary : goal.values_at-returns-in_ok-values-in-Unary
 values_at-returns-in_ok-values-in-Unary t c =
     let values = c.in_ok-values-in-Unary.values in
@@ -174,17 +168,14 @@ values_at-returns-in-Some-Some t c =
     let f : ℕ → ℤ = meaning c.in-Binary.first.value in
     let g : ℕ → ℤ = meaning c.in-Binary.second.value in
     let list = c.in-Some-Some.list.now in
-    let others = c.in-Some-Some.ensures' in
-    let are : list ≡ map f places =
-    c.in-Some-Some.ensures ∙ ap (λ a. map (meaning a) places) c.deref-in-Binary.ensures in
+    let are : list ≡ map f places = c.in-Some-Some.ensures ∙ ap (λ a. map (meaning a) places) c.deref-in-Binary.ensures in
     let many : length list ≡ length places = ap length are ∙ length-map places f in
     rw c.in-Binary.is
     (places-paired places o f g list c.in_ok-values-in-Binary.values.items are
     (c.in_ok-values-in-Binary.ensures.len ∙ many)
     (λ k below. c.in_ok-values-in-Binary.ensures.each k (omega (arith, below, many))
     ∙ ap (o (get_or list k (pos 0)))
-    (others.each k (omega (arith, below, length-map places (meaning c.deref-in-Binary-2.result.now)))
-    ∙ get_or-map (meaning c.deref-in-Binary-2.result.now) places k 0 (pos 0) below
+    (other-read (meaning c.deref-in-Binary-2.result.now) places c.in-Some-Some.others c.in-Some-Some.ensures' k below
     ∙ ap (λ a. meaning a (get_or places k 0)) c.deref-in-Binary-2.ensures)))
 
 pub values_at-returns-in_ok-combine_at-in-Binary : goal.values_at-returns-in_ok-combine_at-in-Binary
