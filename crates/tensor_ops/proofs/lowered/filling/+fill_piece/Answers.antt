@@ -1,12 +1,12 @@
-use Rattle.std.proofs.Common.{◌≡◌, ◌+◌, ◌-◌, ◌<◌, ℕ, ℤ, pos, length, map, get_or, refl, ap, sym, ◌∙◌, arith}
+use Rattle.std.proofs.Common.{◌≡◌, ◌+◌, ◌-◌, ◌<◌, ℕ, ℤ, pos, map, get_or, ap, sym, ◌∙◌, arith}
 use Rattle.std.specs.List.{range_with_len}
-use Rattle.std.proofs.lemmas.List.FromFn.{length-range_with_len, get_or-range_with_len, length-map-range_with_len}
+use Rattle.std.proofs.lemmas.List.FromFn.{length-range_with_len, get_or-range_with_len}
 use Rattle.tensor_loops.specs.Chain.{chained}
 use Rattle.tensor_loops.specs.Loops.{either_way, selected}
 use Rattle.tensor_loops.specs.Putting.{other_at}
 use Rattle.tensor_ops.specs.private.Meaning.{meaning}
 use Rattle.tensor_values.specs.Scalars.{applied}
-use Rattle.tensor_ops.proofs.Filled.{run-long, run-read}
+use Rattle.tensor_ops.proofs.Filled.{run-long, run-read, other-read}
 use Rattle.tensor_ops.proofs.lowered.filling.+fill_piece.Goals as goal
 
 -- of a list
@@ -43,8 +43,7 @@ returns-in-Some-Some-clause-each t c =
     let f : ℕ → ℤ = meaning c.deref-in-Binary.result.now in
     let g : ℕ → ℤ = meaning c.deref-in-Binary-2.result.now in
     let list = c.in-Some-Some.list.now in
-    let others = c.in-Some-Some.ensures' in
-    let long : length (map g (range_with_len from count)) ≡ count = length-map-range_with_len g from count in
+    let places = range_with_len from count in
     rw c.in-Binary.is
     (λ k below.
     let inside : k < count = omega (arith, below, c.requires.long) in
@@ -52,8 +51,8 @@ returns-in-Some-Some-clause-each t c =
     ∙ ap (λ x. o x (other_at c.in-Some-Some.others k))
     (run-read from count f list c.in-Some-Some.ensures k inside ∙ ap (λ z. meaning z (from + k)) c.deref-in-Binary.ensures)
     ∙ ap (o (meaning c.in-Binary.first.value (from + k)))
-    (others.each k (omega (arith, inside, long)) ∙ run-read from count g (map g (range_with_len from count)) refl k inside
-    ∙ ap (λ z. meaning z (from + k)) c.deref-in-Binary-2.ensures))
+    (other-read g places c.in-Some-Some.others c.in-Some-Some.ensures' k (omega (arith, inside, length-range_with_len from count))
+    ∙ ap g (get_or-range_with_len from count k 0 inside) ∙ ap (λ z. meaning z (from + k)) c.deref-in-Binary-2.ensures))
 
 -- of two operands
 pub combine_at-requires-clause-same : goal.combine_at-requires-clause-same
