@@ -17,6 +17,8 @@ FUNCTION = re.compile(r"(?m)^( *)(?:pub(?:\([\w:]+\))? )?(?:(?:const|unsafe|exte
 CYCLE = re.compile(r"#\[cycle\((\w+)\)\]")
 TYPE = re.compile(r"(?m)^ *(?:pub(?:\([\w:]+\))? )?(?:struct|enum|union) (\w+)")
 IMPL = re.compile(r"(?m)^impl\b(?:<.*?>)? (?:([\w:]+)(?:<.*>)? for )?([\w:]+)")
+# A line that says what the prover refuses.
+REFUSAL = re.compile(r"\S+:\d+:\d+: error|note: \S+:\d+:\d+: it is not proved")
 # A proof that misses a name which the edit took away was refused for that, and by no contract.
 ONLY_A_NAME = re.compile(r"has no field|is not in scope|has no `|was not admitted")
 PARTS = "src", "specs", "proofs"
@@ -177,7 +179,7 @@ class Trial:
             return "PROVED"
         if not lines[-1].startswith("logic=not-proved"):
             return f"SAYS NOTHING: {lines[0]}"
-        told = [it for it in lines if re.match(r"(note: )?\S+:\d+:\d+:", it)]
+        told = [it for it in lines if REFUSAL.match(it)]
         first = next((it for it in told if not ONLY_A_NAME.search(it)), "")
         return f"refused: {first}" if first or not told else f"SAYS NOTHING: {told[0]}"
 
