@@ -197,7 +197,7 @@ def next_round(left):
 def reason(said, folders, lines):
     """Why a function is refused by its contract: by what is said of it, or of its answers in these
     folders. Nothing where it is proved, or where another's proof is lacking."""
-    if said.startswith("no proof"):
+    if said.startswith("no proof: expected"):
         return said
     own = [it for it in lines if it.startswith(tuple(folders)) and ": error: " in it]
     if not own and said == "not proved":
