@@ -99,7 +99,10 @@ class Edit:
             text = texts.get(file) or self.sources.text(file)
             if text.count(old) != 1:
                 return None
-            self.functions.add(self.sources.function_at(file, text, text.index(old)))
+            function = self.sources.function_at(file, text, text.index(old))
+            # What stands before an item is another item, which some changed function calls.
+            if function or not new.endswith(old):
+                self.functions.add(function)
             texts[file] = text.replace(old, new)
         return texts
 

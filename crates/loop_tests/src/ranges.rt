@@ -107,7 +107,7 @@ const BAD_WORKERS: Option<ForFault> = Some(ForFault::Pool(PoolFault::BadWorkers)
 const BAD_PARTITION: Option<ForFault> = Some(ForFault::Pool(PoolFault::BadPartition));
 
 /// Numbers of workers, the rows of their partitions, places, blocks, and the fault.
-const FAULTS: [(u32, &[(u32, u32)], u64, u64, Option<ForFault>); 15] = [
+const FAULTS: &[(u32, &[(u32, u32)], u64, u64, Option<ForFault>)] = &[
     (1, &[], 8, 0, BAD_BLOCK),
     (0, &[], 8, 0, BAD_BLOCK),
     (1, &[], 0, 0, BAD_BLOCK),
@@ -128,7 +128,7 @@ const FAULTS: [(u32, &[(u32, u32)], u64, u64, Option<ForFault>); 15] = [
 
 #[test]
 fn faults_by_number(rt: HostRuntime) -> Result<(), Fail> {
-    for (workers, ranges, places, block, fault) in FAULTS {
+    for &(workers, ranges, places, block, fault) in FAULTS {
         let workers = (workers, ranges);
         expect_places(&rt, rt.alloc(), workers, (places, block), None, fault)?;
     }
@@ -136,7 +136,7 @@ fn faults_by_number(rt: HostRuntime) -> Result<(), Fail> {
 }
 
 /// Places and blocks.
-const PLACES: [(u64, u64); 8] = [
+const PLACES: &[(u64, u64)] = &[
     (0, 4),
     (1, 1),
     (4, 4),
@@ -150,7 +150,7 @@ const PLACES: [(u64, u64); 8] = [
 #[test]
 fn all_places_on_any_number_of_workers(rt: HostRuntime) -> Result<(), Fail> {
     for workers in [1, 2, 3, 64] {
-        for places in PLACES {
+        for &places in PLACES {
             expect_places(&rt, rt.alloc(), (workers, &[]), places, None, None)?;
         }
     }
@@ -158,7 +158,7 @@ fn all_places_on_any_number_of_workers(rt: HostRuntime) -> Result<(), Fail> {
 }
 
 /// Places and blocks, and the place for which there is no memory.
-const REFUSED: [((u64, u64), u64); 5] = [
+const REFUSED: &[((u64, u64), u64)] = &[
     ((1000, 1), 0),
     ((1000, 1), 500),
     ((1000, 1), 999),
@@ -172,7 +172,7 @@ const NO_MEMORY: Option<ForFault> = Some(ForFault::NoMemory);
 #[test]
 fn a_leaf_without_memory(rt: HostRuntime) -> Result<(), Fail> {
     for workers in [1, 2, 64] {
-        for (places, place) in REFUSED {
+        for &(places, place) in REFUSED {
             let workers = (workers, [].as_slice());
             expect_places(&rt, rt.alloc(), workers, places, Some(place), NO_MEMORY)?;
         }
@@ -194,14 +194,14 @@ fn each_leaf_without_memory_in_turn(rt: HostRuntime) -> Result<(), Fail> {
 }
 
 /// So many leaves and as many workers, and how often they meet.
-const MEETINGS: [(u32, u32); 2] = [(2, 1_000), (16, 100)];
+const MEETINGS: &[(u32, u32)] = &[(2, 1_000), (16, 100)];
 
 /// All leaves run at one time, and each once. So no worker ended before the last leaf was taken, as
 /// one does that finds nothing to do in a pool that is closing: where the caller doesn't wait for the
 /// leaves some do, at one meeting in twenty or so, and so at some of these.
 #[test]
 fn all_leaves_meet(rt: HostRuntime) -> Result<(), Fail> {
-    for (workers, times) in MEETINGS {
+    for &(workers, times) in MEETINGS {
         let setup = setup_of(rt.alloc(), workers, &[])?;
         let leaves = u64::from(workers);
         for _ in 0..times {

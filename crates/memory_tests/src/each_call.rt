@@ -5,7 +5,7 @@ use crate::calls::{Answer, Call, make};
 use crate::refusing::Sparing;
 
 /// Calls, and how many allocations each takes.
-const CALLS: [(Call, u64); 16] = [
+const CALLS: &[(Call, u64)] = &[
     // A table takes two blocks.
     (Call::Barrier { notices: 2 }, 2),
     (Call::Notification, 2),
@@ -40,7 +40,7 @@ const CALLS: [(Call, u64); 16] = [
 const AMPLE: u64 = 28;
 
 /// Calls that ask for too much.
-const TOO_MUCH: [Call; 11] = [
+const TOO_MUCH: &[Call] = &[
     Call::Barrier {
         notices: 2_147_483_648,
     },
@@ -59,7 +59,7 @@ const TOO_MUCH: [Call; 11] = [
 
 #[test]
 fn each_allocation_of_each_call(rt: HostRuntime) {
-    for (call, takes) in CALLS {
+    for &(call, takes) in CALLS {
         for left in 0..=AMPLE {
             let wanted = if left < takes {
                 Answer::NoMemory
@@ -75,7 +75,7 @@ fn each_allocation_of_each_call(rt: HostRuntime) {
 
 #[test]
 fn too_much_comes_before_memory(rt: HostRuntime) {
-    for call in TOO_MUCH {
+    for &call in TOO_MUCH {
         let none = Sparing::new(rt.alloc(), 0);
         let found = make(&rt, call, &none);
         assert_eq!(rt; found, Answer::TooMuch, "{call:?}");

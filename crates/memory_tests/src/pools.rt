@@ -15,12 +15,12 @@ const JOBS: u64 = 40;
 /// How many allocations beyond its opening's a pool is tried with, which suffice for all jobs.
 const MOST_MORE: u64 = 64;
 
-const ENTRIES: [Entry; 3] = [Entry::Body, Entry::Root, Entry::CountedRoot];
+const ENTRIES: &[Entry] = &[Entry::Body, Entry::Root, Entry::CountedRoot];
 
 /// How pools are opened, numbers of workers, and how many allocations an opening takes: under locks
 /// the rows three and one for each worker, and the count nine; over one count both together 26; the
 /// stop word two, the coprimes and the hands one each, and four the lists of what comes home.
-const OPENINGS: [(Entry, u32, u64); 6] = [
+const OPENINGS: &[(Entry, u32, u64)] = &[
     (Entry::Body, 1, 21),
     (Entry::Body, 2, 22),
     (Entry::Root, 1, 21),
@@ -131,7 +131,7 @@ fn expect_all_ended<R: Abort>(rt: &R, pool: Opened, ran: &Ran) {
 /// Where a pool isn't opened, nothing is called and no step taken.
 #[test]
 fn each_allocation_of_an_opening(rt: HostRuntime) -> Result<(), Fail> {
-    for (entry, workers, takes) in OPENINGS {
+    for &(entry, workers, takes) in OPENINGS {
         let pool = pool_of(entry, workers);
         for left in 0..takes {
             let ran = run_with(&rt, rt.alloc(), left, pool)?;
@@ -147,7 +147,7 @@ fn each_allocation_of_an_opening(rt: HostRuntime) -> Result<(), Fail> {
 /// find room.
 #[test]
 fn no_allocation_after_an_opening_and_ample(rt: HostRuntime) -> Result<(), Fail> {
-    for (entry, workers, takes) in OPENINGS {
+    for &(entry, workers, takes) in OPENINGS {
         let pool = pool_of(entry, workers);
         for (allocations, outs, refused) in [(takes, 0, 1), (u64::MAX, JOBS, 0)] {
             let ran = run_with(&rt, rt.alloc(), allocations, pool)?;
@@ -165,7 +165,7 @@ fn no_allocation_after_an_opening_and_ample(rt: HostRuntime) -> Result<(), Fail>
 /// find room are the first.
 #[test]
 fn each_allocation_after_an_opening(rt: HostRuntime) -> Result<(), Fail> {
-    for (entry, workers, takes) in OPENINGS {
+    for &(entry, workers, takes) in OPENINGS {
         let pool = pool_of(entry, workers);
         let mut before = 0;
         for more in 1..=MOST_MORE {
@@ -189,7 +189,7 @@ fn each_allocation_after_an_opening(rt: HostRuntime) -> Result<(), Fail> {
 /// Each job in turn finds no memory in its last step, where it finds room for its out.
 #[test]
 fn each_allocation_where_a_step_finds_no_memory(rt: HostRuntime) -> Result<(), Fail> {
-    for (entry, workers, takes) in OPENINGS {
+    for &(entry, workers, takes) in OPENINGS {
         for more in 1..=MOST_MORE {
             let pool = Opened {
                 starved_place: Some(more % JOBS),
@@ -206,7 +206,7 @@ fn each_allocation_where_a_step_finds_no_memory(rt: HostRuntime) -> Result<(), F
 
 #[test]
 fn workers_out_of_range_come_before_memory(rt: HostRuntime) -> Result<(), Fail> {
-    for entry in ENTRIES {
+    for &entry in ENTRIES {
         for workers in [0, 257] {
             let ran = run_with(&rt, rt.alloc(), 0, pool_of(entry, workers))?;
             let found = (ran.fault, ran.calls, ran.steps);

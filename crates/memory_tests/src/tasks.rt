@@ -192,7 +192,7 @@ fn expect_each_once<R: Abort>(rt: &R, pool: Limited, ended: &Ended) {
 
 /// Workers, how many are started, how many jobs are scheduled before a cancel, and when they can be
 /// taken.
-const POOLS: [(u32, u32, u64, Taken); 9] = [
+const POOLS: &[(u32, u32, u64, Taken)] = &[
     (1, 0, 16, Taken::AnyTime),
     (1, 1, 8, Taken::AnyTime),
     (2, 0, 16, Taken::AnyTime),
@@ -208,7 +208,7 @@ const POOLS: [(u32, u32, u64, Taken); 9] = [
 /// most of them none is refused.
 #[test]
 fn each_allocation_of_jobs_and_a_cancel(rt: HostRuntime) -> Result<(), Fail> {
-    for (workers, starts, first, taken) in POOLS {
+    for &(workers, starts, first, taken) in POOLS {
         let pool = Limited {
             workers,
             starts,

@@ -17,7 +17,7 @@ struct Split {
 }
 
 /// Splits on one thread, all of whose notices are given.
-const GIVEN: [Split; 2] = [
+const GIVEN: &[Split] = &[
     Split {
         notices: 2,
         moved: 1,
@@ -36,7 +36,7 @@ const MOST: Split = Split {
 
 /// Splits whose notices two threads give so many milliseconds after their start: in the second one
 /// the waiter is given time to fall asleep before the first notice.
-const THREADED: [(Split, u64); 2] = [
+const THREADED: &[(Split, u64)] = &[
     (
         Split {
             notices: 2000,
@@ -91,7 +91,7 @@ fn give_late(clock: &impl Clock, pause: u64, barrier: &Barrier, share: Share) ->
 
 #[test]
 fn notices_are_given_on_one_thread(rt: HostRuntime) {
-    for split in GIVEN {
+    for &split in GIVEN {
         let (barrier, mut waiter, first, second) = dealt(&rt, rt.alloc(), split);
         let given = give_all(&barrier, first) == split.notices - split.moved
             && give_all(&barrier, second) == split.moved;
@@ -153,7 +153,7 @@ fn waits_for_two<R: Threads + Wait + Clock + Abort + Sync>(
 
 #[test]
 fn two_threads_give_the_notices(rt: HostRuntime) {
-    for (split, pause) in THREADED {
+    for &(split, pause) in THREADED {
         assert!(rt;
             waits_for_two(&rt, rt.alloc(), split, pause),
             "of {}",

@@ -2,7 +2,7 @@
 
 use steal_walk::Coprimes;
 
-const LISTS: [(u32, &[u32]); 5] = [
+const LISTS: &[(u32, &[u32])] = &[
     (6, &[1, 5]),
     (1, &[1]),
     (2, &[1]),
@@ -12,7 +12,7 @@ const LISTS: [(u32, &[u32]); 5] = [
 
 #[test]
 fn lists_the_coprimes(rt: HostRuntime) {
-    for (n, numbers) in LISTS {
+    for &(n, numbers) in LISTS {
         assert!(rt; n > 0);
         let Ok(coprimes) = Coprimes::new(rt.alloc(), n) else {
             panic!(rt; "no memory")

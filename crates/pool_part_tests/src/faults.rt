@@ -5,7 +5,7 @@ use pool_barrier::BarrierFault;
 use run_queue::RowsFault;
 use steal_walk::PartitionFault;
 
-const NUMBERS: [(u8, u8); 11] = [
+const NUMBERS: &[(u8, u8)] = &[
     (PartitionFault::Empty as u8, 1),
     (PartitionFault::OutOfPool as u8, 2),
     (RowsFault::TooManyRows as u8, 1),
@@ -24,7 +24,7 @@ const TEXTS: &str = "the partition is empty, the partition ends outside the pool
 
 #[test]
 fn faults_have_numbers_and_texts(rt: HostRuntime) {
-    for (number, wanted) in NUMBERS {
+    for &(number, wanted) in NUMBERS {
         assert!(rt; number == wanted, "{number} for {wanted}");
     }
     let (empty, out_of_pool) = (PartitionFault::Empty, PartitionFault::OutOfPool);

@@ -3,7 +3,7 @@
 use event_count::{CountFault, EventCount};
 
 /// Waiters and notifiers, and the fault of such a count.
-const SIZES: [(u16, u16, Option<CountFault>); 3] = [
+const SIZES: &[(u16, u16, Option<CountFault>)] = &[
     (0, 0, None),
     (16_382, 1, None),
     (16_383, 1, Some(CountFault::TooManyWaiters)),
@@ -12,7 +12,7 @@ const SIZES: [(u16, u16, Option<CountFault>); 3] = [
 /// The seats are numbered from 0 on, and such a count ends at one word.
 #[test]
 fn counts_are_made_and_closed(rt: HostRuntime) {
-    for (waiters, notifiers, fault) in SIZES {
+    for &(waiters, notifiers, fault) in SIZES {
         let is_right = match EventCount::new(rt.alloc(), waiters, notifiers) {
             Ok((count, seats)) => {
                 let all = usize::from(waiters) + usize::from(notifiers);

@@ -4,7 +4,7 @@ use steal_walk::{Partition, PartitionFault};
 
 /// Starts and limits in a pool of four, and their faults. The first one is told, also where there
 /// are both.
-const RANGES: [(u32, u32, Option<PartitionFault>); 4] = [
+const RANGES: &[(u32, u32, Option<PartitionFault>)] = &[
     (0, 0, Some(PartitionFault::Empty)),
     (2, 5, Some(PartitionFault::OutOfPool)),
     (5, 5, Some(PartitionFault::Empty)),
@@ -13,7 +13,7 @@ const RANGES: [(u32, u32, Option<PartitionFault>); 4] = [
 
 #[test]
 fn takes_rows_of_the_pool_alone(rt: HostRuntime) {
-    for (start, limit, fault) in RANGES {
+    for &(start, limit, fault) in RANGES {
         let is_right = match Partition::new(start, limit, 4) {
             Ok(partition) => {
                 fault.is_none() && (partition.start(), partition.limit()) == (start, limit)

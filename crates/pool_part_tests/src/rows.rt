@@ -106,7 +106,7 @@ const STORIES: [Story; 5] = [
 ];
 
 /// Rows and outsiders, and the fault of such rows.
-const OPENINGS: [(u16, u16, Option<RowsFault>); 3] = [
+const OPENINGS: &[(u16, u16, Option<RowsFault>)] = &[
     (0, 0, None),
     (256, 1, None),
     (257, 1, Some(RowsFault::TooManyRows)),
@@ -214,7 +214,7 @@ fn tell<Q: Rows<u32, Global>, R: Wait + Abort>(
 
 /// Rows of each size are refused for what is told, or else have their seats, and no job.
 fn expect_openings<Q: Rows<u32, Global>, R: Abort>(rt: &R, alloc: Global) {
-    for (rows, outsiders, fault) in OPENINGS {
+    for &(rows, outsiders, fault) in OPENINGS {
         let is_right = match Q::open(alloc, rows, outsiders) {
             Ok((opened, seats)) => {
                 let has_seats = seats.len() == usize::from(rows) + usize::from(outsiders);

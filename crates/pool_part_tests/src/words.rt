@@ -31,7 +31,7 @@ const PUSHED_AT_1: AfterCommit = AfterCommit::Pushed {
     next: 0x3FFF,
 };
 
-const WORDS: [(&str, u64, Step); 15] = [
+const WORDS: &[(&str, u64, Step)] = &[
     ("the first prewait", NONE_WAITING, Step::Prewaits(0x7FFF)),
     (
         "a signal",
@@ -133,7 +133,7 @@ fn is_right(word: u64, step: Step) -> bool {
 
 #[test]
 fn worked_words(rt: HostRuntime) {
-    for (name, word, step) in WORDS {
+    for &(name, word, step) in WORDS {
         assert!(rt; is_right(word, step), "{name}");
     }
 }

@@ -62,7 +62,7 @@ const TASKS: u64 = 16;
 
 /// Workers, how many tasks are scheduled before the pool is cancelled, which it is where there are
 /// more, and how often.
-const POOLS: [(Kind, u32, u64, u32); 8] = [
+const POOLS: &[(Kind, u32, u64, u32)] = &[
     (Kind::UnderLocks, 1, 16, 1),
     (Kind::UnderLocks, 2, 16, 100),
     (Kind::UnderLocks, 2, 8, 100),
@@ -77,7 +77,7 @@ const POOLS: [(Kind, u32, u64, u32); 8] = [
 #[test]
 fn each_task_counts_one_run(rt: HostRuntime) -> Result<(), Fail> {
     let alloc = rt.alloc();
-    for (kind, workers, first, times) in POOLS {
+    for &(kind, workers, first, times) in POOLS {
         let setup = setup_of(alloc, workers, &[])?;
         for _ in 0..times {
             let counts = counts(alloc, TASKS)?;

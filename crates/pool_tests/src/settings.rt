@@ -38,7 +38,7 @@ const MEETING: Run = Run {
     ..RUN
 };
 
-const RUNS: [Run; 9] = [
+const RUNS: &[Run] = &[
     MEETING,
     Run {
         name: "two tasks meet over slots",
@@ -86,7 +86,7 @@ const RUNS: [Run; 9] = [
 
 #[test]
 fn each_task_is_run_once(rt: HostRuntime) -> Result<(), Fail> {
-    for run in RUNS {
+    for &run in RUNS {
         expect_run(&rt, rt.alloc(), run)?;
     }
     Ok(())
@@ -94,7 +94,7 @@ fn each_task_is_run_once(rt: HostRuntime) -> Result<(), Fail> {
 
 /// Pools in which three tasks are scheduled: their workers, the rows of their partitions, how many
 /// workers are started if not all are, and how many tasks the workers run if that is known.
-const SETTINGS: [(&str, u32, &[(u32, u32)], Option<u32>, Option<u64>); 9] = [
+const SETTINGS: &[(&str, u32, &[(u32, u32)], Option<u32>, Option<u64>)] = &[
     ("one worker", 1, &[], None, None),
     ("two workers", 2, &[], None, None),
     ("64 workers", 64, &[], None, None),
@@ -107,7 +107,7 @@ const SETTINGS: [(&str, u32, &[(u32, u32)], Option<u32>, Option<u64>); 9] = [
 ];
 
 /// What the workers wait at, and how many tasks are scheduled before the pool is cancelled.
-const MOMENTS: [(Kind, u64); 4] = [
+const MOMENTS: &[(Kind, u64)] = &[
     (Kind::UnderLocks, 3),
     (Kind::UnderLocks, 0),
     (Kind::OverSlots, 3),
@@ -117,8 +117,8 @@ const MOMENTS: [(Kind, u64); 4] = [
 /// In an open pool each task is run once; a cancel before the first may leave it.
 #[test]
 fn three_tasks_in_each_setting(rt: HostRuntime) -> Result<(), Fail> {
-    for (name, workers, ranges, starts, by_workers) in SETTINGS {
-        for (kind, first) in MOMENTS {
+    for &(name, workers, ranges, starts, by_workers) in SETTINGS {
+        for &(kind, first) in MOMENTS {
             let run = Run {
                 name,
                 kind,

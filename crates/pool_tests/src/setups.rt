@@ -30,7 +30,7 @@ pub(crate) fn setup_of(
 }
 
 /// Numbers of workers, the rows of their partitions, and why a pool doesn't take them.
-const SETUPS: [(u32, &[(u32, u32)], Option<PoolFault>); 17] = [
+const SETUPS: &[(u32, &[(u32, u32)], Option<PoolFault>)] = &[
     (1, &[], None),
     (256, &[], None),
     (2, &[(0, 1), (1, 2)], None),
@@ -67,7 +67,7 @@ fn fault_of<RT: Threads + Wait + Sync>(
 #[test]
 fn setups_that_are_taken_and_refused(rt: HostRuntime) -> Result<(), Fail> {
     let alloc = rt.alloc();
-    for (workers, ranges, fault) in SETUPS {
+    for &(workers, ranges, fault) in SETUPS {
         let setup = setup_of(alloc, workers, ranges)?;
         let found = [
             setup.check().err(),

@@ -171,7 +171,7 @@ where
 
 /// Pools, their workers, the heights of their trees, how many leaves these have, and how often a
 /// pool is opened for them.
-const TREES: [(&str, Kind, u32, u32, u64, u32); 15] = [
+const TREES: &[(&str, Kind, u32, u32, u64, u32)] = &[
     ("scheduled", Kind::UnderLocks, 1, 16, 65_536, 1),
     ("scheduled", Kind::UnderLocks, 2, 16, 65_536, 1),
     ("scheduled", Kind::UnderLocks, 64, 16, 65_536, 1),
@@ -205,7 +205,7 @@ const TREES: [(&str, Kind, u32, u32, u64, u32); 15] = [
 
 #[test]
 fn each_leaf_of_trees(rt: HostRuntime) -> Result<(), Fail> {
-    for (name, kind, workers, height, leaves, times) in TREES {
+    for &(name, kind, workers, height, leaves, times) in TREES {
         for _ in 0..times {
             let tree = (name, kind, workers, height, leaves);
             expect_leaves(&rt, rt.alloc(), tree, None)?;
@@ -215,7 +215,7 @@ fn each_leaf_of_trees(rt: HostRuntime) -> Result<(), Fail> {
 }
 
 /// The workers of pools, and how often one is opened for a leaf.
-const OPENINGS: [(u32, u32); 2] = [
+const OPENINGS: &[(u32, u32)] = &[
     (2, 10_000),
     // Fewer, since starting 256 threads takes longest.
     (256, 100),
@@ -224,7 +224,7 @@ const OPENINGS: [(u32, u32); 2] = [
 /// One test of all openings would take too long.
 #[test]
 fn pools_that_are_opened_again_and_again(rt: HostRuntime) -> Result<(), Fail> {
-    for (workers, times) in OPENINGS {
+    for &(workers, times) in OPENINGS {
         for _ in 0..times {
             let leaf = ("a leaf over slots", Kind::OverSlots, workers, 0, 1);
             expect_leaves(&rt, rt.alloc(), leaf, None)?;
@@ -234,7 +234,7 @@ fn pools_that_are_opened_again_and_again(rt: HostRuntime) -> Result<(), Fail> {
 }
 
 /// The same of trees of which each of the 64 leaves in turn finds no memory.
-const HUNGRY: [(&str, Kind, u32, u32, u64); 6] = [
+const HUNGRY: &[(&str, Kind, u32, u32, u64)] = &[
     ("over slots", Kind::OverSlots, 1, 6, 63),
     ("over slots", Kind::OverSlots, 2, 6, 63),
     ("over one count", Kind::Counted, 1, 6, 63),
@@ -245,7 +245,7 @@ const HUNGRY: [(&str, Kind, u32, u32, u64); 6] = [
 
 #[test]
 fn each_leaf_without_memory(rt: HostRuntime) -> Result<(), Fail> {
-    for tree in HUNGRY {
+    for &tree in HUNGRY {
         for place in 0..64 {
             expect_leaves(&rt, rt.alloc(), tree, Some(place))?;
         }

@@ -8,7 +8,7 @@ use std::alloc::Global;
 use std::process::Abort;
 
 /// Waiters, notifiers and credits, and the fault of such a count.
-const SIZES: [(u16, u16, u32, Option<RowFault>); 6] = [
+const SIZES: &[(u16, u16, u32, Option<RowFault>)] = &[
     (1, 0, 0, None),
     (16_382, 1, 64, None),
     (1, 1, 524_288, None),
@@ -20,7 +20,7 @@ const SIZES: [(u16, u16, u32, Option<RowFault>); 6] = [
 /// The seats are numbered from 0 on, each has its credits, and such a count ends at one word.
 #[test]
 fn counts_with_rows_are_made_and_closed(rt: HostRuntime) {
-    for (waiters, notifiers, credits, fault) in SIZES {
+    for &(waiters, notifiers, credits, fault) in SIZES {
         let sizes = RowSizes {
             waiters,
             notifiers,
