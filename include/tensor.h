@@ -118,7 +118,8 @@ int64_t tensor_evaluate_arrays(const uint8_t *header, size_t header_length,
    takes may also be any movement of one. Where the header names tensors by `let`, they are also all
    values of each of these, and the same below its outermost operation. Not counted are at most 32,768
    values that are repeated by a movement, what a contraction packs, and what a part of an outermost
-   cumsum or cumprod reads of its lines before its own places.
+   cumsum or cumprod reads of its lines before its own places. Counted is the operand of an outermost
+   reduction along the first axes of an operation on values, of which a part works out its own alone.
 
    Parts pay where they are few beside a part's own values; or, of a contraction and a convolution,
    beside the products that it adds. So they do for operations on each value and movements of inputs,

@@ -90,6 +90,17 @@ class Sizes(OneWay):
                 offsets = line(1_000) % array.shape[axis]
                 self.agree(x.take(offsets, axis), array.take(offsets, axis), workers=2)
 
+    def test_operations_that_are_combined(self):
+        """In runs of each length round a piece of 1,024 values, and all together."""
+        for length in (0, 1, 3, 1023, 1024, 1025, 2048, 3000):
+            array = line(5 * length).reshape(5, length)
+            x, wanted = tensor(array), array * (array - 7)
+            expr = x * (x - 7)
+            for name in ("sum", "prod", "all", "any") + ("max", "min") * (length > 0):
+                for axis in (0, 1, None):
+                    found = getattr(expr, name)(axis=axis)
+                    self.agree(found, getattr(wanted, name)(axis=axis), workers=2)
+
     def test_shuffles(self):
         for count in self.each():
             cube = line(count)[: count // 1_995 * 1_995].reshape(19, 105, -1)

@@ -3,6 +3,7 @@
 #![tactic(auto)]
 
 mod arguments;
+mod by_runs;
 mod exprs;
 mod filled;
 mod head;

@@ -1,19 +1,21 @@
 //! The tensors that an expression is over: inputs, and behind them those of bindings, worked out.
 
-ghost use Rattle.std.specs.Prelude.{◌≡◌, ◌⊎◌, ◌<◌, ◌≤◌, ◌+◌, ◌-◌, min, length};
-ghost use Rattle.std.specs.Prelude.{IsTrue, IsOk, IsErr, IfOk, IfErr};
-ghost use Rattle.tensor_ops.specs.Result.{dims_of};
+ghost use Rattle.std.specs.Prelude.{◌≡◌, ◌⊎◌, ◌<◌, ◌≤◌, ◌+◌, ◌-◌, ◌^◌, min, length};
+ghost use Rattle.std.specs.Prelude.{IsTrue, IsOk, IsErr, IfOk, IfErr, OnOk};
+ghost use Rattle.tensor_ops.specs.Index.{size_of};
+ghost use Rattle.tensor_ops.specs.Result.{dims_of, shape_of};
 ghost use Rattle.tensor_ops.specs.Term.{has_inputs};
 ghost use Rattle.tensor_ops.specs.Tree.{term_of};
-ghost use Rattle.tensor_ops.specs.Value.{tensor_of};
+ghost use Rattle.tensor_ops.specs.Value.{tensor_of, values_from};
 ghost use Rattle.prepared_expressions.specs.Bindings.{HaveDims};
 ghost use Rattle.prepared_expressions.specs.Filled.{terms_under, tensors_under};
 ghost use Rattle.prepared_expressions.specs.Part.{IsPart};
 
+use crate::by_runs::combines_an_operation;
 use crate::filled::Filled;
 use crate::refusal::Refusal;
-use std::alloc::Global;
-use tensor_ops::{Expr, Inputs, Tensor, TensorEvaluator, eval_plain};
+use std::alloc::{AllocError, Global};
+use tensor_ops::{Expr, Inputs, PartEvaluator, Tensor, TensorEvaluator, eval_plain};
 
 /// Inputs, whose values are lent, and behind them the tensors of bindings. Results over them may be
 /// as large as any.
@@ -60,16 +62,40 @@ impl<'a> WorkedOut<'a> {
             × IsErr (dims_of self.now.tensors.bounds (term_of expr.now)
             self.now.tensors.tensors))) }
     {
-        let Ok(_) = expr.dims(&self.tensors) else {
+        let Ok(dims) = expr.dims(&self.tensors) else {
             return Err(Refusal::NoDims);
         };
-        let evaluator = TensorEvaluator::of(self.alloc, expr, &self.tensors)?;
-        let count = count_from(evaluator.dims().size(), first, out.len());
+        let count = count_from(dims.size(), first, out.len());
         if count == 0 {
             return Ok(0);
         }
-        evaluator.fill(first, &mut out[..count])?;
+        self.fill_all(expr, first, &mut out[..count])?;
         Ok(count)
+    }
+
+    /// Writes values of an expression, of which there are as many from a place on as `out` has room for:
+    /// those of a reduction of an operation as they are combined, with no list of the operand's.
+    fn fill_all(&self, expr: &Expr, first: u64, out: &mut [i64]) -> Result<(), AllocError>
+        requires inputs { IsTrue (has_inputs (term_of expr.now) (length self.now.tensors.tensors)) }
+        requires dims { IsOk (dims_of self.now.tensors.bounds (term_of expr.now)
+            self.now.tensors.tensors) }
+        requires within { first + length out.old
+            ≤ size_of (shape_of (term_of expr.now) self.now.tensors.tensors) }
+        requires fits { first + length out.old < 2 ^ 64 }
+        ensures len { length out.new ≡ length out.old }
+        ensures values { OnOk result (out.new ≡ values_from (term_of expr.now)
+            self.now.tensors.tensors first (length out.old)) }
+    {
+        // Says that dims can go as far as the tensors' bounds.
+        let _limit = self.tensors.bounds();
+        if combines_an_operation(expr, &self.tensors) {
+            let parts = PartEvaluator::over(self.alloc, expr, &self.tensors, &[])?;
+            let values = parts.wholes(self.alloc, first, first + out.len() as u64)?;
+            out.copy_from_slice(values.as_slice());
+            return Ok(());
+        }
+        let evaluator = TensorEvaluator::of(self.alloc, expr, &self.tensors)?;
+        evaluator.fill(first, out)
     }
 
     /// The tensor of an expression over them.
