@@ -46,7 +46,7 @@ const TWO: &str = r#"{"b":{"dims":[2],"data":[1,2]},"a":{"dims":[2],"data":[30,4
 
 /// Expressions, first an operation of each kind, with arguments that tell them apart; and then a
 /// node of each arity over others.
-const TENSORS: [(Over, &str, &[u64], &[i64]); 19] = [
+const TENSORS: &[(Over, &str, &[u64], &[i64])] = &[
     (Over::Three, r#"["abs","a"]"#, &[2, 3], &[1, 4, 2, 5, 3, 6]),
     (Over::Three, r#"["constant","k",-7]"#, &[2], &[-7, -7]),
     (
@@ -195,7 +195,7 @@ fn has_values<RT: Threads + Wait + Abort + Sync>(
 
 #[test]
 fn tensors_of_requests_and_their_copies(rt: HostRuntime) -> Result<(), Fail> {
-    for (over, expr, sizes, values) in TENSORS {
+    for &(over, expr, sizes, values) in TENSORS {
         has_values(&rt, rt.alloc(), over, expr, sizes, values)?;
     }
     Ok(())

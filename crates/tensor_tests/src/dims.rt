@@ -35,7 +35,7 @@ fn index_lists_and_strides(rt: HostRuntime) -> Result<(), Fail> {
 }
 
 /// Sizes, and why there are no such dims.
-const LIMITS: [(&[u64], Option<ShapeFault>); 9] = [
+const LIMITS: &[(&[u64], Option<ShapeFault>)] = &[
     (&[1, 1, 1, 1, 1, 1, 1, 1], None),
     (&[1024, 1024, 1, 1, 1, 1], None),
     (&[0, 1048576, 0, 1, 1, 0], None),
@@ -60,7 +60,7 @@ const SIX: Bounds = Bounds {
 };
 
 /// Bounds, sizes, and why there are no such dims within them.
-const WITHIN: [(Bounds, &[u64], Option<ShapeFault>); 6] = [
+const WITHIN: &[(Bounds, &[u64], Option<ShapeFault>)] = &[
     (SIX, &[1024, 1024, 1, 1, 1, 1], None),
     (SIX, &[1, 1, 1, 1, 1, 1, 1], Some(ShapeFault::RankTooHigh)),
     (SIX, &[1024, 1025], Some(ShapeFault::TooManyElements)),
@@ -71,14 +71,14 @@ const WITHIN: [(Bounds, &[u64], Option<ShapeFault>); 6] = [
 
 #[test]
 fn limits_that_are_given(rt: HostRuntime) {
-    for (bounds, sizes, fault) in WITHIN {
+    for &(bounds, sizes, fault) in WITHIN {
         expect(&rt, sizes, &Dims::within(bounds, sizes).err(), &fault);
     }
 }
 
 #[test]
 fn limits_of_rank_and_elements(rt: HostRuntime) {
-    for (sizes, fault) in LIMITS {
+    for &(sizes, fault) in LIMITS {
         expect(&rt, sizes, &Dims::new(sizes).err(), &fault);
     }
     let numbers = [

@@ -18,7 +18,7 @@ use tensor_runner::eval;
 /// Expressions over two grids and three values: an input, operations on values, one and then
 /// another, a movement, a reduction, contractions in tiles and in rows, a convolution, and operands
 /// in turns.
-const ROOTS: [&str; 9] = [
+const ROOTS: &[&str] = &[
     r#""a""#,
     r#"["abs",["sub","a","b"]]"#,
     r#"["sub",["square","a"],["reverse","b",[true,false]]]"#,
@@ -92,7 +92,7 @@ fn has_each_length(rt: &impl Abort, alloc: Global, request: &Request) -> Result<
 #[test]
 fn each_length_of_each_root(rt: HostRuntime) -> Result<(), Fail> {
     let inputs = grids(rt.alloc(), 35, 33)?;
-    for expr in ROOTS {
+    for &expr in ROOTS {
         let text = request(rt.alloc(), 2, inputs.as_str(), expr)?;
         let request = read_request(rt.alloc(), text.as_bytes())?;
         has_each_length(&rt, rt.alloc(), &request)?;
@@ -146,7 +146,7 @@ fn drawn_ranges_of_drawn_grids(rt: HostRuntime) -> Result<(), Fail> {
     for _ in 0..5 {
         let (rows, columns) = (drawn.below(60) as u16 + 3, drawn.below(60) as u16 + 3);
         let inputs = grids(rt.alloc(), rows, columns)?;
-        have_drawn_ranges(&rt, rt.alloc(), inputs.as_str(), &ROOTS, &mut drawn)?;
+        have_drawn_ranges(&rt, rt.alloc(), inputs.as_str(), ROOTS, &mut drawn)?;
         have_drawn_ranges(&rt, rt.alloc(), inputs.as_str(), &MORE_ROOTS, &mut drawn)?;
     }
     Ok(())

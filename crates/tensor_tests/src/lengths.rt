@@ -14,7 +14,7 @@ use tensor_ops::{TensorEvaluator, eval_plain};
 
 /// Expressions over two grids, each with a value for each place of these. The contraction is of two
 /// columns of both, so that a value takes two products.
-const ROOTS: [&str; 3] = [
+const ROOTS: &[&str] = &[
     r#"["sub",["mul","a","a"],"b"]"#,
     r#"["maximum","a",[]]"#,
     r#"["contract",["slice","a",[0,0],[112,2]],["slice","b",[0,0],[112,2]],[[1,1]]]"#,
@@ -48,7 +48,7 @@ fn has_lengths(rt: &impl Abort, alloc: Global, request: &Request, rest: usize) -
 /// So do those of each expression.
 fn have_lengths(rt: &impl Abort, alloc: Global, rest: usize) -> Result<(), Fail> {
     let inputs = grids(alloc, 112, 112)?;
-    for expr in ROOTS {
+    for &expr in ROOTS {
         let text = request(alloc, 2, inputs.as_str(), expr)?;
         let request = read_request(alloc, text.as_bytes())?;
         has_lengths(rt, alloc, &request, rest)?;

@@ -36,7 +36,7 @@ const THREE_LINES: &str =
 
 /// Behind how many bytes of the three lines the first is whole, and the second, and how many bytes
 /// answer them then.
-const WHOLE: [(usize, usize); 2] = [(85, 23), (88, 40)];
+const WHOLE: &[(usize, usize)] = &[(85, 23), (88, 40)];
 
 /// Asserts that the lines are answered so, and that just the stream has failed that is complained of.
 fn expect_lines<RT: Threads + Wait + Abort + Sync>(
@@ -60,7 +60,7 @@ fn expect_lines<RT: Threads + Wait + Abort + Sync>(
 }
 
 /// Texts, and the answers of their lines.
-const TEXTS: [(&str, &[u8], &str); 8] = [
+const TEXTS: &[(&str, &[u8], &str)] = &[
     ("no line", b"", ""),
     ("a feed", b"\n", "error 2 NotJson\n"),
     ("one", b"[]\n", "error 3 BadField\n"),
@@ -85,7 +85,7 @@ const TEXTS: [(&str, &[u8], &str); 8] = [
 
 #[test]
 fn lines_of_small_texts(rt: HostRuntime) {
-    for (name, text, answers) in TEXTS {
+    for &(name, text, answers) in TEXTS {
         for most_a_call in [1, 100_000] {
             let streams = (Giving::by(most_a_call, text), Taking::all(rt.alloc()));
             expect_lines(&rt, rt.alloc(), name, streams, (DONE, answers.as_bytes()));
@@ -127,7 +127,7 @@ fn a_reader_that_fails_in_each_line(rt: HostRuntime) {
         let mut giving = Giving::by(1, THREE);
         giving.good_calls = good_calls as u64;
         let mut answers = "";
-        for (behind, length) in WHOLE {
+        for &(behind, length) in WHOLE {
             if good_calls >= behind {
                 answers = &THREE_LINES[..length];
             }

@@ -31,7 +31,7 @@ fn fault_of(
 }
 
 /// Movements of 2 by 3 that there are no dims of, and why, by number.
-const FAULTS: [(Movement<'static>, ExprFault, u8); 3] = [
+const FAULTS: &[(Movement<'static>, ExprFault, u8)] = &[
     (Movement::Shuffle(&[0, 1, 2]), ExprFault::ShapeMismatch, 1),
     (Movement::Chip(2, 0), ExprFault::OutOfRange, 2),
     (Movement::Reshape(&[1048577]), ExprFault::TooLarge, 3),
@@ -40,7 +40,7 @@ const FAULTS: [(Movement<'static>, ExprFault, u8); 3] = [
 #[test]
 fn dims_that_there_are_none_of(rt: HostRuntime) -> Result<(), Fail> {
     let inputs = two_by_three(rt.alloc())?;
-    for (movement, fault, number) in FAULTS {
+    for &(movement, fault, number) in FAULTS {
         let found = fault_of(rt.alloc(), &inputs, movement)?;
         expect(&rt, number, &(found, fault as u8), &(Some(fault), number));
     }

@@ -62,7 +62,7 @@ const NOT_JSON: &str = "error 2 NotJson\n";
 /// Texts that white space makes so long, how many bytes a read gives at most, the lines that answer
 /// them, and how many reads there are, where that is known. The last read of a text tells its end,
 /// or is of the one byte that tells that there are too many.
-const TEXTS: [(&str, &[u8], usize, usize, &str, Option<u64>); 10] = [
+const TEXTS: &[(&str, &[u8], usize, usize, &str, Option<u64>)] = &[
     ("no UTF-8", b"\"\xff\"", 3, MOST, NOT_JSON, None),
     ("spaced", SPACED, 0, MOST, SCALAR_LINE, None),
     ("as many spaces as may be", b"", MOST, MOST, NOT_JSON, None),
@@ -98,7 +98,7 @@ const TEXTS: [(&str, &[u8], usize, usize, &str, Option<u64>); 10] = [
 
 #[test]
 fn lines_of_texts(rt: HostRuntime) -> Result<(), Fail> {
-    for (name, text, length, most_a_call, line, reads) in TEXTS {
+    for &(name, text, length, most_a_call, line, reads) in TEXTS {
         let mut bytes = text.to_vec(rt.alloc())?;
         bytes.resize(length.max(text.len()), b' ')?;
         let status = if line.starts_with("error") {
@@ -149,7 +149,7 @@ fn a_reader_that_fails_at_each_place(rt: HostRuntime) {
 
 /// How many bytes of the product's line, of 36, a call takes at most, and how many calls take it
 /// whole.
-const CALLS: [(&str, usize, u64); 3] = [
+const CALLS: &[(&str, usize, u64)] = &[
     ("a byte a call", 1, 36),
     ("five bytes a call", 5, 8),
     ("all by one call", 1000, 1),
@@ -159,7 +159,7 @@ const CALLS: [(&str, usize, u64); 3] = [
 #[test]
 fn a_writer_that_is_full_at_each_place(rt: HostRuntime) {
     for full in [Full::Fails, Full::TakesNone] {
-        for (name, most_a_call, calls) in CALLS {
+        for &(name, most_a_call, calls) in CALLS {
             for room in 0..=37 {
                 let taking = Taking {
                     taken: Vec::new(rt.alloc()),
@@ -189,7 +189,7 @@ fn a_writer_that_is_full_at_each_place(rt: HostRuntime) {
 /// with: its exit status, and the line on standard error; and the line that the writer takes.
 ///
 /// A stream that fails is no fault of the text: its line stands on standard error.
-const ENDINGS: [(&str, &[u8], u64, usize, u8, Option<&str>, &str); 5] = [
+const ENDINGS: &[(&str, &[u8], u64, usize, u8, Option<&str>, &str)] = &[
     ("a tensor", PRODUCT, 1000, 1000, 0, None, PRODUCT_LINE),
     ("a fault", b"[]", 1000, 1000, 1, None, "error 3 BadField\n"),
     ("no text", b"", 1000, 1000, 1, None, NOT_JSON),
@@ -234,7 +234,7 @@ fn served<RT: Threads + Wait + Sync>(
 /// Where the writer fails the front of the line is written for which there was room.
 #[test]
 fn endings_of_lines(rt: HostRuntime) {
-    for (name, text, good_calls, room, status, complaint, line) in ENDINGS {
+    for &(name, text, good_calls, room, status, complaint, line) in ENDINGS {
         let (ending, taken) = served(&rt, rt.alloc(), text, good_calls, room);
         let wanted = Ending { status, complaint };
         expect(&rt, name, &ending, &wanted);

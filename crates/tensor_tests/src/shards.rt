@@ -6,7 +6,7 @@ use tensor_reduce::Shards;
 
 /// How many index lists there are, the block; and how many shards, of which width. The last may be
 /// shorter. There are at most 1,024 of them, however small the block.
-const SHARDS: [(u64, u64, u64, u64); 18] = [
+const SHARDS: &[(u64, u64, u64, u64)] = &[
     (10, 4, 3, 4),
     (8, 4, 2, 4),
     (4, 4, 1, 4),
@@ -47,7 +47,7 @@ fn are(rt: &impl Abort, inner: u64, block: u64, count: u64, width: u64) {
 
 #[test]
 fn shards_of_few_and_many(rt: HostRuntime) {
-    for (inner, block, count, width) in SHARDS {
+    for &(inner, block, count, width) in SHARDS {
         are(&rt, inner, block, count, width);
     }
 }

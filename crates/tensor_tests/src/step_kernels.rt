@@ -96,7 +96,7 @@ fn values_of_a_step_in_two_ranges(rt: HostRuntime) -> Result<(), Fail> {
 
 /// Numbers of workers, blocks, and why the plan of the squares isn't run. By number: the block
 /// before the workers.
-const RUNS: [(u32, u64, Option<ForFault>); 9] = [
+const RUNS: &[(u32, u64, Option<ForFault>)] = &[
     (1, 1, None),
     (1, 100, None),
     (2, 1, None),
@@ -139,7 +139,7 @@ fn runs_squares<RT: Threads + Wait + Abort + Sync>(
 
 #[test]
 fn tensor_of_a_plan(rt: HostRuntime) -> Result<(), Fail> {
-    for (workers, block, fault) in RUNS {
+    for &(workers, block, fault) in RUNS {
         runs_squares(&rt, rt.alloc(), workers, block, fault)?;
     }
     Ok(())
