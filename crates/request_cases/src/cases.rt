@@ -8,13 +8,13 @@ use std::sync::Wait;
 use std::thread::Threads;
 
 /// By how many workers each expression is worked out, in blocks of each size.
-const WORKERS: [u32; 3] = [1, 2, 3];
+const WORKERS: &[u32] = &[1, 2, 3];
 
 /// By how many it is once more, in blocks of one size: to start so many takes longer than most cases.
 const MANY_WORKERS: u32 = 64;
 
 /// In blocks of how many places.
-const BLOCKS: [u32; 4] = [1, 2, 7, 1_048_576];
+const BLOCKS: &[u32] = &[1, 2, 7, 1_048_576];
 
 /// What the next answer is of.
 #[derive(Drop)]
@@ -142,7 +142,7 @@ impl Cases {
     ) -> Result<String, AllocError> {
         let text = self.request(expr, 2, 4)?;
         let mut report = self.in_each_way(rt, text.as_str(), line)?;
-        for workers in WORKERS {
+        for &workers in WORKERS {
             let wrong = self.on_workers(rt, expr, workers, line)?;
             report.push_str(wrong.as_str())?;
         }
@@ -182,7 +182,7 @@ impl Cases {
         line: &str,
     ) -> Result<String, AllocError> {
         let mut report = String::new(self.alloc);
-        for block in BLOCKS {
+        for &block in BLOCKS {
             let wrong = self.on(rt, expr, workers, block, line)?;
             report.push_str(wrong.as_str())?;
         }

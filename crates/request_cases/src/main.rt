@@ -15,7 +15,7 @@ use crate::cases::Cases;
 use std::{fs, io};
 
 /// The files of cases.
-const FILES: [&str; 21] = [
+const FILES: &[&str] = &[
     "arguments.cases",
     "chains.cases",
     "check_order.cases",
@@ -40,7 +40,7 @@ const FILES: [&str; 21] = [
 ];
 
 fn main(rt: HostRuntime) -> io::Result<()> {
-    for name in FILES {
+    for &name in FILES {
         let file = fs::read_to_string(&rt, name)?;
         let mut cases = Cases::new(rt.alloc());
         cases.take_all(&rt, file.as_str())?;
