@@ -20,7 +20,7 @@ IMPL = re.compile(r"(?m)^impl\b(?:<.*?>)? (?:([\w:]+)(?:<.*>)? for )?([\w:]+)")
 # A line that says what the prover refuses.
 REFUSAL = re.compile(r"\S+:\d+:\d+: error|note: \S+:\d+:\d+: it is not proved")
 # A proof that misses a name which the edit took away was refused for that, and by no contract.
-ONLY_A_NAME = re.compile(r"has no field|is not in scope|has no `|was not admitted")
+ONLY_A_NAME = re.compile(r"has no field|is not in scope|has no `|was not admitted|module `\S+`$")
 PARTS = "src", "specs", "proofs"
 
 
