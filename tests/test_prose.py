@@ -1,0 +1,87 @@
+"""Rules of the prose of pages and comments: phrases that must not stand, short sentences and cells.
+
+A new phrase is a line of PHRASES, with what to write instead. It has no exceptions.
+"""
+
+import glob
+import os
+import re
+
+import pytest
+
+TOP = os.path.dirname(os.path.dirname(os.path.abspath(__file__)))
+# Pages in which all rules hold. The phrases hold in these alone until the others are rewritten.
+PAGES = [
+    "docs/REQUEST.md",
+    "docs/FRAMES.md",
+    "docs/MANY.md",
+    "docs/SERVE.md",
+]
+PHRASES = {
+    r"want of memory": "out of memory, an allocation fails",
+    r"\ba front of\b": "a prefix of",
+    r"\bso many\b": "n, the given number of",
+    r"\bwork(?:s|ed)? (?:it |them |this )?out\b": "compute, evaluate",
+    r"\bto before another\b": "in [first, last)",
+    r"\bis told\b": "is reported",
+    r"\bWho (?:may|calls|has|asks|writes)\b": "a caller that ..",
+    r"\bThe same\b": "the noun again",
+    r"\b[Tt]hat of\b": "the noun again",
+    r"\b[Tt]hose of\b": "the noun again",
+}
+SENTENCE_WORDS, CELL_WORDS, README_LINES = 35, 25, 150
+FENCE = re.compile(r"(?ms)^```.*?^```$")
+SENTENCE = re.compile(r"(?<=[.:;?!])\s+(?=[A-Z`\[*])")
+WORD = re.compile(r"\S*\w\S*")
+
+
+def text_of(page):
+    with open(os.path.join(TOP, page), encoding="utf-8") as file:
+        return file.read()
+
+
+def prose_of(page):
+    """The lines of a page but for examples, drawings, tables and headings."""
+    lines = FENCE.sub("", text_of(page)).split("\n")
+    return [it for it in lines if not it.startswith(("    ", "|", "#"))]
+
+
+def sentences_of(page):
+    """The sentences of a page. An item of a list and a paragraph end one."""
+    paragraphs = re.split(r"\n\s*\n|\n(?=- |\d+\. )", "\n".join(prose_of(page)))
+    return [it for text in paragraphs for it in SENTENCE.split(" ".join(text.split()))]
+
+
+def cells_of(page):
+    rows = [it for it in FENCE.sub("", text_of(page)).split("\n") if it.startswith("|")]
+    return [cell for row in rows for cell in re.split(r"(?<!\\)\|", row)]
+
+
+def count(text):
+    return len(WORD.findall(text))
+
+
+@pytest.mark.parametrize("page", PAGES)
+def test_no_phrase_that_has_a_plain_word(page):
+    text = "\n".join(prose_of(page) + cells_of(page))
+    found = [(it, PHRASES[by]) for by in PHRASES for it in re.findall(by, text)]
+    assert not found, "each phrase, and what to write instead"
+
+
+@pytest.mark.parametrize("page", PAGES)
+def test_sentences_are_short(page):
+    assert [it for it in sentences_of(page) if count(it) > SENTENCE_WORDS] == []
+
+
+@pytest.mark.parametrize("page", PAGES)
+def test_cells_are_short(page):
+    assert [it for it in cells_of(page) if count(it) > CELL_WORDS] == []
+
+
+def test_the_readme_is_short():
+    assert text_of("README.md").count("\n") <= README_LINES
+
+
+def test_pages_are_there():
+    known = {os.path.relpath(it, TOP) for it in glob.glob(f"{TOP}/**/*.md", recursive=True)}
+    assert set(PAGES) <= known
