@@ -16,6 +16,7 @@ PAGES = [
     "docs/FRAMES.md",
     "docs/MANY.md",
     "docs/SERVE.md",
+    "docs/PROVED.md",
 ]
 PHRASES = {
     r"want of memory": "out of memory, an allocation fails",
