@@ -17,6 +17,7 @@ PAGES = [
     "docs/MANY.md",
     "docs/SERVE.md",
     "docs/PROVED.md",
+    "docs/ARCHITECTURE.md",
 ]
 PHRASES = {
     r"want of memory": "out of memory, an allocation fails",
