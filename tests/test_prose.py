@@ -18,6 +18,7 @@ PAGES = [
     "docs/SERVE.md",
     "docs/PROVED.md",
     "docs/ARCHITECTURE.md",
+    "docs/DECISIONS.md",
 ]
 PHRASES = {
     r"want of memory": "out of memory, an allocation fails",
