@@ -19,6 +19,7 @@ PAGES = [
     "docs/PROVED.md",
     "docs/ARCHITECTURE.md",
     "docs/DECISIONS.md",
+    "CONTRIBUTING.md",
 ]
 PHRASES = {
     r"want of memory": "out of memory, an allocation fails",
@@ -51,7 +52,7 @@ def prose_of(page):
 
 def sentences_of(page):
     """The sentences of a page. An item of a list and a paragraph end one."""
-    paragraphs = re.split(r"\n\s*\n|\n(?=- |\d+\. )", "\n".join(prose_of(page)))
+    paragraphs = re.split(r"\n\s*\n|\n(?=\s*(?:-|\d+\.) )", "\n".join(prose_of(page)))
     return [it for text in paragraphs for it in SENTENCE.split(" ".join(text.split()))]
 
 
