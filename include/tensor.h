@@ -1,33 +1,35 @@
 /* Tensor expressions over wrapping 64-bit integers: arrays in, arrays out, in the calling process.
 
-   A frame is a header and values. The header is a request text (docs/REQUEST.md) in which each
-   tensor is an object of `dims` alone:
+   A frame is a header and values. The header is the text of a request (docs/REQUEST.md) in which each
+   tensor is an object with the one field `dims`:
 
      {"version":1,"workers":1,"block":1024,"inputs":{"a":{"dims":[2]},"b":{"dims":[2]}},
       "expr":["add","a","b"]}
 
-   The values are those of the tensors, one tensor after the other in the order of their names by
-   bytes, each column-major: the first index runs fastest. Its version may also be 3, which has
-   operations on whole numbers and along an axis, names for tensors within the expression, and larger
-   tensors (docs/FRAMES.md). It asks for what the text asks for in which each tensor also has its
-   values in `data`, however long that text would be, and has the same fault. All work is done on the
-   thread that calls; `workers` and `block` are checked, and change nothing.
+   The values are the values of all tensors, one tensor after the other. The tensors come in the order
+   of their names, compared byte by byte. Each tensor is column-major: the first index changes fastest.
+   The version may also be 3 (docs/FRAMES.md), which has larger tensors and more operations.
 
-   What a caller owes:
-   - Each pointer is to as many elements as its length says, aligned as its type is; where the
-     length is 0 it may be null. No list takes 2^63 bytes or more: so the lengths of `values`,
-     `out`, `dims` and `plan` are below 2^60, and that of `arrays` is below 2^59.
-   - What is written to, `out`, `dims`, `name` and `plan` of tensor_prepare, overlaps nothing else
-     that the call is given, and nobody else reads or writes it during the call. What is read,
-     nobody writes during the call.
-   - Calls may be made from any number of threads at once, but not from a signal handler, and not
-     from the forked child of a process with threads.
-   - The processor has all of x86-64-v2, or x86-64-v3 where the library was built for it
-     (`./build/library` chooses by the processor that it runs on). The library does not check it.
-   - The program's malloc, realloc and free are of one allocator, as the C library's are.
+   A frame has the answer, or the fault, of the request text that holds the values as `data`, without
+   the limit on the length of a text. A call does all its work on the calling thread. `workers` and
+   `block` are checked, and change nothing.
 
-   The library itself takes no null pointer: the functions at the end of this file stand between.
-   Who calls it from another language, or by a function's address, passes some place for nothing.
+   What a caller must do:
+   - Each pointer points to as many elements as its length says, aligned for their type. If the length
+     is 0, the pointer may be null. No list has 2^63 bytes or more: the lengths of `values`, `out`,
+     `dims` and `plan` are below 2^60, and the number of `arrays` is below 2^59.
+   - What a call writes (`out`, `dims`, `name`, and `plan` of tensor_prepare) overlaps nothing else
+     that the call is given. No other thread reads or writes it during the call. No thread writes what
+     the call reads.
+   - Any number of threads may call at the same time. A signal handler must not call, and neither must
+     the forked child of a process with threads.
+   - The processor has all instructions of x86-64-v2, or of x86-64-v3 if the library was built for it.
+     The library does not check this.
+   - malloc, realloc and free of the program belong to one allocator, as in the C library.
+
+   The library itself does not take null pointers; the inline functions at the end of this file replace
+   them. A caller from another language, or by the address of a function, must pass a valid address for
+   an empty list.
 
    Link libtensor.a or libtensor.so, and nothing else: cc program.c -Iinclude out/libtensor.a */
 
@@ -45,138 +47,140 @@ extern "C" {
 /* The version of the library, as the file VERSION has it. */
 #define TENSOR_VERSION "2.0.0"
 
-/* The most values of a tensor, and so the most that an answer has: of version 3. Those of versions 1
-   and 2 have at most 1,048,576. */
+/* The most values of a tensor of version 3, and so of an answer. In versions 1 and 2 a tensor has at
+   most 1,048,576 values. */
 #define TENSOR_MOST_VALUES 268435456
 
-/* The most numbers that `dims` is written with: a rank, and up to 8 dims. */
+/* The most numbers that are written to `dims`: the rank, and up to 8 dimensions. */
 #define TENSOR_DIMS_ROOM 9
 
-/* The most bytes of a fault's name, with the 0 behind it. */
+/* The most bytes of the name of a fault, including the 0 at its end. */
 #define TENSOR_NAME_ROOM 16
 
-/* The most numbers of a plan over so many tensors. */
+/* The most numbers of a plan over `tensors` tensors. */
 #define TENSOR_PLAN_ROOM(tensors) (190004 + 9 * (size_t)(tensors))
 
-/* What is returned where `out`, `dims`, `name` or `plan` has too little room. */
+/* Returned if `out`, `dims`, `name` or `plan` is too short. */
 #define TENSOR_NO_ROOM (-100)
 
-/* What is returned where the numbers of `plan` are no plan. */
+/* Returned if the numbers of `plan` are not a plan. */
 #define TENSOR_NO_PLAN (-101)
 
-/* What is returned where there is no memory: fault 15. */
+/* Returned if an allocation failed: fault 15. */
 #define TENSOR_NO_MEMORY (-15)
 
-/* The values of one tensor, where they lie. */
+/* The values of one tensor, in the caller's memory. */
 struct tensor_array {
     const int64_t *values;
     size_t length;
 };
 
-/* Writes the tensor of a frame: its values into `out`, and into `dims` its rank and then its dims.
-   Returns how many values there are. Where the frame has a fault it returns the fault's number,
-   negated (-1 to -15, docs/REQUEST.md), and where `out` or `dims` has too little room
-   TENSOR_NO_ROOM; in both cases nothing is written. What stands behind what is written stays. */
+/* Evaluates a frame. Writes the values of the answer to `out`, and its rank and then its dimensions to
+   `dims`. Returns the number of values. If the frame has a fault, it returns the number of the fault,
+   negated (-1 to -15, docs/REQUEST.md). If `out` or `dims` is too short, it returns TENSOR_NO_ROOM. In
+   both cases it writes nothing. It changes nothing behind what it writes. */
 int64_t tensor_evaluate(const uint8_t *header, size_t header_length,
                         const int64_t *values, size_t values_length,
                         int64_t *out, size_t out_length,
                         uint64_t *dims, size_t dims_length);
 
-/* Writes values of the tensor of a frame into `out`, from place `first` on: as many as there are and
-   as there is room for. Returns how many those are, 0 where `first` is past the last one. Faults are
-   returned as by tensor_evaluate, and then nothing is written; but for want of memory (-15), which
-   may leave anything in `out`. What stands behind what is written stays.
+/* Evaluates a part of a frame: writes the values of the answer from place `first` on to `out`, as many
+   as there are and as fit. Returns how many it wrote, which is 0 if `first` is behind the last value.
+   Faults are returned as by tensor_evaluate, and then nothing is written; but if an allocation fails
+   (-15), `out` may hold anything. It changes nothing behind what it writes.
 
-   Calls with the same header and values are parts of one answer, whatever thread makes each and
-   whenever: a call from place 0 into room for n values, one from place n on, and so on until all
-   values that tensor_dims tells are there, write what tensor_evaluate writes. So threads of the
-   caller share one answer, each with a range of one list. Values are written where they are wanted,
-   and no list of them is made in between.
+   Calls with equal headers and values are parts of one answer. A call from place 0 with room for n
+   values, a call from place n, and so on up to the number of values that tensor_dims returns, together
+   write what tensor_evaluate writes, on whatever threads and in whatever order they are made. So
+   threads of the caller can share one answer, each with a range of one list. No further list of the
+   values is made.
 
-   Each part works out anew what tensor_shared tells, and reads the header. */
+   Each part reads the header again, and computes again what tensor_shared counts. */
 int64_t tensor_evaluate_part(const uint8_t *header, size_t header_length,
                              const int64_t *values, size_t values_length,
                              uint64_t first, int64_t *out, size_t out_length);
 
-/* Does the same where the tensors' values don't lie one behind the other: each tensor has an array
-   of its own, the arrays in the order of the names. Where each has as many values as its tensor has
-   places, it is the frame with the values of all joined. Other lengths, and more or fewer arrays
-   than tensors, are fault 7, and more values in all than a frame may have are fault 1. `count` of
-   tensor_dims is how many values the arrays have together. */
+/* Evaluates a part of a frame whose tensors lie in separate arrays, which come in the order of the
+   names. If each array has as many values as its tensor has places, the answer is the answer of the
+   frame with all arrays joined. Other lengths, and more or fewer arrays than tensors, are fault 7.
+   More values in all than a frame may have are fault 1. `count` of tensor_dims is the number of values
+   of all arrays together. */
 int64_t tensor_evaluate_arrays(const uint8_t *header, size_t header_length,
                                const struct tensor_array *arrays, size_t count,
                                uint64_t first, int64_t *out, size_t out_length);
 
-/* Returns how many values each part of the answer of tensor_evaluate_arrays works out anew, before
-   the first of its own; of tensor_evaluate_part and tensor_run, too. None is worked out, and no value
-   of the arrays matters. Faults are returned as by tensor_evaluate_arrays.
+/* Returns how many values each part of an answer computes again before its own first value, for
+   tensor_evaluate_arrays, tensor_evaluate_part and tensor_run. It computes none of them, and does not
+   read the values of the arrays. Faults are returned as by tensor_evaluate_arrays.
 
-   They are the values of what lies below the outermost operation and isn't worked out place by
-   place: of each reduction, contraction, convolution, cumsum, cumprod, argmax, argmin and take
-   there; and of each operand of one of these, the outermost one too, which isn't such a list
-   already. It is one where it is an input, one of these, or a reshape of one; what a contraction
-   takes may also be any movement of one. Where the header names tensors by `let`, they are also all
-   values of each of these, and the same below its outermost operation. Not counted are at most 32,768
-   values that are repeated by a movement, what a contraction packs, and what a part of an outermost
-   cumsum or cumprod reads of its lines before its own places. Counted is the operand of an outermost
-   reduction along the first axes of an operation on values, of which a part works out its own alone.
+   Counted are:
+   - all values of each reduction, contraction, convolution, cumsum, cumprod, argmax, argmin and take
+     below the outermost operation;
+   - all values of each operand of one of these, including the outermost one, unless the operand is a
+     list already: an input, one of these operations, or a reshape of such a list. An operand of a
+     contraction may also be any movement of a list. The operand of an outermost reduction along the
+     first axes of an operation on values is counted, though a part computes only its own share;
+   - all values of each tensor that a `let` names, and what lies below its outermost operation.
 
-   Parts pay where they are few beside a part's own values; or, of a contraction and a convolution,
-   beside the products that it adds. So they do for operations on each value and movements of inputs,
-   for reductions, argmax and argmin of an input to many values, and for cumsum, cumprod, take,
+   Not counted are up to 32,768 values that a movement repeats, what a contraction packs, and what a
+   part of an outermost cumsum or cumprod reads before its own places.
+
+   Parts pay if this count is small beside the number of values of a part, or beside the number of
+   products of a contraction or convolution. So they pay for operations on values and movements of
+   inputs, for reductions, argmax and argmin of an input to many values, and for cumsum, cumprod, take,
    contractions and convolutions of inputs. */
 int64_t tensor_shared(const uint8_t *header, size_t header_length,
                       const struct tensor_array *arrays, size_t count);
 
-/* Writes the plan of a header whose tensors have `count` values together, whatever these are, and
-   returns how many numbers it has: 16 for `add` of two tensors of one axis. Faults, and too little
-   room, as of tensor_evaluate; then nothing is written.
+/* Writes the plan of a header whose tensors have `count` values together. Returns how many numbers the
+   plan has: 16 for `add` of two tensors with one axis. Faults and TENSOR_NO_ROOM are returned as by
+   tensor_evaluate, and then nothing is written.
 
-   A plan is what the header asks for, once it is read and checked: the tensors' dims and the
-   expressions, as numbers in the caller's memory. It is no handle, nothing belongs to it, and there
-   is nothing to free. It may be copied, and threads run one plan at once, as long as nobody writes
-   it. It is for this version of the library, and for this kind of machine. */
+   A plan is a header that is read and checked: the dims of the tensors and the expressions, as numbers
+   in the caller's memory. It is not a handle, owns nothing, and need not be freed. It may be copied.
+   Any number of threads may run one plan as long as no thread writes it. A plan is valid for this
+   version of the library and this kind of machine. */
 int64_t tensor_prepare(const uint8_t *header, size_t header_length, uint64_t count,
                        uint64_t *plan, size_t plan_length);
 
-/* Does as tensor_evaluate_arrays with a plan in the place of the header: an array a tensor, in the
-   order of the names. No text is read. `plan_length` is what tensor_prepare returned. Arrays that
-   are not as many, or not as long, as the header says are fault 7, want of memory is fault 15 (-15),
-   and the plan has no other fault, since its header had none. Numbers that are no plan are
-   TENSOR_NO_PLAN, or fault 7; of each fault but want of memory nothing is written. Whatever the
-   numbers are, nothing is read or written but the lists of this call: where they are the plan of
-   another header, it is answered. */
+/* Evaluates a part as tensor_evaluate_arrays does, with a plan in place of the header, and reads no
+   text. The arrays come in the order of the names. `plan_length` is what tensor_prepare returned. If
+   there are more or fewer arrays than tensors, or an array has another length than its tensor, it
+   returns -7. If an allocation fails, it returns -15. A plan has no other fault, because its header had
+   none. If the numbers are not a plan, it returns TENSOR_NO_PLAN or -7. It writes nothing in these cases
+   but for -15. Whatever the numbers are, it reads and writes nothing but the lists of this call. If
+   they are the plan of another header, it evaluates that header. */
 int64_t tensor_run(const uint64_t *plan, size_t plan_length,
                    const struct tensor_array *arrays, size_t count,
                    uint64_t first, int64_t *out, size_t out_length);
 
-/* Writes the rank and the dims of the tensor of a frame with this header and `count` values,
-   whatever these are, and returns how many values the tensor has. None is worked out. Faults, and
-   too little room, as of tensor_evaluate. */
+/* Writes the rank and the dimensions of the answer to a frame with this header and `count` values.
+   Returns the number of values of the answer, and computes none of them. Faults and TENSOR_NO_ROOM are
+   returned as by tensor_evaluate. */
 int64_t tensor_dims(const uint8_t *header, size_t header_length, uint64_t count,
                     uint64_t *dims, size_t dims_length);
 
-/* Does the same where each tensor has an array of its own, as of tensor_evaluate_arrays. No value is
-   read, and no memory is taken that grows with the number of values; tensor_dims takes as much as
-   `count` values have. */
+/* Does what tensor_dims does for tensors in separate arrays, as tensor_evaluate_arrays takes them. It
+   reads no value, and its memory does not grow with the number of values. tensor_dims allocates as
+   much memory as `count` values take. */
 int64_t tensor_dims_of_arrays(const uint8_t *header, size_t header_length,
                               const struct tensor_array *arrays, size_t count,
                               uint64_t *dims, size_t dims_length);
 
-/* Writes the name of the fault of a number, 1 to 15, with a 0 behind it, and returns how many bytes
-   the name has; 0 where no fault has this number, and TENSOR_NO_ROOM where `name` has too little
-   room. In both cases nothing is written. */
+/* Writes the name of the fault `number`, from 1 to 15, with a 0 at its end. Returns how many bytes the
+   name has, 0 if no fault has this number, or TENSOR_NO_ROOM if `name` is too short. In the last two
+   cases it writes nothing. */
 int64_t tensor_fault_name(uint32_t number, uint8_t *name, size_t name_length);
 
-/* What stands between a caller in C or C++ and the library: a place for each list of nothing. */
+/* The functions below replace null pointers of empty lists by a valid address. */
 static inline void *tensor_place(const void *list, size_t length)
 {
     static uint64_t nothing;
     return length == 0 ? (void *)&nothing : (void *)(uintptr_t)list;
 }
 
-/* These arrays; or, where one of no values is null, a copy in which it isn't, and where there is no
-   memory for that null. */
+/* Returns these arrays; or, if an empty array is null, a copy in which it is not, or null if there is no
+   memory for the copy. */
 static inline struct tensor_array *tensor_places(struct tensor_array *arrays, size_t count)
 {
     struct tensor_array *copy;

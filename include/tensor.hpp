@@ -1,5 +1,5 @@
 /* Tensor expressions over wrapping 64-bit integers, from C++20: the calls of tensor.h with spans,
-   threads and exceptions. What a caller owes stands there.
+   threads and exceptions. tensor.h says what a caller must do.
 
    Link libtensor.a or libtensor.so: c++ -std=c++20 -pthread program.cpp -Iinclude out/libtensor.a */
 
@@ -7,9 +7,10 @@
 #define TENSOR_HPP
 
 #include <algorithm>
-#include <atomic>
 #include <cstddef>
 #include <cstdint>
+#include <exception>
+#include <mutex>
 #include <span>
 #include <stdexcept>
 #include <string>
@@ -21,10 +22,11 @@
 
 namespace tensor {
 
-/* The values of an array, where they lie, column-major. */
+/* The values of an array in the caller's memory, column-major. */
 using Values = std::span<const std::int64_t>;
 
-/* What is wrong with a frame: a fault's number, and its name. */
+/* A fault of a frame: its number, and its name. Other refusals of the library have the numbers 100 and
+   101 of TENSOR_NO_ROOM and TENSOR_NO_PLAN. */
 class Fault : public std::runtime_error {
 public:
     explicit Fault(int number) : std::runtime_error(name(number)), number_(number) {}
@@ -33,6 +35,10 @@ public:
 private:
     static std::string name(int number)
     {
+        if (number == -TENSOR_NO_ROOM)
+            return "the list for the result is too short";
+        if (number == -TENSOR_NO_PLAN)
+            return "the numbers are not a plan";
         std::uint8_t text[TENSOR_NAME_ROOM] = {};
         tensor_fault_name(static_cast<std::uint32_t>(number), text, sizeof text);
         return reinterpret_cast<const char *>(text);
@@ -43,7 +49,7 @@ private:
 
 namespace detail {
 
-/* Where arrays lie, and how long they are. */
+/* The addresses and lengths of arrays. */
 inline std::vector<tensor_array> lying(std::span<const Values> arrays)
 {
     std::vector<tensor_array> found(arrays.size());
@@ -64,16 +70,18 @@ inline const std::uint8_t *bytes(std::string_view header)
     return reinterpret_cast<const std::uint8_t *>(header.data());
 }
 
-/* Has `write` write a list in so many parts, each on a thread of its own, by its first place. */
+/* Calls `write` for `threads` parts of a list, each on its own thread, with the first place of the part.
+   If calls throw, it throws one of their exceptions again after all have ended. */
 template <typename Write>
 void in_parts(std::span<std::int64_t> out, unsigned threads, const Write &write)
 {
-    std::atomic<int> fault = 0;
+    std::exception_ptr thrown;
+    std::once_flag once;
     auto work = [&](std::size_t first, std::size_t last) {
         try {
             write(first, out.subspan(first, last - first));
-        } catch (const Fault &found) {
-            fault = found.number();
+        } catch (...) {
+            std::call_once(once, [&] { thrown = std::current_exception(); });
         }
     };
     {
@@ -82,13 +90,13 @@ void in_parts(std::span<std::int64_t> out, unsigned threads, const Write &write)
             others.emplace_back(work, out.size() * i / threads, out.size() * (i + 1) / threads);
         work(0, out.size() / std::max(threads, 1u));
     }
-    if (fault)
-        throw Fault(fault);
+    if (thrown)
+        std::rethrow_exception(thrown);
 }
 
 }  // namespace detail
 
-/* The dims of the tensor of a frame of `count` values. None of its own is worked out. */
+/* The dimensions of the answer to a frame with `count` values. It computes no value of the answer. */
 inline std::vector<std::uint64_t> dims(std::string_view header, std::uint64_t count)
 {
     std::uint64_t room[TENSOR_DIMS_ROOM];
@@ -96,8 +104,8 @@ inline std::vector<std::uint64_t> dims(std::string_view header, std::uint64_t co
     return {room + 1, room + 1 + room[0]};
 }
 
-/* Writes the values of a frame's tensor from place `first` on, as many as there are and as there is
-   room for, and returns how many. The frame's arrays stand in the order of their names. */
+/* Writes the values of the answer from place `first` on, as many as there are and as fit. Returns how
+   many it wrote. The arrays come in the order of their names. */
 inline std::size_t evaluate_part(std::string_view header, std::span<const Values> arrays,
                                  std::uint64_t first, std::span<std::int64_t> out)
 {
@@ -107,7 +115,7 @@ inline std::size_t evaluate_part(std::string_view header, std::span<const Values
                                                    out.size()));
 }
 
-/* How many values each part of a frame's answer works out anew, before the first of its own. */
+/* How many values each part of an answer computes again before its own first value. */
 inline std::size_t shared(std::string_view header, std::span<const Values> arrays)
 {
     const auto lying = detail::lying(arrays);
@@ -115,8 +123,8 @@ inline std::size_t shared(std::string_view header, std::span<const Values> array
         tensor_shared(detail::bytes(header), header.size(), lying.data(), lying.size()));
 }
 
-/* Writes the values of a frame's tensor, of which there are as many as `out` has room for, in so many
-   parts, each on a thread of its own. By `shared` it is known whether parts pay. */
+/* Writes all values of the answer to `out`, which has room for exactly these, in `threads` parts, each on
+   its own thread. `shared` tells whether parts pay. */
 inline void evaluate(std::string_view header, std::span<const Values> arrays,
                      std::span<std::int64_t> out, unsigned threads = 1)
 {
@@ -125,10 +133,10 @@ inline void evaluate(std::string_view header, std::span<const Values> arrays,
     });
 }
 
-/* An expression that is read and checked once, and worked out over any arrays of its tensors' dims. */
+/* An expression that is read and checked once, and evaluated over any arrays of its tensors' dims. */
 class Prepared {
 public:
-    /* Of a header, for as many arrays as these, of these lengths. */
+    /* The plan of a header for arrays of these lengths. */
     Prepared(std::string_view header, std::span<const Values> arrays)
         : plan_(TENSOR_PLAN_ROOM(arrays.size()))
     {
@@ -140,7 +148,7 @@ public:
         plan_.shrink_to_fit();
     }
 
-    /* As evaluate_part and evaluate do, and no text is read. Threads may ask at once. */
+    /* These do what evaluate_part and evaluate do, and read no text. Any number of threads may call them. */
     std::size_t run_part(std::span<const Values> arrays, std::uint64_t first,
                          std::span<std::int64_t> out) const
     {
