@@ -34,37 +34,7 @@ impl Kernel for Places {
     }
 }
 
-/// The same, but for one place there may be no memory.
-#[derive(Drop)]
-pub(crate) struct Refusing {
-    pub(crate) place: Option<u64>,
-}
-
-impl Kernel for Refusing {
-    ghost use Rattle.std.specs.Prelude.{◌^◌};
-
-    type Item = u64;
-
-    ghost size = { λ _. 2 ^ 64 };
-
-    ghost item_at = { λ _ place. place };
-
-    fn fill<A: Allocator>(
-        &self,
-        alloc: A,
-        first: u64,
-        last: u64,
-    ) -> Result<Vec<u64, A>, AllocError> {
-        if let Some(place) = self.place {
-            if (first..last).contains(&place) {
-                return Err(AllocError);
-            }
-        }
-        Places.fill(alloc, first, last)
-    }
-}
-
-/// Places whose leaves wait for one another, each so long, until all have begun.
+/// The same, but the leaves wait for one another, each so long, until all have begun.
 #[derive(Drop)]
 pub(crate) struct Meeting {
     leaves: u64,

@@ -1,7 +1,7 @@
 //! Ranges on workers.
 ghost use Rattle.std.specs.Prelude.{◌≤◌};
 
-use crate::kernels::{Meeting, Places, Refusing};
+use crate::kernels::{Meeting, Places};
 use parallel_for::{ForFault, Kernel, parallel_for};
 use std::alloc::{AllocError, Global};
 use std::process::Abort;
@@ -38,18 +38,16 @@ fn first_wrong(numbers: &[u64]) -> Option<u64> {
 }
 
 /// So many workers with the partitions of these rows give the numbers of so many places in order,
-/// by blocks, or this fault. For one place there may be no memory.
+/// by blocks, or this fault.
 fn expect_places<RT: Threads + Wait + Abort + Sync>(
     rt: &RT,
     alloc: Global,
     (workers, ranges): (u32, &[(u32, u32)]),
     (places, block): (u64, u64),
-    refused: Option<u64>,
     fault: Option<ForFault>,
 ) -> Result<(), Fail> {
     let setup = setup_of(alloc, workers, ranges)?;
-    let kernel = Refusing { place: refused };
-    let answer = parallel_for(rt, alloc, &setup, &kernel, places, block);
+    let answer = parallel_for(rt, alloc, &setup, &Places, places, block);
     let found = match &answer {
         Ok(items) => (Some(items.len() as u64), first_wrong(items), None),
         Err(fault) => (None, None, Some(*fault)),
@@ -58,7 +56,7 @@ fn expect_places<RT: Threads + Wait + Abort + Sync>(
     assert_eq!(rt;
         found,
         (count, None, fault),
-        "{workers} workers, {ranges:?}, {places} places by {block}, {refused:?}"
+        "{workers} workers, {ranges:?}, {places} places by {block}"
     );
     Ok(())
 }
@@ -130,7 +128,7 @@ const FAULTS: &[(u32, &[(u32, u32)], u64, u64, Option<ForFault>)] = &[
 fn faults_by_number(rt: HostRuntime) -> Result<(), Fail> {
     for &(workers, ranges, places, block, fault) in FAULTS {
         let workers = (workers, ranges);
-        expect_places(&rt, rt.alloc(), workers, (places, block), None, fault)?;
+        expect_places(&rt, rt.alloc(), workers, (places, block), fault)?;
     }
     Ok(())
 }
@@ -151,43 +149,7 @@ const PLACES: &[(u64, u64)] = &[
 fn all_places_on_any_number_of_workers(rt: HostRuntime) -> Result<(), Fail> {
     for workers in [1, 2, 3, 64] {
         for &places in PLACES {
-            expect_places(&rt, rt.alloc(), (workers, &[]), places, None, None)?;
-        }
-    }
-    Ok(())
-}
-
-/// Places and blocks, and the place for which there is no memory.
-const REFUSED: &[((u64, u64), u64)] = &[
-    ((1000, 1), 0),
-    ((1000, 1), 500),
-    ((1000, 1), 999),
-    ((1000, 7), 500),
-    ((1000, 1000), 500),
-];
-
-const NO_MEMORY: Option<ForFault> = Some(ForFault::NoMemory);
-
-/// The call returns, though leaves are missing.
-#[test]
-fn a_leaf_without_memory(rt: HostRuntime) -> Result<(), Fail> {
-    for workers in [1, 2, 64] {
-        for &(places, place) in REFUSED {
-            let workers = (workers, [].as_slice());
-            expect_places(&rt, rt.alloc(), workers, places, Some(place), NO_MEMORY)?;
-        }
-    }
-    Ok(())
-}
-
-/// The call returns though a leaf ends without its items, since that leaf gives its notice too. The
-/// last block has one place.
-#[test]
-fn each_leaf_without_memory_in_turn(rt: HostRuntime) -> Result<(), Fail> {
-    for workers in [1, 2] {
-        for place in (0..100).step_by(3) {
-            let workers = (workers, [].as_slice());
-            expect_places(&rt, rt.alloc(), workers, (100, 3), Some(place), NO_MEMORY)?;
+            expect_places(&rt, rt.alloc(), (workers, &[]), places, None)?;
         }
     }
     Ok(())

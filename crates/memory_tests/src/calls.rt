@@ -18,23 +18,20 @@ type Heap = Sparing<Global>;
 /// A call that takes memory.
 #[derive(Clone, Copy, Debug)]
 pub(crate) enum Call {
-    Barrier { notices: u64 },
+    Barrier,
     Notification,
-    EventCount { waiters: u16 },
-    EventCountAtTheLastEpoch { waiters: u16 },
-    EventCountAsPoint { waiters: u16 },
-    LockedCount { waiters: u16 },
-    RowCount { waiters: u16 },
-    RowPoint { waiters: u16 },
+    EventCount,
+    EventCountAtTheLastEpoch,
+    EventCountAsPoint,
+    LockedCount,
+    RowCount,
+    RowPoint,
     World,
     Row,
     LockedRows,
     SlotRows,
     WakingRows,
     OnOneCount,
-    TooManyRows,
-    TooManySlotRows,
-    TooManyWakingRows,
     Coprimes,
     Leaves,
 }
@@ -43,7 +40,6 @@ pub(crate) enum Call {
 #[derive(Clone, Copy, Debug, Eq, PartialEq)]
 pub(crate) enum Answer {
     NoMemory,
-    TooMuch,
     /// As it is to answer where it has memory.
     Right,
     /// Otherwise.
@@ -64,7 +60,7 @@ impl Answer {
         match counted {
             Ok(seats_and_word) => Answer::right_where(seats_and_word == (3, 0x3FFF)),
             Err(CountFault::NoMemory) => Answer::NoMemory,
-            Err(CountFault::TooManyWaiters) => Answer::TooMuch,
+            Err(CountFault::TooManyWaiters) => Answer::Wrong,
         }
     }
 
@@ -73,7 +69,7 @@ impl Answer {
         match counted {
             Ok(seats_and_word) => Answer::right_where(seats_and_word == (3, 0x3FFF)),
             Err(RowFault::NoMemory) => Answer::NoMemory,
-            Err(RowFault::TooManyWaiters) | Err(RowFault::TooManyCredits) => Answer::TooMuch,
+            Err(RowFault::TooManyWaiters) | Err(RowFault::TooManyCredits) => Answer::Wrong,
         }
     }
 
@@ -81,7 +77,7 @@ impl Answer {
         match answered {
             Ok(is_right) => Answer::right_where(is_right),
             Err(RowsFault::NoMemory) => Answer::NoMemory,
-            Err(RowsFault::TooManyRows) => Answer::TooMuch,
+            Err(RowsFault::TooManyRows) => Answer::Wrong,
         }
     }
 
@@ -96,40 +92,31 @@ impl Answer {
 /// Makes a call.
 pub(crate) fn make<R: Wait>(rt: &R, call: Call, heap: &Heap) -> Answer {
     match call {
-        Call::Barrier { notices } => barrier(heap, notices),
+        Call::Barrier => barrier(heap),
         Call::Notification => Answer::of_memory(notification(heap)),
-        Call::EventCount { waiters } => Answer::of_count(count(heap, waiters)),
-        Call::EventCountAtTheLastEpoch { waiters } => {
-            Answer::of_count(count_at_the_last(heap, waiters))
-        }
-        Call::EventCountAsPoint { waiters } => {
-            Answer::of_count(point::<EventCount<&Heap>>(heap, waiters))
-        }
-        Call::LockedCount { waiters } => {
-            Answer::of_count(point::<LockedCount<&Heap>>(heap, waiters))
-        }
-        Call::RowCount { waiters } => Answer::of_row_count(row_count(heap, waiters)),
-        Call::RowPoint { waiters } => Answer::of_count(point::<RowPoint<&Heap>>(heap, waiters)),
+        Call::EventCount => Answer::of_count(count(heap)),
+        Call::EventCountAtTheLastEpoch => Answer::of_count(count_at_the_last(heap)),
+        Call::EventCountAsPoint => Answer::of_count(point::<EventCount<&Heap>>(heap)),
+        Call::LockedCount => Answer::of_count(point::<LockedCount<&Heap>>(heap)),
+        Call::RowCount => Answer::of_row_count(row_count(heap)),
+        Call::RowPoint => Answer::of_count(point::<RowPoint<&Heap>>(heap)),
         Call::World => Answer::of_memory(world(heap)),
         Call::Row => Answer::of_memory(row(heap)),
         Call::LockedRows => Answer::of_rows(two_rows::<R, LockedRows<u64, &Heap>>(rt, heap)),
         Call::SlotRows => Answer::of_rows(two_rows::<R, SlotRows<u64, &Heap>>(rt, heap)),
         Call::WakingRows => Answer::of_rows(two_rows::<R, WakingRows<u64, &Heap>>(rt, heap)),
         Call::OnOneCount => Answer::of_memory(one_count(rt, heap)),
-        Call::TooManyRows => Answer::of_rows(too_many_rows::<LockedRows<u64, &Heap>>(heap)),
-        Call::TooManySlotRows => Answer::of_rows(too_many_rows::<SlotRows<u64, &Heap>>(heap)),
-        Call::TooManyWakingRows => Answer::of_rows(too_many_rows::<WakingRows<u64, &Heap>>(heap)),
         Call::Coprimes => Answer::of_memory(coprimes(heap)),
         Call::Leaves => Answer::of_memory(leaves_of_ten(heap)),
     }
 }
 
 /// The share that is handed out has all notices.
-fn barrier(heap: &Heap, notices: u64) -> Answer {
-    match Barrier::new(heap, notices) {
-        Ok((_barrier, _waiter, share)) => Answer::right_where(share.notices() == notices),
+fn barrier(heap: &Heap) -> Answer {
+    match Barrier::new(heap, 2) {
+        Ok((_barrier, _waiter, share)) => Answer::right_where(share.notices() == 2),
         Err(BarrierFault::NoMemory) => Answer::NoMemory,
-        Err(BarrierFault::TooLarge) => Answer::TooMuch,
+        Err(BarrierFault::TooLarge) => Answer::Wrong,
     }
 }
 
@@ -140,30 +127,27 @@ fn notification(heap: &Heap) -> Result<bool, AllocError> {
 }
 
 /// How many seats a new count has, and the word that it is closed at.
-fn count(heap: &Heap, waiters: u16) -> Result<(usize, u64), CountFault> {
-    let (count, seats) = EventCount::new(heap, waiters, 1)?;
+fn count(heap: &Heap) -> Result<(usize, u64), CountFault> {
+    let (count, seats) = EventCount::new(heap, 2, 1)?;
     Ok((seats.len(), count.close(seats)))
 }
 
 /// The same, of a count whose seats have their last epoch.
-fn count_at_the_last(heap: &Heap, waiters: u16) -> Result<(usize, u64), CountFault> {
-    let (count, seats) = EventCount::new_at(heap, waiters, 1, 4_194_303)?;
+fn count_at_the_last(heap: &Heap) -> Result<(usize, u64), CountFault> {
+    let (count, seats) = EventCount::new_at(heap, 2, 1, 4_194_303)?;
     Ok((seats.len(), count.close(seats)))
 }
 
-/// The same, of what a pool waits at. One waits at the least.
-fn point<'h, P: WaitPoint<&'h Heap>>(
-    heap: &'h Heap,
-    waiters: u16,
-) -> Result<(usize, u64), CountFault> {
-    let (point, seats) = P::open(heap, waiters.max(1), 1)?;
+/// The same, of what a pool waits at.
+fn point<'h, P: WaitPoint<&'h Heap>>(heap: &'h Heap) -> Result<(usize, u64), CountFault> {
+    let (point, seats) = P::open(heap, 2, 1)?;
     Ok((seats.len(), point.shut(seats)))
 }
 
-/// The same, of a count with three rows. One waits at the least.
-fn row_count(heap: &Heap, waiters: u16) -> Result<(usize, u64), RowFault> {
+/// The same, of a count with three rows.
+fn row_count(heap: &Heap) -> Result<(usize, u64), RowFault> {
     let sizes = RowSizes {
-        waiters: waiters.max(1),
+        waiters: 2,
         notifiers: 1,
         first: 0,
         rows: 3,
@@ -223,12 +207,6 @@ fn one_count<R: Wait>(rt: &R, heap: &Heap) -> Result<bool, AllocError> {
     let taken = rows.pop_back(rt, seat, 1);
     let is_right = counts == (3, 3) && put.is_ok() && answer == Committed::Consumed;
     Ok(is_right && taken == Some(7))
-}
-
-/// Rows that are too many.
-fn too_many_rows<'h, Q: Rows<u64, &'h Heap>>(heap: &'h Heap) -> Result<bool, RowsFault> {
-    let (_rows, _seats) = Q::open(heap, 257, 1)?;
-    Ok(false)
 }
 
 fn coprimes(heap: &Heap) -> Result<bool, AllocError> {

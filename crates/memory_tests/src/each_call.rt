@@ -1,5 +1,4 @@
-//! Each call by itself: how many allocations it takes, and that it asks for none where it is
-//! refused for another reason.
+//! Each call by itself: how many allocations it takes.
 
 use crate::calls::{Answer, Call, make};
 use crate::refusing::Sparing;
@@ -7,17 +6,17 @@ use crate::refusing::Sparing;
 /// Calls, and how many allocations each takes.
 const CALLS: &[(Call, u64)] = &[
     // A table takes two blocks.
-    (Call::Barrier { notices: 2 }, 2),
+    (Call::Barrier, 2),
     (Call::Notification, 2),
     // The words take one block, the seats another, and a table two.
-    (Call::EventCount { waiters: 2 }, 4),
-    (Call::EventCountAtTheLastEpoch { waiters: 2 }, 4),
-    (Call::EventCountAsPoint { waiters: 2 }, 4),
-    (Call::RowCount { waiters: 2 }, 4),
+    (Call::EventCount, 4),
+    (Call::EventCountAtTheLastEpoch, 4),
+    (Call::EventCountAsPoint, 4),
+    (Call::RowCount, 4),
     // A count, the list of its waiters and the block that is shared.
-    (Call::RowPoint { waiters: 2 }, 6),
+    (Call::RowPoint, 6),
     // The World takes eight blocks, and the seats one.
-    (Call::LockedCount { waiters: 2 }, 9),
+    (Call::LockedCount, 9),
     // Nine lists, one allocation each, and for each of the two workers a list of the rows that it
     // has passed. The events take none.
     (Call::World, 11),
@@ -39,24 +38,6 @@ const CALLS: &[(Call, u64)] = &[
 /// More than any of them takes.
 const AMPLE: u64 = 28;
 
-/// Calls that ask for too much.
-const TOO_MUCH: &[Call] = &[
-    Call::Barrier {
-        notices: 2_147_483_648,
-    },
-    Call::EventCount { waiters: 16_383 },
-    Call::EventCountAtTheLastEpoch { waiters: 16_383 },
-    Call::EventCountAsPoint { waiters: 16_383 },
-    Call::LockedCount { waiters: 16_383 },
-    Call::RowCount { waiters: 16_383 },
-    // Its seats have too many credits together.
-    Call::RowCount { waiters: 16_382 },
-    Call::RowPoint { waiters: 16_383 },
-    Call::TooManyRows,
-    Call::TooManySlotRows,
-    Call::TooManyWakingRows,
-];
-
 #[test]
 fn each_allocation_of_each_call(rt: HostRuntime) {
     for &(call, takes) in CALLS {
@@ -70,14 +51,5 @@ fn each_allocation_of_each_call(rt: HostRuntime) {
             let found = make(&rt, call, &heap);
             assert_eq!(rt; found, wanted, "{call:?} after {left}");
         }
-    }
-}
-
-#[test]
-fn too_much_comes_before_memory(rt: HostRuntime) {
-    for &call in TOO_MUCH {
-        let none = Sparing::new(rt.alloc(), 0);
-        let found = make(&rt, call, &none);
-        assert_eq!(rt; found, Answer::TooMuch, "{call:?}");
     }
 }

@@ -1,7 +1,7 @@
 //! Ranges that are evaluated on workers.
 use crate::halves::Halves;
 use crate::refusing::Sparing;
-use parallel_for::{ForFault, PoolFault, Setup, parallel_for};
+use parallel_for::{ForFault, Setup, parallel_for};
 use std::alloc::Allocator;
 use std::process::Abort;
 use std::sync::Wait;
@@ -80,23 +80,4 @@ fn each_allocation_of_one_block(rt: HostRuntime) -> Result<(), Fail> {
     let one = Sparing::new(rt.alloc(), 1);
     expect_halves(&rt, 2, &halves(&rt, &one, 2, PLACES)?);
     Ok(())
-}
-
-#[test]
-fn faults_of_range_come_before_memory(rt: HostRuntime) {
-    let bad_workers = ForFault::Pool(PoolFault::BadWorkers);
-    for (workers, block, fault) in [
-        (1, 0, ForFault::BadBlock),
-        (0, 0, ForFault::BadBlock),
-        (0, BLOCK, bad_workers),
-        (257, BLOCK, bad_workers),
-    ] {
-        let none = Sparing::new(rt.alloc(), 0);
-        let answer = halves(&rt, &none, workers, block);
-        assert_eq!(rt;
-            answer.err(),
-            Some(fault),
-            "{workers} workers, block {block}"
-        );
-    }
 }

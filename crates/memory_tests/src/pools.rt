@@ -15,8 +15,6 @@ const JOBS: u64 = 40;
 /// How many allocations beyond its opening's a pool is tried with, which suffice for all jobs.
 const MOST_MORE: u64 = 64;
 
-const ENTRIES: &[Entry] = &[Entry::Body, Entry::Root, Entry::CountedRoot];
-
 /// How pools are opened, numbers of workers, and how many allocations an opening takes: under locks
 /// the rows three and one for each worker, and the count nine; over one count both together 26; the
 /// stop word two, the coprimes and the hands one each, and four the lists of what comes home.
@@ -199,18 +197,6 @@ fn each_allocation_where_a_step_finds_no_memory(rt: HostRuntime) -> Result<(), F
             expect_all_ended(&rt, pool, &ran);
             let all = ran.refused == 1 && ran.starved == 1;
             assert!(rt; all || more < MOST_MORE, "{pool:?}, {more} more");
-        }
-    }
-    Ok(())
-}
-
-#[test]
-fn workers_out_of_range_come_before_memory(rt: HostRuntime) -> Result<(), Fail> {
-    for &entry in ENTRIES {
-        for workers in [0, 257] {
-            let ran = run_with(&rt, rt.alloc(), 0, pool_of(entry, workers))?;
-            let found = (ran.fault, ran.calls, ran.steps);
-            assert_eq!(rt; found, (Some(PoolFault::BadWorkers), 0, 0), "{entry:?}");
         }
     }
     Ok(())

@@ -20,16 +20,3 @@ fn lists_the_coprimes(rt: HostRuntime) {
         assert!(rt; coprimes.numbers() == numbers, "of {n}");
     }
 }
-
-/// As many as a full pool has rows.
-#[test]
-fn lists_the_coprimes_of_a_full_pool(rt: HostRuntime) {
-    let Ok(coprimes) = Coprimes::new(rt.alloc(), 256) else {
-        panic!(rt; "no memory")
-    };
-    let mut odd: u64 = 0;
-    for number in coprimes.numbers() {
-        odd = odd.saturating_add(u64::from(number % 2));
-    }
-    assert!(rt; odd == 128 && coprimes.numbers().len() == 128);
-}

@@ -23,11 +23,7 @@ mod rows;
 #[cfg(test)]
 mod sequences;
 #[cfg(test)]
-mod sizes;
-#[cfg(test)]
 mod slot_rows;
-#[cfg(test)]
-mod small_worlds;
 #[cfg(test)]
 mod steps;
 #[cfg(test)]

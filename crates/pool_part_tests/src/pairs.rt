@@ -2,29 +2,15 @@
 ghost use Rattle.std.specs.Prelude.{◌≡◌, ◌<◌, []};
 ghost use Rattle.event_word.specs.declared.phase.Phase.TheVariants.{Running, Pre};
 
-use event_count::{Committed, CountFault, EventCount, LockedCount, WaitPoint};
+use event_count::{Committed, EventCount, LockedCount, WaitPoint};
 use std::alloc::Global;
 use std::process::Abort;
 use std::sync::Wait;
 use std::sync::atomic::{AtomicU64, Ordering};
 use std::thread::{self, Threads};
-use waking_rows::RowPoint;
 
 /// How often the word goes to and fro.
 const TURNS: u64 = 100_000;
-
-/// A point of two waiters and three notifiers is opened and shut, and one of too many waiters isn't
-/// opened.
-fn opens_and_shuts<P: WaitPoint<Global>, R: Abort>(rt: &R, alloc: Global) {
-    let Ok((point, seats)) = P::open(alloc, 2, 3) else {
-        panic!(rt; "no point")
-    };
-    let many = seats.len();
-    let word = point.shut(seats);
-    let refused = P::open(alloc, 16_383, 1).err();
-    let is_refused = refused == Some(CountFault::TooManyWaiters);
-    assert!(rt; many == 5 && word == 0x3FFF && is_refused);
-}
 
 /// A point of one waiter and one notifier, with their seats.
 fn pair<P: WaitPoint<Global>, R: Abort>(rt: &R, alloc: Global) -> (P, P::Seat, P::Seat)
@@ -161,7 +147,6 @@ fn expect_point<P: WaitPoint<Global> + Sync, R: Threads + Wait + Abort + Sync>(
 where
     P::Seat: Send,
 {
-    opens_and_shuts::<P, R>(rt, alloc);
     consumes_signals::<P, R>(rt, alloc);
     goes_to_and_fro::<P, R>(rt, alloc);
 }
@@ -170,6 +155,4 @@ where
 fn points_with_and_without_a_lock(rt: HostRuntime) {
     expect_point::<LockedCount, HostRuntime>(&rt, rt.alloc());
     expect_point::<EventCount, HostRuntime>(&rt, rt.alloc());
-    // Who puts a job in wakes one there: `wake_one` does nothing.
-    opens_and_shuts::<RowPoint, HostRuntime>(&rt, rt.alloc());
 }

@@ -2,7 +2,7 @@
 ghost use Rattle.std.specs.Prelude.{◌≡◌, ◌<◌, IsTrue};
 
 use crate::told::expect;
-use run_queue::{LockedRows, Rows, RowsFault, SlotRows};
+use run_queue::{LockedRows, Rows, SlotRows};
 use std::alloc::Global;
 use std::process::Abort;
 use std::sync::Wait;
@@ -30,34 +30,7 @@ struct Story {
     left: Option<&'static [u32]>,
 }
 
-const STORIES: [Story; 5] = [
-    Story {
-        name: "one job at the back",
-        jobs: 0,
-        outsider: &[
-            Call::PutBack(1, 7, Ok(())),
-            Call::Length(0, 0),
-            Call::Length(1, 1),
-        ],
-        owner: &[],
-        thief: &[],
-        left: Some(&[7]),
-    },
-    Story {
-        name: "an owner at the front",
-        jobs: 0,
-        outsider: &[],
-        owner: &[
-            Call::TakeFront(None),
-            Call::PutFront(10, Ok(())),
-            Call::PutFront(20, Ok(())),
-            Call::PutBack(1, 30, Ok(())),
-            Call::PutFront(40, Ok(())),
-            Call::TakeFront(Some(40)),
-        ],
-        thief: &[],
-        left: Some(&[20, 10, 30]),
-    },
+const STORIES: [Story; 3] = [
     Story {
         name: "a thief at the back",
         jobs: 0,
@@ -103,13 +76,6 @@ const STORIES: [Story; 5] = [
         ],
         left: None,
     },
-];
-
-/// Rows and outsiders, and the fault of such rows.
-const OPENINGS: &[(u16, u16, Option<RowsFault>)] = &[
-    (0, 0, None),
-    (256, 1, None),
-    (257, 1, Some(RowsFault::TooManyRows)),
 ];
 
 /// Whether the seat, which may own one of the two rows, is answered as the call says.
@@ -212,22 +178,7 @@ fn tell<Q: Rows<u32, Global>, R: Wait + Abort>(
     }
 }
 
-/// Rows of each size are refused for what is told, or else have their seats, and no job.
-fn expect_openings<Q: Rows<u32, Global>, R: Abort>(rt: &R, alloc: Global) {
-    for &(rows, outsiders, fault) in OPENINGS {
-        let is_right = match Q::open(alloc, rows, outsiders) {
-            Ok((opened, seats)) => {
-                let has_seats = seats.len() == usize::from(rows) + usize::from(outsiders);
-                opened.drain_all(seats).is_empty() && has_seats && fault.is_none()
-            }
-            Err(found) => Some(found) == fault,
-        };
-        assert!(rt; is_right, "{rows} and {outsiders}");
-    }
-}
-
 fn expect_rows<Q: Rows<u32, Global>, R: Wait + Abort>(rt: &R, alloc: Global, in_order: bool) {
-    expect_openings::<Q, R>(rt, alloc);
     for story in &STORIES {
         tell::<Q, R>(rt, alloc, in_order, story);
     }

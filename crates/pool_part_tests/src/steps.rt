@@ -32,8 +32,6 @@ pub(crate) struct Sequence {
 pub(crate) enum Step {
     /// It says that it is in this phase, whether it has looked, and that it owes nobody.
     Says(Phase, bool),
-    /// It says that it owes an unpark.
-    Owes,
     /// It looks, and finds this word.
     Looks(u64),
     /// It runs, and becomes a pre-waiter.
@@ -45,8 +43,6 @@ pub(crate) enum Step {
     TriesNotifyAll(TryNotifyAll),
     TriesToken(bool),
     TriesUnpark(Option<u16>),
-    /// It unparks some seat.
-    Unparks,
     /// It makes a call that may wait.
     Commits(Committed),
     Cancels,
@@ -55,13 +51,7 @@ pub(crate) enum Step {
 }
 
 /// Whether the seat may take the step, and finds and answers what the step says.
-pub(crate) fn takes<R: Wait>(
-    rt: &R,
-    count: &EventCount,
-    waiters: u16,
-    seat: &mut Seat,
-    step: Step,
-) -> bool
+fn takes<R: Wait>(rt: &R, count: &EventCount, waiters: u16, seat: &mut Seat, step: Step) -> bool
     requires of { IsSeatOf count.now seat.old }
     requires waiters { (sizes_of count.now).waiters ≡ waiters }
     ensures of { IsSeatOf count.now seat.new }
@@ -70,10 +60,8 @@ pub(crate) fn takes<R: Wait>(
         Step::Says(phase, looked) => {
             (seat.phase(), seat.looked(), seat.owing()) == (phase, looked, false)
         }
-        Step::Owes => seat.owing(),
         Step::Looks(word) => count.look(seat) == word,
         Step::TriesUnpark(told) => count.try_unpark_next(seat) == told,
-        Step::Unparks => count.try_unpark_next(seat).is_some(),
         _ if is_idle(seat) => take_running(rt, count, waiters, seat, step),
         _ if seat.owing() => false,
         Step::TriesToken(told) if seat.phase() == Phase::Stacked => {
@@ -159,7 +147,7 @@ fn take_each<R: Wait + Abort>(
 }
 
 /// Whether the seat runs and owes nobody an unpark.
-pub(crate) fn is_idle(seat: &Seat) -> bool
+fn is_idle(seat: &Seat) -> bool
     ensures { IsTrue result ↔ IsIdle seat.now }
 {
     seat.phase() == Phase::Running && !seat.owing()

@@ -14,7 +14,7 @@ struct Course {
 
 const HALF: u32 = 1 << 31;
 
-const COURSES: [Course; 6] = [
+const COURSES: [Course; 4] = [
     Course {
         word: HALF,
         start: 0,
@@ -32,18 +32,6 @@ const COURSES: [Course; 6] = [
         start: 10,
         limit: 16,
         rows: &[15, 14, 13, 12, 11, 10],
-    },
-    Course {
-        word: HALF,
-        start: 2,
-        limit: 7,
-        rows: &[4, 2, 5, 3, 6],
-    },
-    Course {
-        word: HALF,
-        start: 0,
-        limit: 1,
-        rows: &[0],
     },
     Course {
         word: 0,

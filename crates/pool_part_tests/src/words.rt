@@ -80,39 +80,9 @@ const WORDS: &[(&str, u64, Step)] = &[
         NONE_WAITING,
         Step::NotifiesAll(AfterNotifyAll::Nothing),
     ),
-    // Two pre-waiters and one signal, then none of either.
-    (
-        "two pre-waiters and a signal",
-        0x1000_BFFF,
-        Step::Unpacks(Fields {
-            top: 16_383,
-            pre: 2,
-            signals: 1,
-            epoch: 0,
-        }),
-    ),
+    // Of two pre-waiters and one signal.
     ("a cancel", 0x1000_BFFF, Step::Cancels(0x1000_7FFF)),
-    (
-        "a pre-waiter and a signal",
-        0x1000_7FFF,
-        Step::Unpacks(Fields {
-            top: 16_383,
-            pre: 1,
-            signals: 1,
-            epoch: 0,
-        }),
-    ),
     ("a second cancel", 0x1000_7FFF, Step::Cancels(NONE_WAITING)),
-    (
-        "nobody",
-        NONE_WAITING,
-        Step::Unpacks(Fields {
-            top: 16_383,
-            pre: 0,
-            signals: 0,
-            epoch: 0,
-        }),
-    ),
 ];
 
 /// Whether the step may be taken, and makes of the word what it says.

@@ -2,17 +2,24 @@
 ghost use Rattle.std.specs.Prelude.{◌≡◌, ◌+◌, length};
 ghost use Rattle.event_word.specs.Play.{SameSizes};
 
-use crate::sizes::Sizes;
 use crate::told::expect;
 use event_word::{Event, Phase, World};
 use std::alloc::Global;
 use std::process::Abort;
 
+/// How many of each a World has.
+#[derive(Clone, Copy)]
+struct Sizes {
+    workers: u16,
+    notifiers: u16,
+    rows: u16,
+}
+
 /// What a World is asked to do or to tell, and its answer.
 #[derive(Clone, Copy)]
 enum Ask {
-    /// To play these events, so many times over, of which so many are possible.
-    Plays(u32, &'static [Event], u64),
+    /// To play these events, of which so many are possible.
+    Plays(&'static [Event], u64),
     /// To take a step, and whether it is possible.
     Steps(Event, bool),
     Phase(u16, Phase),
@@ -51,12 +58,7 @@ const TWO_ASLEEP: [Event; 7] = [
     Event::Prewait { seat: 1 },
 ];
 
-const PUBLISHED: [Event; 2] = [
-    Event::Publish { actor: 1, row: 0 },
-    Event::Notify { actor: 1 },
-];
-
-const RUNS: [Run; 10] = [
+const RUNS: [Run; 5] = [
     Run {
         name: "consumes a signal",
         sizes: Sizes {
@@ -66,7 +68,6 @@ const RUNS: [Run; 10] = [
         },
         asks: &[
             Ask::Plays(
-                1,
                 &[
                     Event::Prewait { seat: 0 },
                     Event::PassFlag { seat: 0 },
@@ -78,7 +79,7 @@ const RUNS: [Run; 10] = [
             Ask::Phase(0, Phase::Running),
             Ask::Signals(0),
             Ask::Pre(&[]),
-            Ask::Plays(1, &[Event::Commit { seat: 0 }], 0),
+            Ask::Plays(&[Event::Commit { seat: 0 }], 0),
         ],
     },
     // The notifier's number is 2.
@@ -131,7 +132,7 @@ const RUNS: [Run; 10] = [
             rows: 0,
         },
         asks: &[
-            Ask::Plays(1, &TWO_ASLEEP, 7),
+            Ask::Plays(&TWO_ASLEEP, 7),
             Ask::Stack(&[2, 0]),
             Ask::Pre(&[1]),
             Ask::Phase(0, Phase::Stacked),
@@ -149,7 +150,7 @@ const RUNS: [Run; 10] = [
             rows: 0,
         },
         asks: &[
-            Ask::Plays(1, &TWO_ASLEEP, 7),
+            Ask::Plays(&TWO_ASLEEP, 7),
             Ask::Steps(Event::NotifyAll { actor: 3 }, true),
             Ask::Owed(3, 0, Some(2)),
             Ask::Owed(3, 1, Some(0)),
@@ -169,7 +170,6 @@ const RUNS: [Run; 10] = [
         sizes: ONE_ROW,
         asks: &[
             Ask::Plays(
-                1,
                 &[
                     Event::Prewait { seat: 0 },
                     Event::PassFlag { seat: 0 },
@@ -186,95 +186,7 @@ const RUNS: [Run; 10] = [
             Ask::Length(0, 0),
         ],
     },
-    Run {
-        name: "a row with jobs is not passed",
-        sizes: ONE_ROW,
-        asks: &[
-            Ask::Plays(
-                1,
-                &[
-                    Event::Prewait { seat: 0 },
-                    Event::Publish { actor: 1, row: 0 },
-                    Event::Pass { seat: 0, row: 0 },
-                    Event::Notify { actor: 1 },
-                    Event::Cancel { seat: 0 },
-                    Event::Take { actor: 0, row: 0 },
-                ],
-                5,
-            ),
-            Ask::Signals(0),
-            Ask::Length(0, 0),
-        ],
-    },
-    Run {
-        name: "a stop ends a sleeper",
-        sizes: ONE_ROW,
-        asks: &[
-            Ask::Plays(
-                1,
-                &[
-                    Event::Prewait { seat: 0 },
-                    Event::PassFlag { seat: 0 },
-                    Event::Pass { seat: 0, row: 0 },
-                    Event::Commit { seat: 0 },
-                    Event::Stop { actor: 1 },
-                    Event::End { seat: 0 },
-                    Event::NotifyAll { actor: 1 },
-                    Event::Unpark { actor: 1 },
-                    Event::Wake { seat: 0 },
-                    Event::Prewait { seat: 0 },
-                    Event::PassFlag { seat: 0 },
-                    Event::Cancel { seat: 0 },
-                    Event::End { seat: 0 },
-                ],
-                11,
-            ),
-            Ask::Stop(2),
-            Ask::Phase(0, Phase::Ended),
-        ],
-    },
-    Run {
-        name: "no commit without each row",
-        sizes: ONE_ROW,
-        asks: &[
-            Ask::Plays(
-                1,
-                &[
-                    Event::Prewait { seat: 0 },
-                    Event::PassFlag { seat: 0 },
-                    Event::Commit { seat: 0 },
-                ],
-                2,
-            ),
-            Ask::Phase(0, Phase::Pre),
-        ],
-    },
-    Run {
-        name: "a row counts its jobs",
-        sizes: ONE_ROW,
-        asks: &[Ask::Plays(1025, &PUBLISHED, 2050), Ask::Length(0, 1025)],
-    },
-    // The publish after 1,048,576 others isn't possible.
-    Run {
-        name: "a row has a limit",
-        sizes: ONE_ROW,
-        asks: &[
-            Ask::Plays(1_048_577, &PUBLISHED, 2 * 1_048_576 + 1),
-            Ask::Length(0, 1_048_576),
-        ],
-    },
 ];
-
-/// How many of the events are possible, so many times over.
-fn played(world: &mut World, times: u32, events: &[Event]) -> u64
-    ensures { SameSizes world.old world.new }
-{
-    let mut taken: u64 = 0;
-    for _ in 0..times {
-        taken = taken.saturating_add(world.play(events));
-    }
-    taken
-}
 
 /// Whether the World answers as it is to.
 fn answers(world: &mut World, sizes: Sizes, ask: Ask) -> bool
@@ -284,7 +196,7 @@ fn answers(world: &mut World, sizes: Sizes, ask: Ask) -> bool
     ensures { SameSizes world.old world.new }
 {
     match ask {
-        Ask::Plays(times, events, told) => played(world, times, events) == told,
+        Ask::Plays(events, told) => world.play(events) == told,
         Ask::Steps(event, told) => world.step(event) == told,
         Ask::Phase(seat, told) => seat < sizes.workers && world.phase(seat) == told,
         Ask::Token(seat, told) => seat < sizes.workers && world.token(seat) == told,

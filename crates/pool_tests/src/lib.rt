@@ -4,13 +4,7 @@
 #[cfg(test)]
 mod bodies;
 #[cfg(test)]
-mod collected;
-#[cfg(test)]
-mod counted;
-#[cfg(test)]
 mod lists;
-#[cfg(test)]
-mod one_count;
 #[cfg(test)]
 mod own_rows;
 #[cfg(test)]

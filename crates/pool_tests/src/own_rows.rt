@@ -1,4 +1,4 @@
-//! Rows that give back every job, and can't be opened for more than one worker.
+//! Rows that give back every job.
 ghost use Rattle.std.specs.Prelude.{◌≡◌, ◌+◌, IfOk, []};
 ghost use Rattle.std.specs.List.{range_with_len};
 
@@ -6,7 +6,7 @@ use run_queue::{MOST_ROWS, Rows, RowsFault};
 use std::alloc::{AllocError, Global};
 use std::sync::Wait;
 
-/// Rows that take no job. More than one answer want of memory.
+/// Rows that take no job.
 #[derive(Drop)]
 pub(crate) struct OwnRows {
     rows: u16,
@@ -39,9 +39,6 @@ impl<J: Drop> Rows<J, Global> for OwnRows {
     fn open(alloc: Global, rows: u16, outsiders: u16) -> Result<(Self, Vec<u32>), RowsFault> {
         if rows > MOST_ROWS {
             return Err(RowsFault::TooManyRows);
-        }
-        if rows > 1 {
-            return Err(RowsFault::NoMemory);
         }
         let seats = seats(alloc, u32::from(rows) + u32::from(outsiders))?;
         Ok((

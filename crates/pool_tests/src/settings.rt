@@ -1,5 +1,5 @@
 //! The settings of pools in which each task is run once.
-use crate::runs::{Kind, RUN, Run, Tasks, expect_each_once, expect_run, run_tasks};
+use crate::runs::{Kind, RUN, Run, Tasks, expect_each_once, expect_run};
 use crate::setups::setup_of;
 use crate::tasks::looking;
 use crate::watch::{Watch, Way, wait_for};
@@ -8,7 +8,7 @@ use run_queue::LockedRows;
 use std::sync::Arc;
 use std::sync::atomic::{AtomicU64, Ordering};
 use std::test::Fail;
-use worker_pool::{BoxedJob, PoolFault, VecLists, with_root};
+use worker_pool::{BoxedJob, VecLists, with_root};
 
 /// Two tasks, the pool being cancelled between them.
 const BETWEEN: Run = Run {
@@ -168,16 +168,4 @@ fn a_gate_that_holds_the_first_turns(rt: HostRuntime) -> Result<(), Fail> {
         },
     )?;
     expect_each_once(&rt, alloc, run, &closed, watch.seen())
-}
-
-/// Rows for more than one worker find no memory.
-#[test]
-fn rows_that_find_no_memory(rt: HostRuntime) -> Result<(), Fail> {
-    let alloc = rt.alloc();
-    let setup = setup_of(alloc, 2, &[])?;
-    let watch = Watch::new(alloc, Way::AtOnce, None)?;
-    let (first, cancelled) = (Vec::new(alloc), Vec::new(alloc));
-    let closed = run_tasks(&rt, alloc, Kind::OwnRows, &setup, &watch, first, cancelled);
-    assert_eq!(rt; closed.err(), Some(PoolFault::NoMemory));
-    Ok(())
 }

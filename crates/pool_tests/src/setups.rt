@@ -71,9 +71,9 @@ fn setups_that_are_taken_and_refused(rt: HostRuntime) -> Result<(), Fail> {
         let setup = setup_of(alloc, workers, ranges)?;
         let found = [
             setup.check().err(),
-            grow(&rt, alloc, trees::Kind::UnderLocks, &setup, 0, None).err(),
-            grow(&rt, alloc, trees::Kind::Planted, &setup, 0, None).err(),
-            grow(&rt, alloc, trees::Kind::Counted, &setup, 0, None).err(),
+            grow(&rt, alloc, trees::Kind::UnderLocks, &setup, 0).err(),
+            grow(&rt, alloc, trees::Kind::Planted, &setup, 0).err(),
+            grow(&rt, alloc, trees::Kind::Counted, &setup, 0).err(),
             fault_of(&rt, alloc, &setup, None)?,
             fault_of(&rt, alloc, &setup, Some(1))?,
         ];

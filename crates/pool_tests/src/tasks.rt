@@ -40,7 +40,7 @@ pub(crate) fn out_of(tag: u64) -> TaskOut {
 }
 
 /// A job that answers ten times this tag.
-pub(crate) fn job_of(alloc: Global, tag: u64) -> Result<BoxedJob, AllocError> {
+fn job_of(alloc: Global, tag: u64) -> Result<BoxedJob, AllocError> {
     Ok(BoxedJob(Box::new(alloc, Tenfold { tag })?))
 }
 

@@ -14,8 +14,7 @@ use worker_pool::{
     Closed, Job, NoGate, PoolFault, Progress, Setup, VecLists, with_counted_root, with_root,
 };
 
-/// The leaves of a tree, each by its place. A tree of height 0 is a leaf. The leaf at the context's
-/// place finds no memory.
+/// The leaves of a tree, each by its place. A tree of height 0 is a leaf.
 #[derive(Drop)]
 pub(crate) struct Tree {
     place: u64,
@@ -23,7 +22,7 @@ pub(crate) struct Tree {
 }
 
 impl Job<Global> for Tree {
-    type Ctx = Option<u64>;
+    type Ctx = ();
 
     type Out = u64;
 
@@ -39,15 +38,8 @@ impl Job<Global> for Tree {
         u64::from(self.height)
     }
 
-    fn step(
-        self,
-        _alloc: Global,
-        refused: &Option<u64>,
-    ) -> Result<Progress<Tree, u64>, AllocError> {
+    fn step(self, _alloc: Global, _ctx: &()) -> Result<Progress<Tree, u64>, AllocError> {
         let Some(height) = self.height.checked_sub(1) else {
-            if Some(self.place) == *refused {
-                return Err(AllocError);
-            }
             return Ok(Progress::Done(self.place));
         };
         let place = self.place.wrapping_mul(2);
@@ -57,7 +49,7 @@ impl Job<Global> for Tree {
         Ok(Progress::Fork { kid, rest })
     }
 
-    fn abandon(self, _refused: &Option<u64>) {}
+    fn abandon(self, _ctx: &()) {}
 }
 
 /// How a pool for a tree is opened, what its workers wait at, and take jobs from.
@@ -73,14 +65,13 @@ pub(crate) enum Kind {
     Worn,
 }
 
-/// What a pool leaves of a tree of this height, of which the leaf at a place finds no memory.
+/// What a pool leaves of a tree of this height.
 pub(crate) fn grow<RT: Threads + Wait + Sync>(
     rt: &RT,
     alloc: Global,
     kind: Kind,
     setup: &Setup,
     height: u32,
-    refused: Option<u64>,
 ) -> Result<Closed<Tree>, PoolFault> {
     let watch = Watch::new(alloc, Way::AtOnce, None)?;
     let none = Vec::new(alloc);
@@ -90,7 +81,7 @@ pub(crate) fn grow<RT: Threads + Wait + Sync>(
             rt,
             alloc,
             setup,
-            &refused,
+            &(),
             &NoGate,
             root,
             || {},
@@ -101,7 +92,7 @@ pub(crate) fn grow<RT: Threads + Wait + Sync>(
             rt,
             alloc,
             setup,
-            &refused,
+            &(),
             &NoGate,
             root,
             || {},
@@ -111,24 +102,39 @@ pub(crate) fn grow<RT: Threads + Wait + Sync>(
     first.push_reserved(root);
     match kind {
         Kind::OverSlots => run_all::<EventCount, SlotRows<Tree>, VecLists, RT, Tree>(
-            rt, alloc, setup, &refused, &watch, first, none,
+            rt,
+            alloc,
+            setup,
+            &(),
+            &watch,
+            first,
+            none,
         ),
         Kind::Worn => run_all::<Worn, SlotRows<Tree>, VecLists, RT, Tree>(
-            rt, alloc, setup, &refused, &watch, first, none,
+            rt,
+            alloc,
+            setup,
+            &(),
+            &watch,
+            first,
+            none,
         ),
         _ => run_all::<LockedCount, LockedRows<Tree>, VecLists, RT, Tree>(
-            rt, alloc, setup, &refused, &watch, first, none,
+            rt,
+            alloc,
+            setup,
+            &(),
+            &watch,
+            first,
+            none,
         ),
     }
 }
 
-/// The first place that isn't the next leaf's, where one leaf is left out.
-fn first_wrong(places: &[u64], left_out: Option<u64>) -> Option<u64> {
+/// The first place that isn't the next leaf's.
+fn first_wrong(places: &[u64]) -> Option<u64> {
     let mut next = 0u64;
     for place in places {
-        if Some(next) == left_out {
-            next = next.wrapping_add(1);
-        }
         if *place != next {
             return Some(*place);
         }
@@ -138,18 +144,17 @@ fn first_wrong(places: &[u64], left_out: Option<u64>) -> Option<u64> {
 }
 
 /// A pool leaves each of so many leaves once, in a list for each of its workers and one for the
-/// caller. A leaf without memory is counted.
+/// caller.
 fn expect_leaves<RT>(
     rt: &RT,
     alloc: Global,
     (name, kind, workers, height, leaves): (&str, Kind, u32, u32, u64),
-    refused: Option<u64>,
 ) -> Result<(), Fail>
 where
     RT: Threads + Wait + Abort + Sync,
 {
     let setup = setup_of(alloc, workers, &[])?;
-    let closed = grow(rt, alloc, kind, &setup, height, refused)?;
+    let closed = grow(rt, alloc, kind, &setup, height)?;
     let lists = closed.outs.len() as u64;
     let rest = (closed.left.len(), closed.refused);
     let mut places = Vec::new(alloc);
@@ -157,15 +162,9 @@ where
         places.extend(list)?;
     }
     places.sort_unstable();
-    let found = (
-        lists,
-        places.len() as u64,
-        rest,
-        first_wrong(&places, refused),
-    );
-    let without = if refused.is_some() { 1 } else { 0 };
-    let wanted = (u64::from(workers) + 1, leaves, (0, without), None);
-    assert_eq!(rt; found, wanted, "{name} on {workers} workers, {refused:?}");
+    let found = (lists, places.len() as u64, rest, first_wrong(&places));
+    let wanted = (u64::from(workers) + 1, leaves, (0, 0), None);
+    assert_eq!(rt; found, wanted, "{name} on {workers} workers");
     Ok(())
 }
 
@@ -208,7 +207,7 @@ fn each_leaf_of_trees(rt: HostRuntime) -> Result<(), Fail> {
     for &(name, kind, workers, height, leaves, times) in TREES {
         for _ in 0..times {
             let tree = (name, kind, workers, height, leaves);
-            expect_leaves(&rt, rt.alloc(), tree, None)?;
+            expect_leaves(&rt, rt.alloc(), tree)?;
         }
     }
     Ok(())
@@ -227,27 +226,7 @@ fn pools_that_are_opened_again_and_again(rt: HostRuntime) -> Result<(), Fail> {
     for &(workers, times) in OPENINGS {
         for _ in 0..times {
             let leaf = ("a leaf over slots", Kind::OverSlots, workers, 0, 1);
-            expect_leaves(&rt, rt.alloc(), leaf, None)?;
-        }
-    }
-    Ok(())
-}
-
-/// The same of trees of which each of the 64 leaves in turn finds no memory.
-const HUNGRY: &[(&str, Kind, u32, u32, u64)] = &[
-    ("over slots", Kind::OverSlots, 1, 6, 63),
-    ("over slots", Kind::OverSlots, 2, 6, 63),
-    ("over one count", Kind::Counted, 1, 6, 63),
-    ("over one count", Kind::Counted, 2, 6, 63),
-    ("under locks", Kind::UnderLocks, 1, 6, 63),
-    ("under locks", Kind::UnderLocks, 2, 6, 63),
-];
-
-#[test]
-fn each_leaf_without_memory(rt: HostRuntime) -> Result<(), Fail> {
-    for &tree in HUNGRY {
-        for place in 0..64 {
-            expect_leaves(&rt, rt.alloc(), tree, Some(place))?;
+            expect_leaves(&rt, rt.alloc(), leaf)?;
         }
     }
     Ok(())

@@ -44,48 +44,13 @@ const SCALAR: &str = r#"{"a":{"dims":[],"data":[5]}}"#;
 
 const TWO: &str = r#"{"b":{"dims":[2],"data":[1,2]},"a":{"dims":[2],"data":[30,40]}}"#;
 
-/// Expressions, first an operation of each kind, with arguments that tell them apart; and then a
-/// node of each arity over others.
+/// Expressions: an operation of each kind, a node of each arity over others, and an input.
 const TENSORS: &[(Over, &str, &[u64], &[i64])] = &[
-    (Over::Three, r#"["abs","a"]"#, &[2, 3], &[1, 4, 2, 5, 3, 6]),
-    (Over::Three, r#"["constant","k",-7]"#, &[2], &[-7, -7]),
-    (
-        Over::Three,
-        r#"["broadcast","k",[2]]"#,
-        &[4],
-        &[10, 1, 10, 1],
-    ),
-    (
-        Over::Three,
-        r#"["slice","a",[1,1],[1,2]]"#,
-        &[1, 2],
-        &[5, 6],
-    ),
     (
         Over::Three,
         r#"["shuffle","a",[1,0]]"#,
         &[3, 2],
         &[1, 2, -3, -4, 5, 6],
-    ),
-    (
-        Over::Three,
-        r#"["reshape","a",[6]]"#,
-        &[6],
-        &[1, -4, 2, 5, -3, 6],
-    ),
-    (Over::Three, r#"["chip","a",2,1]"#, &[2], &[-3, 6]),
-    (
-        Over::Three,
-        r#"["reverse","a",[true,false]]"#,
-        &[2, 3],
-        &[-4, 1, 5, 2, 6, -3],
-    ),
-    (Over::Three, r#"["stride","a",[2,2]]"#, &[1, 2], &[1, -3]),
-    (
-        Over::Three,
-        r#"["pad","k",[[1,2]]]"#,
-        &[5],
-        &[0, 10, 1, 0, 0],
     ),
     (Over::Three, r#"["maximum","a",[1]]"#, &[2], &[2, 6]),
     (
@@ -93,12 +58,6 @@ const TENSORS: &[(Over, &str, &[u64], &[i64])] = &[
         r#"["sub","a","b"]"#,
         &[2, 3],
         &[-6, -4, 0, 6, -12, 0],
-    ),
-    (
-        Over::Three,
-        r#"["concat","k","k",0]"#,
-        &[4],
-        &[10, 1, 10, 1],
     ),
     (
         Over::Three,
@@ -111,12 +70,6 @@ const TENSORS: &[(Over, &str, &[u64], &[i64])] = &[
         r#"["convolve","a","k",[1]]"#,
         &[2, 2],
         &[12, -35, 17, 56],
-    ),
-    (
-        Over::Three,
-        r#"["select",["lt","a","b"],"b","a"]"#,
-        &[2, 3],
-        &[7, 0, 2, 5, 9, 6],
     ),
     (
         Over::Three,

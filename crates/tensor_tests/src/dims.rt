@@ -34,25 +34,6 @@ fn index_lists_and_strides(rt: HostRuntime) -> Result<(), Fail> {
     Ok(())
 }
 
-/// Sizes, and why there are no such dims.
-const LIMITS: &[(&[u64], Option<ShapeFault>)] = &[
-    (&[1, 1, 1, 1, 1, 1, 1, 1], None),
-    (&[1024, 1024, 1, 1, 1, 1], None),
-    (&[0, 1048576, 0, 1, 1, 0], None),
-    (&[4, 4, 16, 4, 4, 4, 4, 16], None),
-    (&[1, 1, 1, 1, 1, 1048577], Some(ShapeFault::TooManyElements)),
-    (&[1024, 1025, 1, 1, 1, 1], Some(ShapeFault::TooManyElements)),
-    (&[0, 1048577, 0, 1, 1, 0], Some(ShapeFault::TooManyElements)),
-    (
-        &[4294967296, 4294967296, 1, 1, 1, 1],
-        Some(ShapeFault::TooManyElements),
-    ),
-    (
-        &[1048577, 1, 1, 1, 1, 1, 1, 1, 1],
-        Some(ShapeFault::RankTooHigh),
-    ),
-];
-
 /// As far as a rank of 6 goes in a text.
 const SIX: Bounds = Bounds {
     rank: 6,
@@ -73,13 +54,6 @@ const WITHIN: &[(Bounds, &[u64], Option<ShapeFault>)] = &[
 fn limits_that_are_given(rt: HostRuntime) {
     for &(bounds, sizes, fault) in WITHIN {
         expect(&rt, sizes, &Dims::within(bounds, sizes).err(), &fault);
-    }
-}
-
-#[test]
-fn limits_of_rank_and_elements(rt: HostRuntime) {
-    for &(sizes, fault) in LIMITS {
-        expect(&rt, sizes, &Dims::new(sizes).err(), &fault);
     }
     let numbers = [
         ShapeFault::RankTooHigh as u8,

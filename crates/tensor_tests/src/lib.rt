@@ -7,31 +7,21 @@
 #![tactic(auto)]
 
 #[cfg(test)]
-mod along;
-#[cfg(test)]
 mod bindings;
 #[cfg(test)]
 mod copies;
 #[cfg(test)]
 mod dims;
 #[cfg(test)]
-mod drawn;
-#[cfg(test)]
 mod faults;
 #[cfg(test)]
 mod fills;
 #[cfg(test)]
-mod lengths;
-#[cfg(test)]
 mod lines;
-#[cfg(test)]
-mod many_steps;
 #[cfg(test)]
 mod parts;
 #[cfg(test)]
 mod plans;
-#[cfg(test)]
-mod ranges;
 #[cfg(test)]
 mod requests;
 #[cfg(test)]

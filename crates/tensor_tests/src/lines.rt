@@ -3,10 +3,9 @@
 use crate::streams::{Full, Giving, Taking};
 use crate::texts::{SCALAR, SCALAR_LINE};
 use crate::told::expect;
-use std::alloc::{AllocError, Global};
+use std::alloc::Global;
 use std::process::Abort;
 use std::sync::Wait;
-use std::test::Fail;
 use std::thread::Threads;
 use tensor_runner::{Connection, CountedReader, CountedWriter, Ending, serve_lines};
 
@@ -91,33 +90,6 @@ fn lines_of_small_texts(rt: HostRuntime) {
             expect_lines(&rt, rt.alloc(), name, streams, (DONE, answers.as_bytes()));
         }
     }
-}
-
-const MOST: usize = 16_777_216;
-
-/// A text, so many spaces behind it, a line feed, and the text again.
-fn spaced(alloc: Global, length: usize) -> Result<Vec<u8>, AllocError> {
-    let mut bytes = SCALAR.to_vec(alloc)?;
-    bytes.resize(length, b' ')?;
-    bytes.push(b'\n')?;
-    bytes.extend_from_slice(SCALAR)?;
-    Ok(bytes)
-}
-
-#[test]
-fn a_line_of_the_greatest_length_and_longer_ones(rt: HostRuntime) -> Result<(), Fail> {
-    let too_long = "error 1 TooLong\n{\"data\":[5],\"dims\":[]}\n";
-    let both = "{\"data\":[5],\"dims\":[]}\n{\"data\":[5],\"dims\":[]}\n";
-    for (name, length, answers) in [
-        ("as long as may be", MOST, both),
-        ("one byte longer", MOST + 1, too_long),
-        ("far too long", MOST + 200_000, too_long),
-    ] {
-        let bytes = spaced(rt.alloc(), length)?;
-        let streams = (Giving::by(MOST, bytes.as_slice()), Taking::all(rt.alloc()));
-        expect_lines(&rt, rt.alloc(), name, streams, (DONE, answers.as_bytes()));
-    }
-    Ok(())
 }
 
 /// The lines are answered of which the line feed was read, and nothing of the one that broke off.

@@ -31,10 +31,6 @@ const CONTRACTION: [Part; 5] = [
     (3, 3, 3, 0),
 ];
 
-const SUMS_OF_RUNS: [Part; 4] = [(0, 0, 2, 71), (1, 0, 1, 28), (1, 1, 2, 64), (1, 1, 1, 0)];
-
-const MOST_OF_ROWS: [Part; 3] = [(0, 0, 2, 28), (1, 1, 2, 64), (1, 1, 1, i64::MIN)];
-
 /// Asserts what a part of the values is, of which there are so many.
 fn gives_part(
     rt: &impl Abort,
@@ -120,18 +116,4 @@ fn parts_of_sums_and_products(rt: HostRuntime) -> Result<(), Fail> {
         &CONTRACTION,
         &values,
     )
-}
-
-/// Along the first axis a contraction's values lie side by side, along the last they don't.
-#[test]
-fn parts_of_reductions_of_a_contraction(rt: HostRuntime) -> Result<(), Fail> {
-    let alloc = rt.alloc();
-    let (first, second) = (Expr::Input(0), Expr::Input(1));
-    let contraction = Binary::Contract(&[(1, 0)]).over(alloc, first, second)?;
-    let sums = Unary::Reduce(Reducer::Sum, &[0]).over(alloc, contraction)?;
-    gives(&rt, alloc, "sums of runs", sums, &SUMS_OF_RUNS, &[71, 92])?;
-    let (first, second) = (Expr::Input(0), Expr::Input(1));
-    let contraction = Binary::Contract(&[(1, 0)]).over(alloc, first, second)?;
-    let most = Unary::Reduce(Reducer::Max, &[1]).over(alloc, contraction)?;
-    gives(&rt, alloc, "most of rows", most, &MOST_OF_ROWS, &[28, 64])
 }

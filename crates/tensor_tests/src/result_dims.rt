@@ -6,7 +6,7 @@ use crate::told::expect;
 use expr_reader::read_request;
 use std::alloc::Global;
 use std::test::Fail;
-use tensor_ops::{Dims, Expr, ExprFault, Inputs, Movement, Tensor, Unary, WIDEST};
+use tensor_ops::{Dims, Expr, ExprFault, Inputs, Movement, Tensor, Unary};
 
 /// An input of 2 by 3.
 fn two_by_three(alloc: Global) -> Result<Inputs<'static>, Fail>
@@ -90,43 +90,5 @@ fn results_within_the_rank_of_the_inputs(rt: HostRuntime) -> Result<(), Fail> {
     expect(&rt, "limits", &limits, &[6, 8]);
     let elements = [six.bounds().elements, eight.bounds().elements];
     expect(&rt, "elements", &elements, &[1048576, 1048576]);
-    Ok(())
-}
-
-#[test]
-fn results_within_the_elements_of_the_inputs(rt: HostRuntime) -> Result<(), Fail> {
-    let text = one_number(rt.alloc(), 8)?;
-    let wide = one_wide_number(rt.alloc())?;
-    let found = [
-        fault_of(rt.alloc(), &text, Movement::Broadcast(&[1048576]))?,
-        fault_of(rt.alloc(), &text, Movement::Broadcast(&[1048577]))?,
-        fault_of(rt.alloc(), &wide, Movement::Broadcast(&[268435456]))?,
-        fault_of(rt.alloc(), &wide, Movement::Broadcast(&[268435457]))?,
-    ];
-    let large = Some(ExprFault::TooLarge);
-    expect(&rt, "results", &found, &[None, large, None, large]);
-    Ok(())
-}
-
-/// One number, in results that are as large as any.
-fn one_wide_number(alloc: Global) -> Result<Inputs<'static>, Fail>
-    ensures { IfOk result (λ i. length i.tensors ≡ 1) }
-{
-    let mut inputs = Inputs::with_bounds(Vec::new(alloc), WIDEST);
-    inputs.push(Tensor::new(Dims::new(&[1])?, vec![in alloc; 9]?))?;
-    Ok(inputs)
-}
-
-/// 1,024 by 1,024 by 1,024: as many products as there may be.
-#[test]
-fn dims_of_the_largest_contraction(rt: HostRuntime) -> Result<(), Fail> {
-    let square = r#"["broadcast","a",[1024,1024]]"#;
-    let expr = format!(in rt.alloc(); r#"["contract",{square},{square},[[1,0]]]"#)?;
-    let inputs = r#"{"a":{"dims":[1,1],"data":[1]}}"#;
-    let text = request(rt.alloc(), 1, inputs, expr.as_str())?;
-    let request = read_request(rt.alloc(), text.as_bytes())?;
-    let dims = request.expr.dims(&request.inputs)?;
-    let square = [1024, 1024].as_slice();
-    expect(&rt, "a contraction", &dims.as_slice(), &square);
     Ok(())
 }

@@ -35,14 +35,26 @@ pub(crate) fn request(
     )
 }
 
-/// The inputs of one tensor of these dimensions, whose so many values are its places.
-pub(crate) fn places(alloc: Global, sizes: &str, count: u32) -> Result<String, AllocError> {
+/// So many values, of which each is one more than the one before.
+fn rising(alloc: Global, count: u32, first: i32) -> Result<String, AllocError> {
     let mut data = String::new(alloc);
     for place in 0..count {
         let comma = if place > 0 { "," } else { "" };
-        let item = format!(in alloc; "{comma}{place}")?;
+        let value = i64::from(first) + i64::from(place);
+        let item = format!(in alloc; "{comma}{value}")?;
         data.push_str(item.as_str())?;
     }
-    let data = data.as_str();
-    format!(in alloc; "{{\"a\":{{\"dims\":[{sizes}],\"data\":[{data}]}}}}")
+    Ok(data)
+}
+
+/// Two grids `a` and `b` of so many rows and columns, and a list `k` of three values.
+pub(crate) fn grids(alloc: Global, rows: u16, columns: u16) -> Result<String, AllocError> {
+    let count = u32::from(rows) * u32::from(columns);
+    let (first, second) = (rising(alloc, count, -50)?, rising(alloc, count, 7)?);
+    let (first, second) = (first.as_str(), second.as_str());
+    format!(in alloc;
+        "{{\"a\":{{\"dims\":[{rows},{columns}],\"data\":[{first}]}},\
+        \"b\":{{\"dims\":[{rows},{columns}],\"data\":[{second}]}},\
+        \"k\":{{\"dims\":[3],\"data\":[2,-1,3]}}}}"
+    )
 }

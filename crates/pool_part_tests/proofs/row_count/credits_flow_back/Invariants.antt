@@ -1,7 +1,7 @@
 -- Both seats are free and of the count, and the one that publishes is silent.
 use Rattle.event_count.specs.Seats.{IsIdle, IsSeatOf}
 use Rattle.event_count.specs.Rows.Seats.{IsSilent}
-use Rattle.pool_part_tests.proofs.row_count.calls.credits_flow_back.Given as goal
+use Rattle.pool_part_tests.proofs.row_count.credits_flow_back.Given as goal
 
 abbrev pub invariant-loop : goal.invariant-loop
 invariant-loop g l = record {
