@@ -45,7 +45,7 @@ extern "C" {
 #endif
 
 /* The version of the library, as the file VERSION has it. */
-#define TENSOR_VERSION "2.0.0"
+#define TENSOR_VERSION "2.1.0"
 
 /* The most values of a tensor of version 3, and so of an answer. In versions 1 and 2 a tensor has at
    most 1,048,576 values. */

@@ -25,7 +25,7 @@ from .running import Session as Session, run as run
 from .tensors import Tensor as Tensor, placeholder as placeholder, tensor as tensor
 from .values import GREATEST as GREATEST, LEAST as LEAST
 
-__version__ = "2.0.0"
+__version__ = "2.1.0"
 
 # As numpy names what makes a new axis of an index, and the dtypes that values can be asked for as.
 newaxis = None

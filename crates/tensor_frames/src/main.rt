@@ -6,7 +6,6 @@
 use frame_server::{serve_frames_logged, serve_frames_within};
 use std::io::BufWriter;
 use std::process::ExitCode;
-use std::rt::Env;
 use std::{env, io};
 use tensor_runner::{
     Command, Connection, CountedReader, CountedWriter, LineJournal, Service, Uninterrupted,
@@ -16,18 +15,19 @@ use tensor_runner::{
 const USAGE: &str = "usage: tensor_frames [--most-workers N] [--most-steps N] [--log] < FRAMES\n";
 
 fn main(rt: HostRuntime) -> io::Result<ExitCode> {
-    let options = match asked(&rt)? {
-        Some(Command::Serve(options)) => options,
-        Some(Command::Help) => {
+    let words: Vec<String> = env::args(&rt)?.skip(1).collect(rt.alloc())?;
+    let options = match command_of(&words) {
+        Ok(Command::Serve(options)) => options,
+        Ok(Command::Help) => {
             print!(rt; "{USAGE}")?;
             return Ok(ExitCode::from(0));
         }
-        Some(Command::Version) => {
+        Ok(Command::Version) => {
             println!(rt; "tensor_frames {VERSION}")?;
             return Ok(ExitCode::from(0));
         }
-        None => {
-            eprint!(rt; "tensor_frames: no such options\n{USAGE}")?;
+        Err(refused) => {
+            eprint!(rt; "tensor_frames: {refused}\n{USAGE}")?;
             return Ok(ExitCode::from(2));
         }
     };
@@ -50,14 +50,4 @@ fn main(rt: HostRuntime) -> io::Result<ExitCode> {
         eprint!(rt; "{complaint}")?;
     }
     Ok(ExitCode::from(ending.status))
-}
-
-/// What the words behind the program's name ask for.
-fn asked<R: Env + AllocGlobal>(rt: &R) -> io::Result<Option<Command>> {
-    let given: Vec<String> = env::args(rt)?.skip(1).collect(rt.alloc())?;
-    let mut words = Vec::new(rt.alloc());
-    for word in &given {
-        words.push(word.as_str())?;
-    }
-    Ok(command_of(&words))
 }

@@ -5,7 +5,6 @@
 
 use std::io::BufWriter;
 use std::process::ExitCode;
-use std::rt::Env;
 use std::{env, io};
 use tensor_runner::{
     Command, Connection, CountedReader, CountedWriter, LineJournal, Service, Uninterrupted,
@@ -15,18 +14,19 @@ use tensor_runner::{
 const USAGE: &str = "usage: tensor_lines [--most-workers N] [--most-steps N] [--log] < LINES\n";
 
 fn main(rt: HostRuntime) -> io::Result<ExitCode> {
-    let options = match asked(&rt)? {
-        Some(Command::Serve(options)) => options,
-        Some(Command::Help) => {
+    let words: Vec<String> = env::args(&rt)?.skip(1).collect(rt.alloc())?;
+    let options = match command_of(&words) {
+        Ok(Command::Serve(options)) => options,
+        Ok(Command::Help) => {
             print!(rt; "{USAGE}")?;
             return Ok(ExitCode::from(0));
         }
-        Some(Command::Version) => {
+        Ok(Command::Version) => {
             println!(rt; "tensor_lines {VERSION}")?;
             return Ok(ExitCode::from(0));
         }
-        None => {
-            eprint!(rt; "tensor_lines: no such options\n{USAGE}")?;
+        Err(refused) => {
+            eprint!(rt; "tensor_lines: {refused}\n{USAGE}")?;
             return Ok(ExitCode::from(2));
         }
     };
@@ -49,14 +49,4 @@ fn main(rt: HostRuntime) -> io::Result<ExitCode> {
         eprint!(rt; "{complaint}")?;
     }
     Ok(ExitCode::from(ending.status))
-}
-
-/// What the words behind the program's name ask for.
-fn asked<R: Env + AllocGlobal>(rt: &R) -> io::Result<Option<Command>> {
-    let given: Vec<String> = env::args(rt)?.skip(1).collect(rt.alloc())?;
-    let mut words = Vec::new(rt.alloc());
-    for word in &given {
-        words.push(word.as_str())?;
-    }
-    Ok(command_of(&words))
 }

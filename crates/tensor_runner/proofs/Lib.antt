@@ -4,6 +4,7 @@ pub mod InLines
 pub mod DimsAlone
 pub mod Left
 pub mod Lines
+pub mod OptionWords
 pub mod Serving
 pub mod Streams
 pub mod Refused

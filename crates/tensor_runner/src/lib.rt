@@ -33,7 +33,7 @@ pub use message_server::{
     Client, Connection, CountedReader, CountedWriter, Ending, Sink, Source, StreamFault,
     Uninterrupted, ending_of, write_answer,
 };
-pub use options::{Command, ServeOptions, VERSION, command_of};
+pub use options::{Command, OptionFault, RefusedOption, ServeOptions, VERSION, command_of};
 pub use server::{answer_lines, answer_lines_logged, answer_lines_within};
 pub use service::Service;
 pub use stack::grow_stack;

@@ -1,13 +1,16 @@
 //! Reads the options of a program that answers many requests.
 
-ghost use Rattle.std.specs.Prelude.{◌≡◌, [], ◌∷◌, map, codes, true, false, Some, IfSome};
-ghost use Rattle.tensor_runner.specs.Limited.{no_limits};
-ghost use Rattle.tensor_runner.specs.Options.{Sets};
+ghost use Rattle.std.specs.Prelude.{◌≡◌, ◌<◌, ◌≤◌, ◌∷◌, map, length, drop, Ok, Err, IfOk, IfErr};
+ghost use Rattle.std.specs.Prelude.{option_copied, string_bytes};
+ghost use Rattle.tensor_runner.specs.Options.{command_in, option_in, options_in, takes_number};
+ghost use Rattle.tensor_runner.specs.Options.{number_in, without_value, setting_of};
+ghost use Rattle.tensor_runner.specs.Options.{with_setting, serving_with};
 
 use crate::limits::Limits;
+use thiserror::Error;
 
 /// The version of the programs.
-pub const VERSION: &str = "2.0.0";
+pub const VERSION: &str = "2.1.0";
 
 /// What a program is asked for.
 #[derive(Clone, Copy, Debug, Drop, Eq, PartialEq)]
@@ -23,79 +26,211 @@ pub enum Command {
 /// How requests are answered.
 #[derive(Clone, Copy, Debug, Drop, Eq, PartialEq)]
 pub struct ServeOptions {
-    /// The most that is worked out for one.
+    /// The most that is computed for one.
     pub limits: Limits,
     /// Whether each is noted on standard error.
     pub log: bool,
 }
 
-/// What the words behind a program's name ask for, or none where they aren't its options. No words ask
-/// for answers without limits and without a log.
-pub fn command_of(words: &[&str]) -> Option<Command>
-    ensures none { words.now ≡ []
-        → result ≡ Some (Command.Serve (record { limits = no_limits; log = false })) }
-    ensures log { map (λ word. word.now) words.now ≡ codes "--log" ∷ []
-        → result ≡ Some (Command.Serve (record { limits = no_limits; log = true })) }
+/// What is wrong with an option.
+#[derive(Clone, Copy, Debug, Drop, Eq, PartialEq, Error)]
+pub enum OptionFault {
+    /// The program has no option of this name.
+    #[error("no such option")]
+    NoSuchOption,
+    /// The option takes a number, and has no value.
+    #[error("a number is missing")]
+    NumberMissing,
+    /// The option takes a number, and its value is none of 64 bits.
+    #[error("the value is not a whole number below 2^64")]
+    NotANumber,
+    /// The option takes no value, and has one.
+    #[error("takes no value")]
+    TakesNoValue,
+}
+
+/// An option that is refused.
+#[derive(Clone, Copy, Debug, Drop, Error)]
+#[error("{name}: {fault}")]
+pub struct RefusedOption<'a> {
+    /// Its name, as the words have it.
+    pub name: &'a str,
+    /// What is wrong with it.
+    pub fault: OptionFault,
+}
+
+/// What one option asks for.
+#[derive(Clone, Copy, Drop)]
+enum Setting {
+    MostWorkers(u64),
+    MostSteps(u64),
+    Log,
+    Help,
+    Version,
+}
+
+/// The option that words begin with.
+#[derive(Clone, Copy, Drop)]
+struct FirstOption<'a> {
+    /// Its name.
+    name: &'a str,
+    /// Its value, if it has one.
+    value: Option<&'a str>,
+    /// How many words write it.
+    word_count: usize,
+}
+
+/// Reads the words behind a program's name. Its options are applied in order, so that the last one of
+/// a kind stands.
+///
+/// # Errors
+///
+/// The first option that is refused.
+pub fn command_of<'a>(words: &'a [String]) -> Result<Command, RefusedOption<'a>>
+    ensures command { IfOk result
+        (λ command. command_in (map string_bytes words.now) ≡ Ok command) }
+    ensures refused { IfErr result
+        (λ refused. command_in (map string_bytes words.now)
+        ≡ Err (record { name = refused.name.now; fault = refused.fault })) }
+{
+    let mut command = Command::Serve(ServeOptions {
+        limits: Limits::none(),
+        log: false,
+    });
+    let mut at = 0;
+    while at < words.len() {
+        let option = first_option(&words[at..]);
+        match setting_of(option.name, option.value) {
+            Ok(setting) => command = with_setting(command, setting),
+            Err(fault) => {
+                return Err(RefusedOption {
+                    name: option.name,
+                    fault,
+                });
+            }
+        }
+        at += option.word_count;
+    }
+    Ok(command)
+}
+
+/// Reads the option that words begin with.
+fn first_option<'a>(words: &'a [String]) -> FirstOption<'a>
+    requires { 0 < length words.now }
+    ensures first { options_in (map string_bytes words.now)
+        ≡ record { name = result.name.now; value = option_copied result.value }
+        ∷ options_in (map string_bytes (drop result.word_count words.now)) }
+    ensures some { 0 < result.word_count }
+    ensures within { result.word_count ≤ length words.now }
 {
     match *words {
-        ["--help"] => Some(Command::Help),
-        ["-h"] => Some(Command::Help),
-        ["--version"] => Some(Command::Version),
+        [ref name, ref value, ..] if takes_number(name) => FirstOption {
+            name,
+            value: Some(value),
+            word_count: 2,
+        },
         _ => {
-            let none = ServeOptions {
-                limits: Limits::none(),
-                log: false,
-            };
-            let options = options_of(none, words)?;
-            Some(Command::Serve(options))
+            let (name, value) = parted(&words[0]);
+            FirstOption {
+                name,
+                value,
+                word_count: 1,
+            }
         }
     }
 }
 
-/// The options that words set: `--log` alone, and of limits an option and its number each. Of the same
-/// option the last one stands.
-fn options_of(options: ServeOptions, words: &[&str]) -> Option<ServeOptions>
-    ensures none { words.now ≡ [] → result ≡ Some options }
-    ensures log { map (λ word. word.now) words.now ≡ codes "--log" ∷ []
-        → result ≡ Some (record { limits = options.limits; log = true }) }
+/// Whether the option of this name takes a number.
+fn takes_number(name: &str) -> bool
+    ensures { result ≡ takes_number name.now }
 {
-    match *words {
-        [] => Some(options),
-        ["--log", ref rest @ ..] => options_of(with_log(options), rest),
-        [name, number, ref rest @ ..] => {
-            let limits = limit_set(options.limits, name, number)?;
-            options_of(ServeOptions { limits, ..options }, rest)
-        }
-        _ => None,
+    name == "--most-workers" || name == "--most-steps"
+}
+
+/// Parts a word into the name and the value of its option.
+fn parted(word: &str) -> (&str, Option<&str>)
+    ensures { option_in word.now
+        ≡ record { name = result.0.now; value = option_copied result.1 } }
+{
+    match word.split_once('=') {
+        Some((name, value)) => (name, Some(value)),
+        None => (word, None),
     }
 }
 
-/// The options with a log.
-fn with_log(options: ServeOptions) -> ServeOptions
-    ensures { result ≡ record { limits = options.limits; log = true } }
+/// Reads what an option asks for.
+fn setting_of(name: &str, value: Option<&str>) -> Result<Setting, OptionFault>
+    ensures { result ≡ setting_of name.now (option_copied value.entry) }
 {
-    ServeOptions {
-        log: true,
-        ..options
-    }
-}
-
-/// The limits in which an option sets one to a number.
-fn limit_set(limits: Limits, name: &str, number: &str) -> Option<Limits>
-    ensures { IfSome result (Sets limits name.now number.now) }
-{
-    let Ok(most) = number.parse::<u64>() else {
-        return None;
-    };
     match name {
-        "--most-workers" => Some(Limits {
-            workers: Some(most),
-            ..limits
+        "--most-workers" => Ok(Setting::MostWorkers(number_in(value)?)),
+        "--most-steps" => Ok(Setting::MostSteps(number_in(value)?)),
+        "--log" => without_value(Setting::Log, value),
+        "--help" | "-h" => without_value(Setting::Help, value),
+        "--version" => without_value(Setting::Version, value),
+        _ => Err(OptionFault::NoSuchOption),
+    }
+}
+
+/// Reads the number that is an option's value.
+fn number_in(value: Option<&str>) -> Result<u64, OptionFault>
+    ensures { result ≡ number_in (option_copied value.entry) }
+{
+    let Some(word) = value else {
+        return Err(OptionFault::NumberMissing);
+    };
+    match word.parse::<u64>() {
+        Ok(number) => Ok(number),
+        Err(_) => Err(OptionFault::NotANumber),
+    }
+}
+
+/// The setting of an option that takes no value.
+fn without_value(setting: Setting, value: Option<&str>) -> Result<Setting, OptionFault>
+    ensures { result ≡ without_value setting (option_copied value.entry) }
+{
+    match value {
+        Some(_) => Err(OptionFault::TakesNoValue),
+        None => Ok(setting),
+    }
+}
+
+/// A command to which a setting is applied.
+fn with_setting(command: Command, setting: Setting) -> Command
+    ensures { result ≡ with_setting command setting }
+{
+    match command {
+        Command::Serve(options) => serving_with(options, setting),
+        Command::Help => Command::Help,
+        Command::Version => Command::Version,
+    }
+}
+
+/// The command to answer requests by these options, to which a setting is applied.
+fn serving_with(options: ServeOptions, setting: Setting) -> Command
+    ensures { result ≡ serving_with options setting }
+{
+    let limits = options.limits;
+    match setting {
+        Setting::MostWorkers(most) => Command::Serve(ServeOptions {
+            limits: Limits {
+                workers: Some(most),
+                ..limits
+            },
+            ..options
         }),
-        "--most-steps" => Some(Limits {
-            steps: Some(most),
-            ..limits
+        Setting::MostSteps(most) => Command::Serve(ServeOptions {
+            limits: Limits {
+                steps: Some(most),
+                ..limits
+            },
+            ..options
         }),
-        _ => None,
+        Setting::Log => Command::Serve(ServeOptions {
+            log: true,
+            ..options
+        }),
+        Setting::Help => Command::Help,
+        Setting::Version => Command::Version,
     }
 }

@@ -1,5 +1,7 @@
 //! Has the stack grow before it is needed.
 
+ghost use Rattle.std.specs.Io.KnownBytes.{Keeps};
+
 use std::alloc::Alloc;
 use std::fs;
 use std::fs::Files;
@@ -14,17 +16,21 @@ const LEFT: u64 = 262_144;
 /// How many bytes the stack grows by at a time.
 const PIECE: usize = 65_536;
 
-/// Has the stack grow now, by reads of no byte to the front of so many: under a limit of memory a
-/// request may take all that there is, and a stack that can't grow then ends the program. Where the
-/// stack itself is limited to less, it grows as far as that lets it.
-pub fn grow_stack<F: Files + Alloc, R: Read>(files: &F, reader: &mut R) {
+/// Has the stack grow now, by reads of no bytes into pieces of it. Under a limit of memory a request
+/// may take all memory, and a stack that can't grow then ends the program. Where the stack itself is
+/// limited to less, it grows as far as that limit lets it. What the reader has left stays unread.
+pub fn grow_stack<F: Files + Alloc, R: Read>(files: &F, reader: &mut R)
+    ensures { Keeps (R.remaining reader.old) (R.remaining reader.new) }
+{
     let most = stack_limit(files).saturating_sub(LEFT).min(STACK);
     grow(reader, most / PIECE as u64);
 }
 
-/// Has the stack grow by so many pieces.
+/// Has the stack grow by this number of pieces.
 #[inline(never)]
-fn grow<R: Read>(reader: &mut R, pieces: u64) {
+fn grow<R: Read>(reader: &mut R, pieces: u64)
+    ensures { Keeps (R.remaining reader.old) (R.remaining reader.new) }
+{
     let mut room = [0u8; PIECE];
     if pieces > 1 {
         grow(reader, pieces - 1);
