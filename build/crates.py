@@ -28,13 +28,18 @@ class Crate:
         texts = [it.read() for it in map(opened, self.sources)]
         self.lines = sum(it.count(b"\n") for it in texts)
         self.memory = BYTES + BYTES_OF_A_LINE * self.lines
-        self.stamp = self.stamp_of(texts)
+        # Sums of what a proof of the crate reads, but for the kit: in all, and in the crate itself.
+        self.stamp = self.stamp_of(texts, [it.stamp for it in self.below])
+        self.own_stamp = self.stamp_of(texts)
 
-    def stamp_of(self, texts):
-        """A sum of all that a proof of the crate reads, but for the kit."""
+    def stamp_of(self, texts, below=()):
         names = [os.path.relpath(it, self.folder) for it in self.sources]
-        below = [it.stamp for it in self.below]
         return hashlib.sha256(repr((self.line, below, names, texts)).encode()).hexdigest()
+
+    def is_unchanged(self):
+        """Whether the crate's own files are as they were when this was made of them."""
+        now = Crate(self.name, self.line, self.below, self.of_kit)
+        return now.own_stamp == self.own_stamp
 
     def all_below(self):
         """The crates of the repository that this one stands on, each behind its own."""
@@ -109,6 +114,20 @@ def kit():
         fail(f"{sys.argv[0]}: the command rt of the kit isn't on PATH")
     said = subprocess.run(["rt", "doc"], capture_output=True, text=True, check=True).stdout
     return os.path.dirname(said.strip())
+
+
+def by_gate(crate):
+    """The library that `rt ci` left of a crate, if no file that is read for it was written since, and
+    none came or went."""
+    library = os.path.join(crate.folder, "out", "rlib", f"{crate.name}.rlib")
+    read = {*crate.sources, *map(os.path.dirname, crate.sources)}
+    is_right = os.path.isdir(library) and all(written(it) <= written(library) for it in read)
+    return library if is_right else None
+
+
+def written(path):
+    """When a file or folder was changed last, in any way, which no tool sets back."""
+    return os.stat(path).st_ctime_ns
 
 
 def free_memory():
