@@ -60,8 +60,14 @@ def tar(files, when, top="", folders=True):
     return packed.getvalue()
 
 
-def gzipped(found, when=0):
-    return gzip.compress(found, 9, mtime=when)
+def gzipped(found):
+    return gzip.compress(found, 9, mtime=0)
+
+
+def xz(found):
+    """The bytes of a file of xz, which packs what is for x86 best, and is unpacked in 16 MiB."""
+    best = {"id": lzma.FILTER_LZMA2, "preset": 9 | lzma.PRESET_EXTREME, "dict_size": 1 << 24}
+    return lzma.compress(found, lzma.FORMAT_XZ, filters=[{"id": lzma.FILTER_X86}, best])
 
 
 def deb(control, files, when):
@@ -78,8 +84,8 @@ def deb(control, files, when):
     ]
     members = {
         "debian-binary": b"2.0\n",
-        "control.tar.xz": lzma.compress(tar(about, when, "./", folders=False), preset=9),
-        "data.tar.xz": lzma.compress(tar(files, when, "./"), preset=9),
+        "control.tar.xz": xz(tar(about, when, "./", folders=False)),
+        "data.tar.xz": xz(tar(files, when, "./")),
     }
     packed = b"!<arch>\n"
     for name, found in members.items():

@@ -1,10 +1,12 @@
 """Where the programs and the library are: named by the environment, installed, or in the
-repository. Nothing is built from here."""
+repository. Nothing is built from here; what was never built is taken from the release there."""
 
 from __future__ import annotations
 
+import filecmp
 import os
 import shutil
+import subprocess
 from typing import Any, Dict, Iterator, NamedTuple, Optional
 
 from .faults import ProgramFailed
@@ -36,6 +38,9 @@ FRAMES = Program("TENSOR_FRAMES", "tensor_frames", os.path.join(TOP, "frames"))
 EXPLAIN = Program("TENSOR_EXPLAIN", "tensor_explain", os.path.join(TOP, "explain"))
 
 LIBRARY_VARIABLE, LIBRARY = "TENSOR_LIBRARY", "libtensor.so"
+# The library of the repository, and what the release has that lies there.
+MADE = os.path.join(TOP, "out", LIBRARY)
+RELEASED = os.path.join(TOP, "release", "SHA256SUMS")
 # The library of processors of the level x86-64-v3, beside this package, and what these have.
 LIBRARY_V3 = "libtensor-x86-64-v3.so"
 HAVE_V3 = {"avx", "avx2", "bmi1", "bmi2", "f16c", "fma", "abm", "movbe", "xsave"}
@@ -67,9 +72,10 @@ def program_of(named: Any, program: Program) -> str:
 
 def built(program: Program) -> Optional[str]:
     """The path of a program that needn't be there; the repository's script counts where its program
-    is built."""
+    is built, or a release has it."""
     made = os.path.join(TOP, "crates", program.name, "out", program.name)
-    return found(program) if os.access(made, os.X_OK) else installed(program)
+    is_there = os.access(made, os.X_OK) or os.path.exists(RELEASED)
+    return found(program) if is_there else installed(program)
 
 
 def is_v3() -> bool:
@@ -96,7 +102,21 @@ def libraries() -> Iterator[str]:
     # Without what is for compilers alone there is the name that programs are linked to.
     yield from (LIBRARY, f"{LIBRARY}.1")
     if IS_IN_REPOSITORY:
-        yield os.path.join(TOP, "out", LIBRARY)
+        put_by_release()
+        yield MADE
+
+
+def put_by_release() -> None:
+    """Has the library of the release put where none is built, or where that of an earlier release
+    lies. Where that fails, no library is there."""
+    noted = os.path.join(TOP, "out", "libtensor.released")
+    if not os.path.exists(RELEASED):
+        return
+    if os.path.exists(MADE):
+        if not os.path.exists(noted) or filecmp.cmp(RELEASED, noted, shallow=False):
+            return
+    command = [os.path.join(TOP, "build", "released"), "--library"]
+    subprocess.run(command, stdin=subprocess.DEVNULL, check=False)
 
 
 def no_library() -> str:

@@ -34,7 +34,8 @@ def answered_once(path: str, text: str, seconds: Optional[float]) -> str:
     except subprocess.TimeoutExpired as fault:
         raise TimedOut(f"{path}: no answer in {seconds} seconds") from fault
     line, complaint = ended.stdout.decode(), ended.stderr.decode(errors="replace").strip()
-    stream = fault_of(complaint)
+    # A line of ./run on the release may stand before it.
+    stream = fault_of(complaint.rpartition("\n")[2])
     if stream:
         raise stream
     if ended.returncode not in (0, 1) or not line.endswith("\n"):

@@ -1,5 +1,5 @@
-"""What tests/commands works on: copies of the repository in a temporary folder, where a small script
-stands for each program, and for the kit, which proves nothing."""
+"""Copies of the repository in a temporary folder, where a small script stands for each program, and for
+the kit, which proves nothing."""
 
 import os
 import shutil
@@ -11,9 +11,14 @@ SECONDS = 300
 ANSWERED, REFUSED = 0, 2
 CPU, OTHER = "x86-64-v2", "x86-64-v3"
 LEFT_OUT = ("out", "edits", "must-fail", ".git", "bench", "tests", "pictures", "__pycache__")
+# What tests change of a copy, beside crates.txt.
+CHANGED = (
+    *(f"crates/{it}" for it in ("tensor_shape", "tensor_terms/proofs", "uses/src", "fault_reasons/src")),
+    "build",
+)
 IGNORED = shutil.ignore_patterns(*LEFT_OUT)
 PROGRAM = """#!/bin/sh
-echo "NAME $GLIBC_TUNABLES"
+echo "NAME $GLIBC_TUNABLES${*:+ $*}"
 exec CAT
 """
 # The prover and the linker of the kit: they write what they are asked for.
@@ -32,6 +37,8 @@ while [ "$1" != -o ]; do shift; done
 cp "$STAND_IN" "$2"
 chmod +x "$2"
 """
+# What a program answers that was built with the kit that stands in.
+BUILT = "built\nasked\n"
 # What makes the library of what is proved: an archiver and a linker.
 MAKER = """#!/bin/sh
 name=$2
@@ -60,12 +67,19 @@ def script(path, text):
     return path
 
 
+def appended(copy, path):
+    """Changes a file of a copy."""
+    with open(copy.at(path), "a", encoding="utf-8") as file:
+        file.write("\n")
+
+
 class Copy:
     """A copy of the repository, the environment of its commands, and a kit that stands on PATH."""
 
     def __init__(self, room, name):
         self.top, self.room, self.notes = os.path.join(room, name), room, {}
         shutil.copytree(TOP, self.top, symlinks=True, ignore=IGNORED)
+        shutil.rmtree(self.at("release"), ignore_errors=True)
         self.programs = dict(
             it.split() for it in text_of(self.at("build/programs")).splitlines() if it[:1] != "#"
         )
@@ -81,8 +95,8 @@ class Copy:
         return os.path.join(self.top, path)
 
     def mend(self):
-        """Undoes what a change of NOTICED or TAKEN did."""
-        for path in "crates/tensor_shape", "crates/uses/src", "crates/fault_reasons/src", "build":
+        """Undoes what a test of a change did."""
+        for path in CHANGED:
             shutil.rmtree(self.at(path))
             shutil.copytree(os.path.join(TOP, path), self.at(path), ignore=IGNORED)
         shutil.copy(os.path.join(TOP, "crates.txt"), self.top)
@@ -101,9 +115,9 @@ class Copy:
         )
         return ran.stdout, ran.stderr, ran.returncode
 
-    def ask(self, command="./run", **env):
+    def ask(self, command="./run", *words, **env):
         """The same of a command that answers, and builds nothing."""
-        return self.run(command, text="asked\n", **{"TENSOR_RUN_BUILD": "no", **env})
+        return self.run(command, *words, text="asked\n", **{"TENSOR_RUN_BUILD": "no", **env})
 
     def build(self, *words, **env):
         """The same of a command that may build, and what the prover was asked for, a line a crate."""
@@ -111,10 +125,16 @@ class Copy:
         ran = self.run(*words, text="asked\n", **{"TENSOR_RUN_CPU": CPU, **env})
         return ran, text_of(self.env["ASKED"]).splitlines()
 
-    def answer(self, command="run"):
-        """What the stand-in of a command answers."""
+    def answer(self, command="run", *words):
+        """What the stand-in of a command answers that is given these words."""
         name, settings = self.programs[command], text_of(self.at("build/tunables")).strip()
-        return f"{name} {settings}\nasked\n", "", ANSWERED
+        return f"{' '.join([name, settings, *words])}\nasked\n", "", ANSWERED
+
+    def commit(self):
+        """Makes a repository of the copy, which git knows to be without changes."""
+        who = "-c user.name=copy -c user.email=copy@here"
+        for command in "init -q", "add -A", f"{who} commit -q -m copy":
+            assert self.run("git", *command.split())[2] == ANSWERED
 
     def put_programs(self):
         """Stand-ins for the programs, noted as built from what is here, which is always the same."""
