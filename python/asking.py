@@ -96,10 +96,22 @@ class OneWay:
             cls.open.__exit__(None, None, None)
 
 
+def only_by(*ways):
+    """Marks a test that these ways alone have."""
+
+    def mark(test):
+        test.ways = ways
+        return test
+
+    return mark
+
+
 def each_way(names, cases, ways=tuple(WAYS)):
     """Puts a test class for each of these ways of a class of cases into a module's names."""
     for way in ways:
         name = cases.__name__ + "By" + way.title().replace(" ", "")
-        made = type(name, (cases, unittest.TestCase), {"way": way, "__module__": names["__name__"]})
+        own = {it: None for it, test in vars(cases).items() if way not in getattr(test, "ways", ways)}
+        own.update(way=way, __module__=names["__name__"])
+        made = type(name, (cases, unittest.TestCase), own)
         made.__doc__ = f"{cases.__doc__} By {way}."
         names[name] = made

@@ -7,7 +7,7 @@ import tensor_client as client
 from tensor_client import GREATEST, LEAST, concat, contract, full, tensor, where
 from tensor_client.rewriting.bindings import ALONG_AN_AXIS
 from tensor_client.rules import slid
-from asking import each_way
+from asking import WAYS, each_way, only_by
 from drawn import ByNumpy
 from test_asked import TEXTS, documented, method
 
@@ -80,9 +80,8 @@ class AgainstNumpy(ByNumpy):
                 expr = method(tensor(arrays[0]), operation)(*map(tensor, arrays[1:]))
                 self.agree(expr, wanted(*arrays), source)
 
+    @only_by(*(it for it in WAYS if it not in TEXTS))
     def test_on_integers(self):
-        if self.way in TEXTS:
-            self.skipTest("no text has them")
         for operation, wanted in ON_INTEGERS.items():
             for source in self.each_trial(operation):
                 dims = source.dims()

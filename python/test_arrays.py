@@ -2,6 +2,7 @@
 over, and in numpy's own functions."""
 
 import random
+import sys
 import unittest
 import unittest.mock
 
@@ -88,6 +89,11 @@ class Values(unittest.TestCase):
         self.assertEqual("abcd"[d.max()], "d")
         self.assertEqual((d.sum().item(), (d + 1).tolist()), (6, [[1, 4], [4, 1]]))
         self.assertEqual(float(d.sum()), 6.0)
+        total = d.sum()
+        self.assertEqual(repr(total), "<sum, dims (), 2 nodes>")
+        self.assertEqual((f"{total:3d}", repr(total)), ("  6", "<sum, dims (), 2 nodes, ran once>"))
+        self.assertEqual((str(total), repr(total)), ("6", "<sum, dims (), 2 nodes, ran 2 times>"))
+        self.assertEqual(([*(d + 1)[0]], 4 in d + 1, 9 in d + 1), ([1, 4], True, False))
         for wrong in (lambda: bool(d == d), lambda: bool(d.sum(axis=0))):
             self.assertRaises(TypeError, wrong)
         for wrong in (lambda: int(d), lambda: int(d + 1)):
@@ -104,11 +110,98 @@ class Values(unittest.TestCase):
 
     def test_tensors_are_not_written(self):
         x = tensor([1, 2])
-        with self.assertRaisesRegex(TypeError, "where"):
+        with self.assertRaisesRegex(TypeError, r"x\.at\[i\]\.set\(v\)"):
             x[0] = 5
         y = x
         y += 1
         self.assertEqual((x.values, y.tolist()), ([1, 2], [2, 3]))
+
+
+@unittest.skipIf(numpy is None, "numpy isn't installed")
+class Places(unittest.TestCase):
+    """Other values at some places, and by numpy."""
+
+    def test_places(self):
+        source = numpy.random.default_rng(1)
+        for dims in ((6,), (3, 4), (2, 3, 4)):
+            array = source.integers(-9, 9, dims)
+            every = (Ellipsis, 0), (0,), (slice(1, None),), (slice(None, None, -2),), ([0, 1],)
+            twice = ([1, 1, 0],), (Ellipsis, [0, 0, 2])
+            for index in (*every, *twice, (array > 0,), (array > 99,)):
+                with self.subTest(dims=dims, index=index), by_reference() as ask:
+                    with unittest.mock.patch("tensor_client.running.run", ask):
+                        self.alike(array, index, source)
+
+    def alike(self, array, index, source):
+        values = source.integers(-9, 9, array[index].shape)
+        for x in (tensor(array), tensor(array) + 0):
+            for given in (7, values, tensor(values), tensor(values) * 1):
+                wanted, more = array.copy(), array.copy()
+                wanted[index] = given
+                numpy.add.at(more, index, given)
+                numpy.testing.assert_array_equal(x.at[index].set(given), wanted)
+                numpy.testing.assert_array_equal(x.at[index].add(given), more)
+        numpy.testing.assert_array_equal(tensor(array), array)
+
+    def test_places_by_tensors(self):
+        with by_reference() as ask, unittest.mock.patch("tensor_client.running.run", ask):
+            x = tensor([[3, 9, 1], [4, 0, 7]])
+            found = x.at[x > 3].set(0), x.at[[0, 1], x.argmax(axis=1)].set(5), (x > 3).at[0].set(True)
+            self.assertEqual(found[0].tolist(), [[3, 0, 1], [0, 0, 0]])
+            self.assertEqual(found[1].tolist(), [[3, 5, 1], [4, 0, 5]])
+            self.assertEqual(found[2].tolist(), [[True] * 3, [True, False, True]])
+            for wrong in (lambda: x.at[2].set(0), lambda: x.at[tensor([2]) + 0].set(0)):
+                self.assertRaises(IndexError, wrong)
+            self.assertRaises(ValueError, x.at[0].set, [1, 2])
+
+
+@unittest.skipIf(numpy is None, "numpy isn't installed")
+class Lent(unittest.TestCase):
+    """Values that other libraries take where they lie, and numbers without a sign."""
+
+    def test_protocols(self):
+        array = numpy.arange(6).reshape(2, 3)
+        with by_reference() as ask, unittest.mock.patch("tensor_client.running.run", ask):
+            for x in (tensor(array), tensor(array) + 0):
+                numpy.testing.assert_array_equal(numpy.from_dlpack(x), array)
+                self.assertEqual(x.__dlpack_device__(), (1, 0))
+                if sys.version_info >= (3, 12):
+                    numpy.testing.assert_array_equal(numpy.asarray(memoryview(x)), array)
+                self.assertEqual(memoryview(x.__buffer__(0)).tolist(), array.tolist())
+            truths = ask(tensor(array) > 2)
+
+            class Taken:
+                __array_interface__ = truths.__array_interface__
+
+            numpy.testing.assert_array_equal(numpy.asarray(Taken()), array > 2)
+            self.assertEqual(numpy.asarray(truths).dtype, bool)
+            self.assertTrue(numpy.shares_memory(numpy.asarray(tensor(array)), array))
+
+    def test_numbers_without_a_sign(self):
+        array, many = numpy.arange(-3, 3), numpy.uint64(0x9E3779B97F4A7C15)
+        bits, several = many.astype(numpy.int64), numpy.full(6, many)
+        with by_reference() as ask, numpy.errstate(over="ignore"):
+            for given, like in ((many, bits), (several, several.view(numpy.int64))):
+                for call in (
+                    lambda it, by: it + by,
+                    lambda it, by: by - it,
+                    lambda it, by: it * by,
+                    lambda it, by: by * it,
+                    lambda it, by: it ^ by,
+                    lambda it, by: by & it,
+                    lambda it, by: it | by,
+                    lambda it, by: it == by,
+                ):
+                    found, wanted = ask(call(tensor(array), given)), call(array, like)
+                    numpy.testing.assert_array_equal(found.array(), wanted)
+            for wrong in (
+                lambda: tensor(array) < many,
+                lambda: tensor(array) // many,
+                lambda: many % tensor(array),
+                lambda: tensor(several),
+                lambda: tensor(array) * 2**63,
+            ):
+                self.assertRaises(OverflowError, wrong)
 
 
 @unittest.skipIf(numpy is None, "numpy isn't installed")
@@ -170,7 +263,6 @@ class Functions(unittest.TestCase):
         x = tensor(array) + 0
         with by_reference() as ask:
             for call in (
-                lambda it: numpy.sort(it),
                 lambda it: numpy.concatenate([it, array], axis=1),
                 lambda it: numpy.add(it, 1),
                 lambda it: numpy.multiply(array, it),
@@ -186,7 +278,6 @@ class Functions(unittest.TestCase):
                 lambda it: numpy.tensordot(it, it),
                 lambda it: numpy.linalg.matrix_power(it[:, :2], 3),
                 lambda it: numpy.add.reduce(it),
-                lambda it: numpy.maximum.accumulate(it, axis=1),
                 lambda it: numpy.floor_divide(array, it),
                 lambda it: -array % it,
                 lambda it: array >> it,
@@ -194,17 +285,19 @@ class Functions(unittest.TestCase):
                 found = call(x)
                 self.assertIsInstance(found, Expr)
                 numpy.testing.assert_array_equal(ask(found).array(), call(array))
-        for wrong in (
-            lambda: numpy.sqrt(x),
-            lambda: numpy.mean(x),
-            lambda: numpy.unique(x),
-            lambda: numpy.sqrt(array, out=x),
-            lambda: numpy.add(array, x, out=array),
-            lambda: numpy.true_divide(array, x),
-            lambda: array / x,
-            lambda: numpy.asarray(x),
-        ):
-            self.assertRaisesRegex(TypeError, r"run\(", wrong)
+            for call in (
+                lambda it: numpy.sqrt(it * it),
+                lambda it: numpy.mean(it),
+                lambda it: numpy.unique(it),
+                lambda it: numpy.add(array, it, out=array.copy()),
+                lambda it: numpy.true_divide(array, it),
+                lambda it: array / it,
+                lambda it: numpy.asarray(it),
+                lambda it: array[it > 2],
+            ):
+                with unittest.mock.patch("tensor_client.running.run", ask):
+                    numpy.testing.assert_array_equal(call(x), call(array))
+        self.assertRaisesRegex(TypeError, "written", lambda: numpy.sqrt(array, out=x))
 
 
 if __name__ == "__main__":

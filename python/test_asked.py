@@ -146,9 +146,15 @@ class Asked(OneWay):
         self.assertEqual(self.ask(sums).values, [201])
         self.assertEqual(self.ask(mixed).values, [wrapped(LEAST, 90)])
         self.assertEqual(self.ask(products).values, [(3**201 + 2**63) % 2**64 - 2**63])
+        for _ in range(300):
+            deep = -(deep * 3 + 1)
+        value = 1
+        for _ in range(300):
+            value = -(value * 3 + 1)
+        self.assertEqual(self.ask(deep).values, [(value + 2**63) % 2**64 - 2**63])
         parts = 501 if self.way in TEXTS else 5_001
-        self.faults(client.TooLarge, 14, client.concatenate([[it] for it in range(parts)]))
-        self.faults(client.NotJson, 2, -deep)
+        joined = self.ask(client.concatenate([[it] for it in range(parts)]))
+        self.assertEqual(joined.values, list(range(parts)))
 
     def test_every_fault_of_the_table_is_a_class(self):
         table = re.findall(r"(?m)^\| (\d+) \| (\w+) \| ", text_of("REQUEST.md"))

@@ -1,6 +1,7 @@
 """Tests of what a request binds by `let`: which parts, in which order, how many nodes it then has and
 which version; and programs whose loops are one request, in each way that has them, and by numpy."""
 
+import contextlib
 import itertools
 import json
 import unittest
@@ -12,7 +13,7 @@ from tensor_client.rewriting.bindings import LEAST_NODES, MOST_BOUND, bindings_o
 from tensor_client.length import MOST_NODES
 from tensor_client.library import library_of
 from tensor_client.requests import MOST_NESTED, Settings, framed, nested
-from asking import OneWay, by_reference, each_way, referring
+from asking import OneWay, by_reference, each_way, only_by, referring
 
 try:
     import numpy
@@ -176,13 +177,12 @@ class Bound(unittest.TestCase):
 
     def test_more_than_can_be_bound(self):
         part = ROWS
-        for _ in range(MOST_BOUND + 20):
+        for _ in range(3 * MOST_BOUND):
             part = chain(part * part, LEAST_NODES)
         bound = bindings_of(part).bound
         self.assertEqual(len(bound), MOST_BOUND)
-        fault = client.TooLarge()
-        client.explaining.explain(fault, part, Settings())
-        self.assertRegex(str(fault), "nodes: .*, and there may be 10,000; .* times: run it")
+        with self.assertRaisesRegex(client.TooLarge, "nodes: too many.* 10,000 and.*in parts"):
+            framed(part, Settings())
         # A few more stand as often as they are used.
         part = chain(ROWS.sum(), 2)
         for _ in range(MOST_BOUND + 2):
@@ -191,13 +191,20 @@ class Bound(unittest.TestCase):
         self.assertLess(nodes_of(asked(part)["expr"]), MOST_NODES)
 
     def test_what_would_nest_too_deep(self):
-        # Without bindings it doesn't, and is short.
+        # Of what is deep each so many operations are bound, and of what stands twice none.
         deep = ROWS.sum()
         for number in range(90):
             part = tensor([number]).sum()
             deep = (deep - part * part) * part
         self.assertEqual(len(bindings_of(deep).bound), 90)
-        self.assertEqual(lets(asked(deep)["expr"])[0], [])
+        self.assertEqual(len(lets(asked(deep)["expr"])[0]), 3)
+        self.assertLessEqual(nested(json.dumps(asked(deep))), MOST_NESTED)
+        for count in (119, 1_200, 3_000):
+            long = chain(ROWS, count)
+            self.assertLessEqual(nested(json.dumps(asked(long))), MOST_NESTED)
+            self.assertEqual(len(lets(asked(long)["expr"])[0]), (count - 2) // 59 * (count > 120))
+        self.assertRaisesRegex(client.TooLarge, "in parts", asked, chain(ROWS, 9_999))
+        self.assertRaisesRegex(client.TooLarge, "in parts", asked, chain(ROWS, 200), version=2)
         # Chains are balanced, and end at what is bound.
         total = ROWS.sum()
         part = total * total
@@ -244,10 +251,14 @@ class Versions(unittest.TestCase):
 
     def test_the_nodes_of_a_text(self):
         wide = client.concatenate([[it] for it in range(501)])
+        answers = [f'{{"data":{list(range(it))},"dims":[{it}]}}\n' for it in (245, 512, 501)]
         with unittest.mock.patch("tensor_client.running.answered_once") as answered:
-            answered.return_value = "error 14 TooLarge\n"
-            with self.assertRaisesRegex(client.TooLarge, "nodes: 1,001, and there may be 1,000"):
+            answered.side_effect = lambda path, text, seconds: answers.pop(0)
+            with contextlib.suppress(client.Fault, IndexError):
                 client.run(wide, program="tensor_run")
+        self.assertGreater(answered.call_count, 1)
+        for it in answered.call_args_list:
+            self.assertLessEqual(nodes_of(json.loads(it.args[1])["expr"]), 1_000)
 
 
 def floyd_and_warshall(ways, minimum):
@@ -310,10 +321,10 @@ class Loops(OneWay):
         ):
             numpy.testing.assert_array_equal(self.asked_once(expr).array(), wanted)
 
+    # The reference would take minutes.
+    @only_by(*(it for it in WAYS if not it.startswith("reference")))
     @unittest.skipIf(numpy is None, "numpy isn't installed")
     def test_many_values(self):
-        if self.way.startswith("reference"):
-            self.skipTest("the reference would take minutes")
         source = numpy.random.default_rng(4)
         ways, heat = source.integers(1, 10**6, (300, 300)), source.integers(0, 100, (700, 800))
         for expr, wanted in (

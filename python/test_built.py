@@ -20,6 +20,8 @@ from test_asked import documented, method
 HERE = os.path.dirname(os.path.realpath(__file__))
 # What a user writes, whose types have to be right.
 USER = """
+from typing import Callable
+
 import tensor_client as tc
 from tensor_client import Session, Tensor, einsum, run, tensor, where
 
@@ -27,11 +29,15 @@ x = tensor([[1, 2], [3, 4]])
 y = (x @ x.T + 2 * x - x[0] * 3)[:, ::-1].clip(0, 5).reshape(4, order="F")
 rows, columns = x.shape
 most: int = int(run(y.max(axis=0, keepdims=True))) + rows * columns
+x.sum(axes=0)  # type: ignore[call-arg]
+tc.max(x, axes=0)  # type: ignore[call-arg]
+chosen: tc.Expr = x[0].T.at[0].set(5) + tc.maximum.reduce(x) - tc.clip(x, 0, 1).squeeze()
+order: Tensor = tc.sort(x[x > 1])
 found: Tensor = run(where(~(x > 2) & (x != 0), x, -x), workers=2, timeout=1.5)
 total: int = sum(found.values) + run(tc.sum(x)).item()
 if (x == x.T).all():
     most = int(tc.cumsum(x, axis=1).max()) + x.argmax().item()
-times = tc.compile(x * tc.placeholder((2, 2)), workers=2)
+times: Callable[..., Tensor] = tc.compile(x * tc.placeholder((2, 2)), workers=2)
 again: Tensor = times([[1, 2], [3, 4]])
 with Session(workers=4, way="frames") as s:
     part = s.keep(einsum("ij,jk->ik", x, x))
@@ -88,18 +94,17 @@ class Built(unittest.TestCase):
             lambda: where("1", 2, 3),
             lambda: 1 if x < 2 else 0,
             lambda: 1 if x else 0,
-            lambda: list(x + 1),
-            lambda: 1 in x + 1,
             lambda: list(tensor(1)),
             lambda: x.sum(out=[]),
+            lambda: x.sum(axes=0),
+            lambda: client.max(x, axes=0),
             lambda: x.clip(0, 1, out=[]),
             lambda: pow(x, 2, 3),
-            lambda: x**x,
             lambda: x**2.0,
             lambda: client.einsum(x, [0, 1]),
             lambda: len(tensor(1)),
-            lambda: x / x,
-            lambda: 2**x,
+            lambda: [1, 2, 3][tensor([1])],
+            lambda: [1, 2][tensor(True)],
             lambda: x[True],
             lambda: x["a"],
         ):
@@ -257,7 +262,7 @@ class Built(unittest.TestCase):
                     names.append((f"{kind.__name__}.{name}", getattr(kind, name)))
         for name, it in names:
             if inspect.isfunction(it) or isinstance(it, property):
-                self.assertIn(">>> ", it.__doc__ or "", name)
+                self.assertRegex(it.__doc__ or "", ">>> |^As the function `", name)
 
     def test_short_texts_of_objects(self):
         x = tensor(list(range(1000)))
@@ -280,7 +285,7 @@ class Built(unittest.TestCase):
         shared = tensor([1, 2]) * 3
         for _ in range(30):
             shared = shared * shared + shared
-        with self.assertRaisesRegex(client.TooLong, "dims .* stands .* times: run it"):
+        with self.assertRaisesRegex(client.TooLong, "nodes: too many to count.*in parts"):
             client.request(shared)
         many = [tensor(range(2**20 - it)) for it in range(4)]
         with self.assertRaisesRegex(client.TooLong, "bytes.* values in it: the library"):
@@ -290,12 +295,11 @@ class Built(unittest.TestCase):
             framed(lots, Settings(version=2))
         self.assertIn(b'{"version":3,', framed(lots, Settings()).header[:14])
         for wrong, said in (
-            (lambda: client.sort(range(17_000)), "order along an axis takes all pairs"),
             (
                 lambda: client.request(client.take(range(10**6), [7, 5, 6] * 9999)),
                 "taking 29,997 offsets of 1,000",
             ),
-            (lambda: full((300, 99, 99), 1) @ full((300, 99, 99), 1), "stacks of matrices"),
+            (lambda: full((300, 99, 99), 1) @ full((300, 99, 99), 1), "run a part at a time"),
             (lambda: full((16_384, 16_385), 1), "run a part at a time"),
             (lambda: full([1] * 9, 1), "reshape some into one"),
         ):

@@ -217,6 +217,11 @@ class Arrays(Ways, unittest.TestCase):
             self.assertEqual(f(few).values, [1, 4])
             few[0] = 3
             self.assertEqual(f(few).values, [9, 4])
+            rows = numpy.array([[1, 2], [3, 4]])
+            g = compile(placeholder((2, 2)) + tensor(rows))
+            self.assertEqual(g([[0, 0], [0, 0]]).nested(), [[1, 2], [3, 4]])
+            rows[0, 1] = 7
+            self.assertEqual(g([[0, 0], [0, 0]]).nested(), [[1, 7], [3, 4]])
 
     def test_an_expression_with_many_nodes(self):
         # Turning inputs back would take too many nodes: they are copied.

@@ -225,6 +225,34 @@ class Limits(Connected):
                         client.Session(address=address, way="lines", timeout=timeout)
 
 
+class OtherWay(Connected):
+    """Sessions at services that answer in another way: the first exchange tells."""
+
+    def test_frames_at_a_service_of_lines(self):
+        for timeout in (None, SECONDS):
+            session = self.session(self.serving(ANSWER["lines"]), "frames", timeout)
+            with self.assertRaisesRegex(client.ProgramFailed, "no frame, but lines: way='lines'"):
+                session.run(X)
+            self.assertRaisesRegex(client.ProgramFailed, "closed", session.run, X)
+
+    def test_lines_at_what_waits_for_more(self):
+        over = threading.Event()
+        service = self.serving(lambda _: over.wait(SECONDS))
+        with unittest.mock.patch("tensor_client.running.FIRST_SECONDS", SOON):
+            with self.assertRaisesRegex(client.TimedOut, "does it answer in this way"):
+                self.session(service, "lines", None)
+        session = self.session(service, "lines", SOON)
+        self.assertRaisesRegex(client.TimedOut, "does it answer in this way", session.run, X)
+        over.set()
+
+    def test_the_way_that_answers(self):
+        for way, answer in ANSWER.items():
+            session = self.session(self.serving(answer), way, None)
+            for number in range(3):
+                self.assertEqual(session.run(X + number).values, [number + 1, number + 2])
+            self.assertEqual(session.stream.answered, 3)
+
+
 class Lost(Connected):
     """Connections that are lost: what is said of them, and that nothing is asked again."""
 

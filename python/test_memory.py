@@ -27,15 +27,28 @@ class Memory(unittest.TestCase):
     """Arrays that are handed over where they lie, those that are copied, and those refused."""
 
     def shares(self, x, array):
-        return numpy.shares_memory(numpy.asarray(x.held), array)
+        return numpy.shares_memory(numpy.asarray(x.own), array)
 
     def test_arrays_that_are_not_copied(self):
         flat = numpy.arange(6)
-        for array in (flat, flat.reshape(2, 3, order="F"), flat.reshape(2, 3).T, flat[2:4]):
-            x = tensor(array)
+        large = numpy.arange(6_000)
+        for array in (
+            flat,
+            flat.reshape(2, 3, order="F"),
+            flat.reshape(2, 3).T,
+            flat[2:4],
+            flat.reshape(2, 3),
+            large.reshape(60, 100),
+            large.reshape(10, 20, 30),
+        ):
+            x, more = tensor(array), tensor(array) + 1
             self.assertTrue(self.shares(x, array))
-            self.assertTrue(numpy.shares_memory(framed(x, Settings()).held[0], array))
+            is_kept = x.is_mirrored or array.flags.f_contiguous
+            self.assertEqual(numpy.shares_memory(framed(x, Settings()).held[0], array), is_kept)
             self.assertEqual(x.nested(), array.tolist())
+            array[...] = 3
+            for ask in self.ways():
+                self.assertEqual(set(ask(more).values), {4})
             # What is written into the array is written into the tensor.
             array[...] = 7
             self.assertEqual(set(x.values), {7})
@@ -47,8 +60,8 @@ class Memory(unittest.TestCase):
         read_only = numpy.arange(3)
         read_only.flags.writeable = False
         for array in (
-            flat.reshape(2, 3),
             flat[::2],
+            flat.reshape(2, 3)[:, ::2],
             flat.astype(numpy.int32),
             flat.astype(">i8"),
             flat > 2,
@@ -144,9 +157,9 @@ class Memory(unittest.TestCase):
                     self.assertEqual(again.values, list(range(0, 2 * size, 2)))
 
     def test_truths_are_kept(self):
-        x = tensor(numpy.array([True, False]))
-        x.array()[0] = 7
-        self.assertEqual((x.values, x.truth), ([1, 0], True))
+        x = tensor(numpy.array([False, True]))
+        x.array()[0] = True
+        self.assertEqual((x.values, x.truth, x.array().dtype), ([0, 1], True, bool))
 
     def test_pickled_tensors(self):
         for x in (tensor([[1, 2], [3, 4]]), tensor(numpy.arange(4).reshape(2, 2)), tensor([])):
@@ -173,10 +186,6 @@ class Memory(unittest.TestCase):
             self.assertRaises(TypeError, tensor, array)
             self.assertRaises(TypeError, lambda it: tensor([1, 2]) + it, array)
         self.assertRaises(OverflowError, tensor, numpy.array([2**63], dtype=numpy.uint64))
-
-    def test_an_expression_is_no_array(self):
-        with self.assertRaisesRegex(TypeError, r"run\(it\)"):
-            numpy.asarray(tensor([1, 2]) + 1)
 
 
 @unittest.skipIf(numpy is None, "numpy isn't installed")

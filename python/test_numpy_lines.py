@@ -11,8 +11,8 @@ import warnings
 
 import tensor_client as client
 from tensor_client import GREATEST, LEAST, Expr, tensor
-from tensor_client.functions import advice
-from asking import OneWay, each_way
+from tensor_client.functions import delegated
+from asking import OneWay, by_reference, each_way
 
 try:
     import numpy
@@ -21,7 +21,7 @@ except ImportError:
 
 FOLDER = os.path.join(os.path.dirname(os.path.realpath(__file__)), "lines")
 # What isn't written alike for numpy and for the client, over arrays of a few values.
-OTHERS = "over_many_values", "of_some_versions", "refused"
+OTHERS = "over_many_values", "of_some_versions", "of_numpy", "refused"
 DIMS = {"a": (3, 4), "b": (3, 4), "c": (2, 3, 4), "m": (4, 4), "v": 5, "w": 5}
 # Functions that are the client's own.
 OWN = {"answer", "compile", "contract", "placeholder", "request", "run", "tensor"}
@@ -81,7 +81,8 @@ class Alike(OneWay):
                 self.assertEqual(it.dims, answered.dims)
                 it = answered.array()
             self.assertEqual(numpy.shape(it), by_numpy.shape)
-            numpy.testing.assert_array_equal(it, by_numpy.astype(numpy.int64))
+            self.assertEqual(numpy.asarray(it).dtype == bool, by_numpy.dtype == bool)
+            numpy.testing.assert_array_equal(it, by_numpy)
 
 
 @unittest.skipIf(numpy is None, "numpy isn't installed")
@@ -99,6 +100,17 @@ class Lines(Alike):
                         self.agree(evaluated(line, client, tensors), wanted)
                         if not seed and line.startswith("np."):
                             self.agree(evaluated(line, client, given), wanted)
+
+    def test_lines_of_numpy(self):
+        for seed in range(2):
+            given = arrays(seed)
+            tensors = {name: tensor(it) for name, it in given.items()}
+            with unittest.mock.patch("tensor_client.running.run", self.ask):
+                for line in lines_of("of_numpy"):
+                    wanted = evaluated(line, numpy, given)
+                    for names in (tensors, {name: it + 0 for name, it in tensors.items()}):
+                        with self.subTest(line=line, seed=seed):
+                            self.agree(evaluated(line, client, names), wanted)
 
     def test_names_of_some_versions(self):
         given = arrays(1)
@@ -137,38 +149,46 @@ class Refused(unittest.TestCase):
     def test_refused(self):
         given = arrays(0)
         names = {name: tensor(it) for name, it in given.items()}
-        for line, word in paired("refused"):
-            with self.subTest(line=line):
-                with self.assertRaises((TypeError, ValueError, AttributeError)) as raised:
-                    evaluated(line, client, names)
-                self.assertIn(word, str(raised.exception))
+        with by_reference() as ask, unittest.mock.patch("tensor_client.running.run", ask):
+            for line, word in paired("refused"):
+                with self.subTest(line=line):
+                    with self.assertRaises((TypeError, ValueError, AttributeError)) as raised:
+                        evaluated(line, client, names)
+                    self.assertIn(word, str(raised.exception))
 
     def test_no_name_is_refused_without_advice(self):
         x = tensor([1, 2])
-        for name in advice.ADVICE:
-            self.assertNotIn(name, client.__all__)
+        for name in delegated.WRITING:
             for owner in (client, x, x + 1, client.linalg):
-                if not hasattr(owner, name):
-                    with self.assertRaisesRegex(AttributeError, f"has no '{name}': .."):
+                if name != "at":
+                    with self.assertRaisesRegex(AttributeError, f"has no '{name}': a tensor isn't"):
                         getattr(owner, name)
+        for name in delegated.IN_PLACE:
+            with self.assertRaisesRegex(AttributeError, rf"{name}\(x\) is a function"):
+                getattr(x, name)
 
     @unittest.skipIf(numpy is None, "numpy isn't installed")
     def test_each_name_of_numpy(self):
-        functions = [it for it in dir(numpy) if inspect.isroutine(getattr(numpy, it, None))]
+        functions = [it for it in dir(numpy) if callable(getattr(numpy, it, None))]
+        refused = delegated.WRITING | delegated.IN_PLACE
         for owner, names in ((client, functions), (tensor(1), dir(numpy.ndarray))):
             for name in names:
-                if not name.startswith("_") and not hasattr(owner, name):
-                    with self.assertRaisesRegex(AttributeError, f"has no '{name}': .."):
-                        getattr(owner, name)
+                if not name.startswith("_") and name not in refused:
+                    self.assertTrue(hasattr(owner, name), name)
 
     def test_a_name_that_is_none(self):
         with self.assertRaisesRegex(AttributeError, "'arange'"):
             client.arrange
+        with unittest.mock.patch.multiple(delegated, numpy=None):
+            for owner in (tensor(1), client.linalg):
+                self.assertRaisesRegex(AttributeError, "numpy", getattr, owner, "zzzzz")
+            self.assertRaisesRegex(TypeError, "numpy isn't installed", lambda: tensor(1) / 2)
         self.assertFalse(hasattr(client, "no_name_of_this_form"))
         self.assertFalse(hasattr(tensor(1) + 1, "_no_name_of_this_form"))
 
     def test_every_function_has_a_line(self):
-        text = "\n".join([*lines(), *(it[0] for it in paired("of_some_versions"))])
+        pairs = (it[0] for it in paired("of_some_versions"))
+        text = "\n".join([*lines(), *lines_of("of_numpy"), *pairs])
         for name in client.__all__:
             it = getattr(client, name)
             if inspect.isroutine(it) and name not in OWN:

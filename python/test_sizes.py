@@ -10,7 +10,7 @@ import unittest
 import tensor_client as client
 from tensor_client import compile, placeholder, tensor, where
 from tensor_client.rules import FIRST_ELEMENTS
-from asking import OneWay, each_way
+from asking import OneWay, each_way, only_by
 
 try:
     import numpy
@@ -137,9 +137,8 @@ class Sizes(OneWay):
                 self.ask(tensor(array) + 1, out=out, workers=2)
                 self.assertTrue(numpy.array_equal(out, array + 1))
 
+    @only_by("library")
     def test_compiled(self):
-        if self.way != "library":
-            self.skipTest("the library compiles")
         for count in self.each():
             array = line(count)
             x = placeholder(count)

@@ -8,8 +8,7 @@ gives their values.
 Python's own library is enough; where numpy is installed, tensors are made of arrays and give them.
 
 Column-major, the first axis fastest: so the values of a tensor stand in a request, in an answer
-and in `Tensor.values`. Nested lists and arrays are put into that order and taken out of it here
-(numpy's order="F"), whatever order they have themselves.
+and in `Tensor.values` (numpy's order="F"), whatever order lists and arrays have themselves.
 """
 
 import typing
@@ -19,11 +18,11 @@ from .expressions import Expr as Expr  # Before the tensors, which it needs and 
 from .compiled import compile as compile
 from .faults import *
 from .functions import *
-from .functions.advice import no_name as _no_name
+from .functions.delegated import function_of as _function_of
 from .requests import answer as answer, request as request
 from .running import Session as Session, run as run
 from .tensors import Tensor as Tensor, placeholder as placeholder, tensor as tensor
-from .values import GREATEST as GREATEST, LEAST as LEAST
+from .values import GREATEST as GREATEST, LEAST as LEAST, numpy as _numpy
 
 __version__ = "2.1.0"
 
@@ -42,5 +41,5 @@ if not typing.TYPE_CHECKING:
     __all__ += ["__version__"]
 
     def __getattr__(name):
-        """Says what to write in the place of a name of numpy's that isn't here."""
-        raise AttributeError(_no_name("tensor_client", name, __all__))
+        """What numpy has, and isn't here."""
+        return _function_of(_numpy, name, "tensor_client", __all__)

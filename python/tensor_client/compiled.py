@@ -7,7 +7,7 @@ import ctypes
 import functools
 import inspect
 import struct
-from typing import Any, Callable, Dict, Iterable, List, Sequence, Tuple
+from typing import Any, Callable, Dict, Iterable, List, Sequence, Tuple, overload
 
 from .explaining import explain
 from .expressions import Expr
@@ -17,7 +17,7 @@ from .library import Library, arrays_of, library_of
 from .memory import INT64, VALUE, as_memory, memory_for, numbers, place_of
 from .requests import Settings, framed
 from .results import Result, checked_out, lies_as_it_is, memory_of_out
-from .rewriting.bindings import with_others
+from .rewriting.bindings import in_order, with_others
 from .rules import Dims, product
 from .running import run
 from .tensors import Placeholder, Tensor, an_expr, placeholder, tensor
@@ -29,6 +29,18 @@ FEW = 64
 ARRAY = None if numpy is None else numpy.ndarray
 addressof: Callable[[Any], int] = ctypes.addressof
 from_buffer: Callable[[Any], Any] = ctypes.c_char.from_buffer
+
+
+@overload
+def compile(what: Expr, *, workers: int = 1) -> Compiled: ...
+
+
+@overload
+def compile(what: Callable[..., Any], *, workers: int = 1) -> Traced: ...
+
+
+@overload
+def compile(*, workers: int = 1) -> Callable[[Callable[..., Any]], Traced]: ...
 
 
 def compile(what: Any = None, *, workers: int = 1) -> Any:
@@ -71,6 +83,17 @@ def placeholders_of(expr: Expr) -> List[Placeholder]:
     return [found[it] for it in sorted(found)]
 
 
+def as_lent(expr: Expr) -> Expr:
+    """The expression over arrays where they lie, also those of few values: so each call has what was
+    written there before it."""
+    few = {
+        id(it): Tensor(it.own, it.dims or (), it.truth, turned=True)
+        for it in in_order(expr)
+        if isinstance(it, Tensor) and it.turned and not it.is_mirrored
+    }
+    return with_others(expr, few) if few else expr
+
+
 class Plan:
     """What the library has prepared for an expression whose inputs lie in these orders, and what it
     is handed beside the arrays of a call: those that stand in the expression itself, as they lie
@@ -79,6 +102,7 @@ class Plan:
     def __init__(
         self, library: Library, expr: Expr, inputs: Sequence[Tensor], settings: Settings, out: Any
     ) -> None:
+        expr = as_lent(expr)
         result = Result(expr, out)
         # Few values are a list, which stands column-major.
         if out is None and product(expr.dims or ()) <= FEW:

@@ -6,11 +6,9 @@ import re
 import subprocess
 
 from .expressions import Expr
-from .faults import Fault, NotJson, ProgramFailed, TooLarge
+from .faults import Fault, ProgramFailed, TooLarge
 from .finding import EXPLAIN, built, environment
-from .length import most_nodes, too_many_nodes
-from .requests import DEEPEST, Settings, fault_of, request
-from .rewriting.bindings import bindings_of
+from .requests import Settings, fault_of, request
 
 SECONDS = 10
 # What it says behind the fault: the place, a pointer into the text, and the reason.
@@ -20,12 +18,6 @@ SAID = re.compile(r"at (.*?): (.*)")
 def explain(fault: Fault, expr: Expr, settings: Settings) -> None:
     """Gives a fault its place and its reason, where it has no reason yet and the program is found.
     Whatever goes wrong on the way, the fault stays what it is."""
-    if isinstance(fault, NotJson) and not fault.why:
-        fault.tell(f"it nests {expr.depth:,} deep, and may about {DEEPEST}: run it in parts")
-    if isinstance(fault, TooLarge) and not fault.why:
-        most = most_nodes(settings.version)
-        if bindings_of(expr).nodes > most:
-            fault.tell(too_many_nodes(expr, most))
     # Behind these come want of memory and streams that fail, which no text tells of.
     if not fault.why and fault.number <= TooLarge.number:
         ask(fault, expr, settings)
@@ -38,12 +30,8 @@ def ask(fault: Fault, expr: Expr, settings: Settings) -> None:
         if path is None:
             return
         ended = subprocess.run(
-            [path],
-            input=request(expr, *settings).encode(),
-            capture_output=True,
-            env=environment(),
-            check=False,
-            timeout=SECONDS,
+            [path], input=request(expr, *settings).encode(), capture_output=True, env=environment(),
+            check=False, timeout=SECONDS,
         )
     except (Fault, ProgramFailed, OSError, subprocess.SubprocessError):
         return

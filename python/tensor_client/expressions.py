@@ -3,14 +3,18 @@ in tensors.py; the examples take their names from the package."""
 
 from __future__ import annotations
 
-from typing import TYPE_CHECKING, Any, Optional, Sequence
+from typing import Any, Optional, Sequence
 
 from . import rules
 from .methods import NumpyMethods
 from .rules import Dims, alike
-from .values import flag, is_bool, listed, value_of, whole
+from .values import as_bits, flag, is_bool, listed, value_of, whole
 
 MANY = 1_000_000_000
+# What gives truth values of two truth values.
+OF_TRUTHS = frozenset("mul cwise_max cwise_min bit_and bit_or bit_xor".split())
+# What is the same of numbers with a sign and without one.
+WRAPPING = frozenset("add sub mul eq ne bit_and bit_or bit_xor __and__ __or__ __xor__".split())
 
 
 class Expr(NumpyMethods):
@@ -18,22 +22,22 @@ class Expr(NumpyMethods):
     method by its own name, each that numpy has by numpy's name too.
 
     `dims` are those of the result; None where an operation isn't known here. `truth` says that all
-    values are 0 or 1, as those of comparisons are. What operands can't have is a fault at once.
+    values are truth values, as those of comparisons are. `leaf` is an input of these dims, if one is
+    known; `ran` says how often the expression was run for its values, without a call of `run`. What
+    operands can't have is a fault at once.
 
     >>> tensor([[1, 2, 3], [4, 5, 6]]) * 2
     <mul, dims (2, 3), 4 nodes>
     """
 
-    __slots__ = ("operation", "operands", "arguments", "dims", "truth", "depth", "nodes")
+    __slots__ = (
+        "operation", "operands", "arguments", "dims", "truth", "depth", "nodes", "leaf", "ran",
+    )
     __hash__ = object.__hash__
 
     def __init__(
-        self,
-        operation: str,
-        operands: Sequence[Expr],
-        arguments: Sequence[Any] = (),
-        dims: Optional[Dims] = None,
-        truth: bool = False,
+        self, operation: str, operands: Sequence[Expr], arguments: Sequence[Any] = (),
+        dims: Optional[Dims] = None, truth: bool = False,
     ) -> None:
         self.operation = operation
         self.operands: Sequence[Expr] = list(operands)
@@ -46,34 +50,26 @@ class Expr(NumpyMethods):
             nodes += it.nodes
         self.depth: int = 1 + depth
         self.nodes: int = nodes
+        self.leaf: Optional[Expr] = None
+        self.ran = 0
+        if self.operands:
+            first = self.operands[0]
+            if first.dims == dims and dims is not None:
+                self.leaf = first.leaf if first.operands else first
 
     def __repr__(self) -> str:
         dims = "dims not known" if self.dims is None else f"dims {self.dims}"
         nodes = f"{self.nodes} nodes" if self.nodes <= MANY else "many nodes"
-        return f"<{self.operation}, {dims}, {nodes}>"
+        times = {0: "", 1: ", ran once"}.get(self.ran, f", ran {self.ran} times")
+        return f"<{self.operation}, {dims}, {nodes}{times}>"
 
-    if not TYPE_CHECKING:
+    def _answered(self) -> Tensor:
+        """The tensor of the values, which are asked for without a call of `run`."""
+        from .running import run
 
-        def __getattr__(self, name: str) -> Any:
-            """Says what to write in the place of a method of numpy's that isn't here."""
-            if name.startswith("__"):
-                raise AttributeError(name)
-            from . import functions
-            from .functions.advice import no_method
-
-            raise AttributeError(no_method(type(self).__name__, name, vars(functions)))
-
-    # What numpy asks, with an expression among what its functions are given.
-
-    def __array_ufunc__(self, function: Any, method: str, *inputs: Any, **more: Any) -> Any:
-        from .functions.protocols import of_ufunc
-
-        return of_ufunc(function, method, inputs, more)
-
-    def __array_function__(self, function: Any, types: Any, inputs: Any, more: Any) -> Any:
-        from .functions.protocols import of_function
-
-        return of_function(function, inputs, more)
+        found = run(self)
+        self.ran += 1
+        return found
 
     def as_numbers(self) -> Expr:
         """The same, where values that are 0 and 1 needn't be truth values.
@@ -101,7 +97,7 @@ class Expr(NumpyMethods):
         >>> run(abs(tensor([1, -2]))).values
         [1, 2]
         """
-        return Expr("abs", [self], dims=self.dims)
+        return Expr("abs", [self], dims=self.dims, truth=self.truth)
 
     def square(self) -> Expr:
         """Each value times itself: x**2.
@@ -355,6 +351,8 @@ class Expr(NumpyMethods):
         truth = operation in ("all", "any")
         if self.dims is None:
             return Expr(operation, [self], [list(axes)], truth=truth)
+        if operation in ("maximum", "minimum") and self.size:
+            truth = self.truth
         found = rules.axes_of(axes, len(self.dims))
         return Expr(operation, [self], [found], rules.without(self.dims, found), truth)
 
@@ -389,10 +387,13 @@ class Expr(NumpyMethods):
 
 def elementwise(operation: str, left: Expr, right: Any, truth: bool = False) -> Expr:
     """An operation value by value, over the dims that both fit."""
-    other = right if isinstance(right, Expr) else beside(right, left)
+    if not isinstance(right, Expr):
+        right = beside(as_bits(right) if operation in WRAPPING else right, left)
+    other: Expr = right
     operands = [left, other] if left.dims == other.dims else alike(left, other)
+    truth = truth or (operation in OF_TRUTHS and left.truth and other.truth)
     return Expr(operation, operands, dims=operands[0].dims, truth=truth)
 
 
 # Tensors are expressions, and what stands beside an expression becomes one: each needs the other.
-from .tensors import an_expr, beside  # noqa: E402
+from .tensors import Tensor, an_expr, beside  # noqa: E402

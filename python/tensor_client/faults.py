@@ -33,6 +33,10 @@ class Fault(Exception):
     number: int = 0
     name: str = ""
 
+    def __init_subclass__(cls, number: int = 0) -> None:
+        if number:
+            cls.number, cls.name = number, cls.__name__
+
     def __init__(self, why: str = "", place: str = "") -> None:
         super().__init__(why)
         self.why, self.place = why, place
@@ -50,80 +54,25 @@ class Fault(Exception):
         return fault_made, (self.number, self.name, self.why, self.place)
 
 
-class TooLong(Fault):
-    number, name = 1, "TooLong"
-
-
-class NotJson(Fault):
-    number, name = 2, "NotJson"
-
-
-class BadField(Fault):
-    number, name = 3, "BadField"
-
-
-class BadVersion(Fault):
-    number, name = 4, "BadVersion"
-
-
-class BadWorkers(Fault):
-    number, name = 5, "BadWorkers"
-
-
-class BadBlock(Fault):
-    number, name = 6, "BadBlock"
-
-
-class BadTensor(Fault, ValueError):
-    number, name = 7, "BadTensor"
-
-
-class UnknownInput(Fault):
-    number, name = 8, "UnknownInput"
-
-
-class UnknownOp(Fault):
-    number, name = 9, "UnknownOp"
-
-
-class BadArity(Fault):
-    number, name = 10, "BadArity"
-
-
-class BadArgument(Fault, ValueError):
-    number, name = 11, "BadArgument"
-
-
-class ShapeMismatch(Fault, ValueError):
-    number, name = 12, "ShapeMismatch"
-
-
-class OutOfRange(Fault, IndexError, ValueError):
-    number, name = 13, "OutOfRange"
-
-
-class TooLarge(Fault, ValueError):
-    number, name = 14, "TooLarge"
-
-
-class NoMemory(Fault, MemoryError):
-    number, name = 15, "NoMemory"
-
-
-class ReadFault(Fault):
-    number, name = 16, "ReadFault"
-
-
-class WriteFault(Fault):
-    number, name = 17, "WriteFault"
-
-
-class TooManyWorkers(Fault):
-    number, name = 19, "TooManyWorkers"
-
-
-class TooManySteps(Fault):
-    number, name = 20, "TooManySteps"
+class TooLong(Fault, number=1): ...
+class NotJson(Fault, number=2): ...
+class BadField(Fault, number=3): ...
+class BadVersion(Fault, number=4): ...
+class BadWorkers(Fault, number=5): ...
+class BadBlock(Fault, number=6): ...
+class BadTensor(Fault, ValueError, number=7): ...
+class UnknownInput(Fault, number=8): ...
+class UnknownOp(Fault, number=9): ...
+class BadArity(Fault, number=10): ...
+class BadArgument(Fault, ValueError, number=11): ...
+class ShapeMismatch(Fault, ValueError, number=12): ...
+class OutOfRange(Fault, IndexError, ValueError, number=13): ...
+class TooLarge(Fault, ValueError, number=14): ...
+class NoMemory(Fault, MemoryError, number=15): ...
+class ReadFault(Fault, number=16): ...
+class WriteFault(Fault, number=17): ...
+class TooManyWorkers(Fault, number=19): ...
+class TooManySteps(Fault, number=20): ...
 
 
 FAULTS: Dict[int, Type[Fault]] = {it.number: it for it in Fault.__subclasses__()}

@@ -30,7 +30,7 @@ def parts_of(index: Tuple[Any, ...], rank: int) -> List[Any]:
 
 def is_index(it: Any) -> bool:
     """Whether this names offsets along one axis, or axes: no truth value, no list."""
-    if is_bool(it) or getattr(it, "shape", None):
+    if is_bool(it) or getattr(it, "shape", None) or getattr(it, "truth", False):
         return False
     if it is None or it is Ellipsis or isinstance(it, slice):
         return True

@@ -11,9 +11,9 @@ from typing import Any, Dict, List, Optional, Tuple
 from . import finding
 from .expressions import Expr
 from .faults import Fault, ProgramFailed, fault_made
-from .length import most_nodes
+from .length import FIRST_NODES, most_nodes
 from .memory import LARGE, VALUE, Bytes, as_memory, joined, memory_for, place_of
-from .requests import Framed, Settings, framed
+from .requests import DEEPEST, Framed, Settings, framed
 from .results import Result
 from .rewriting.bindings import bindings_of, with_others
 from .rewriting.mirrored import REDUCTIONS
@@ -74,8 +74,10 @@ class Library:
     def run(self, expr: Expr, settings: Settings, out: Any = None) -> Tensor:
         """The tensor of an expression's values, or its fault."""
         few = LARGE if out is not None or expr.dims is None else product(expr.dims)
-        asked = framed(expr, settings) if few < LARGE else None
-        if asked is not None and asked.size < LARGE:
+        is_long = expr.depth > DEEPEST or expr.nodes > FIRST_NODES
+        # One request may not have what is long, which is to be known before parts of it are run.
+        asked = framed(expr, settings) if few < LARGE or is_long else None
+        if few < LARGE and asked is not None and asked.size < LARGE:
             found = self.answered_at_once(asked, few)
             if found is not None:
                 found.truth = expr.truth

@@ -52,10 +52,10 @@ def few_of(values: bytes) -> List[int]:
 def memory_of_array(array: Any) -> Tuple[memoryview, bool]:
     """The memory of an array, and whether its values stand there in numpy's common order, the last
     axis fastest: its own where they stand in either order, 8 bytes each, without gaps, and else
-    that of a copy, column-major. Few values are copied where they don't stand column-major."""
+    that of a copy, column-major."""
     flags = array.flags
     lies = array.dtype == INT64 and flags.aligned
-    if lies and flags.c_contiguous and not flags.f_contiguous and array.size >= LARGE:
+    if lies and flags.c_contiguous and not flags.f_contiguous:
         return array.reshape(-1).data, True
     if not (lies and flags.f_contiguous):
         array = numpy.array(array, dtype=INT64, order="F")

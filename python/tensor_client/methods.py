@@ -2,14 +2,17 @@
 
 from __future__ import annotations
 
-from typing import TYPE_CHECKING, Any, Optional, Sequence, Union
+from typing import TYPE_CHECKING, Any, Protocol, Sequence, Union
 
 from . import rules
 from .values import listed, numbers_of, numpy, whole
 from .ways import NumpyWays
 
+# The functions are made of expressions, and give their name here once they are there.
 if TYPE_CHECKING:
+    from . import functions
     from .expressions import Expr
+    from .tensors import Tensor
 
 Axis = Union[None, int, Sequence[int]]
 CUMULATIVE = "cumsum", "cumprod"
@@ -24,11 +27,31 @@ def written_nowhere(out: Any) -> None:
         raise TypeError("an expression is written nowhere: run(it, out=..)")
 
 
-def functions() -> Any:
-    """The functions, which are made of expressions."""
-    from . import functions as found
+class Reducing(Protocol):
+    """A reduction, whose axes are named by position or by `axis`."""
 
-    return found
+    def __call__(
+        self, *named: Any, axis: Axis = None, keepdims: bool = False, dtype: Any = None,
+        out: None = None, initial: Any = None, where: Any = None,
+    ) -> Expr: ...
+
+
+def reducing(operation: str, what: str, wanted: str) -> Any:
+    """A reduction as a method, with an example."""
+
+    def method(
+        self: Any, *axes: Any, axis: Axis = None, keepdims: bool = False, **more: Any
+    ) -> Expr:
+        found: Expr = self._combined(operation, axes, axis, keepdims, **more)
+        return found
+
+    method.__name__ = method.__qualname__ = operation
+    method.__doc__ = f"""{what}, over these axes or over all: x.sum(0), x.sum(0, 1), x.sum(axis=(0, 1)).
+
+    >>> run(tensor([[3, 1], [7, 4]]).{operation}(axis=0)).values
+    {wanted}
+    """
+    return method
 
 
 class NumpyMethods(NumpyWays):
@@ -38,81 +61,43 @@ class NumpyMethods(NumpyWays):
 
     @property
     def dtype(self) -> Any:
-        """The dtype of all values, int64.
+        """The dtype of the values: int64, or bool of truth values.
 
-        >>> tensor([1, 2]).dtype == "int64"
-        True
+        >>> tensor([1, 2]).dtype == "int64", (tensor([1, 2]) < 2).dtype == "bool"
+        (True, True)
         """
-        return "int64" if numpy is None else numpy.dtype(numpy.int64)
+        name = "bool" if self.truth else "int64"
+        return name if numpy is None else numpy.dtype(name)
 
     # Reductions, over all axes where none are named. `initial` is combined with the values, of
     # which only those count where `where` isn't 0.
 
-    def sum(self, *axes: Any, axis: Axis = None, keepdims: bool = False, **more: Any) -> Expr:
-        """The sums over these axes, or over all: x.sum(0), x.sum(0, 1), x.sum(axis=(0, 1)).
-
-        >>> x = tensor([[1, 2, 3], [4, 5, 6]])
-        >>> run(x.sum()).item(), run(x.sum(axis=-1, keepdims=True)).nested()
-        (21, [[6], [15]])
-        """
-        return self._combined("sum", axes, axis, keepdims, **more)
-
-    def prod(self, *axes: Any, axis: Axis = None, keepdims: bool = False, **more: Any) -> Expr:
-        """The products over these axes, or over all.
-
-        >>> run(tensor([[1, 2, 3], [4, 5, 6]]).prod(axis=0)).values
-        [4, 10, 18]
-        """
-        return self._combined("prod", axes, axis, keepdims, **more)
-
-    def maximum(self, *axes: Any, axis: Axis = None, keepdims: bool = False, **more: Any) -> Expr:
-        """The greatest values over these axes, or over all; of nothing, the least number.
-
-        >>> run(tensor([[1, 5], [7, 3]]).max(axis=1)).values
-        [5, 7]
-        """
-        return self._combined("maximum", axes, axis, keepdims, **more)
-
-    def minimum(self, *axes: Any, axis: Axis = None, keepdims: bool = False, **more: Any) -> Expr:
-        """The least values over these axes, or over all; of nothing, the greatest number.
-
-        >>> run(tensor([[1, 5], [7, 3]]).min(axis=1)).values
-        [1, 3]
-        """
-        return self._combined("minimum", axes, axis, keepdims, **more)
-
-    def all(self, *axes: Any, axis: Axis = None, keepdims: bool = False, **more: Any) -> Expr:
-        """1 where no value over these axes is 0, else 0.
-
-        >>> run(tensor([[1, 0], [7, 3]]).all(axis=1)).values
-        [0, 1]
-        """
-        return self._combined("all", axes, axis, keepdims, **more)
-
-    def any(self, *axes: Any, axis: Axis = None, keepdims: bool = False, **more: Any) -> Expr:
-        """1 where a value over these axes isn't 0, else 0.
-
-        >>> run(tensor([[1, 0], [0, 0]]).any(axis=1)).values
-        [1, 0]
-        """
-        return self._combined("any", axes, axis, keepdims, **more)
-
-    max, min = maximum, minimum
+    if TYPE_CHECKING:
+        sum: Reducing
+        prod: Reducing
+        maximum: Reducing
+        minimum: Reducing
+        max: Reducing
+        min: Reducing
+        all: Reducing
+        any: Reducing
+    else:
+        sum = reducing("sum", "The sums", "[10, 5]")
+        prod = reducing("prod", "The products", "[21, 4]")
+        maximum = max = reducing("maximum", "The greatest values; of nothing the least number", "[7, 4]")
+        minimum = min = reducing("minimum", "The least values; of nothing the greatest number", "[3, 1]")
+        all = reducing("all", "Whether no value is 0", "[1, 1]")
+        any = reducing("any", "Whether a value isn't 0", "[1, 1]")
 
     def _combined(
-        self,
-        operation: str,
-        axes: Sequence[Any],
-        axis: Axis,
-        keepdims: bool,
-        dtype: Any = None,
-        out: None = None,
-        initial: Any = None,
-        where: Any = None,
+        self, operation: str, axes: Sequence[Any], axis: Axis, keepdims: bool, dtype: Any = None,
+        out: None = None, initial: Any = None, where: Any = None, **unknown: Any,
     ) -> Expr:
+        for it in unknown:
+            raise TypeError(f"{operation} has no {it}=: its axes are axis=, an axis or several")
         written_nowhere(out)
         if where is not None and where is not True:
-            chosen: NumpyMethods = functions().where(where, self, IDENTITIES[operation])
+            chosen = functions.where(where, self, IDENTITIES[operation])
             return chosen._combined(operation, axes, axis, keepdims, dtype, None, initial)
         found = self._reduced(operation, axes, axis)
         if keepdims:
@@ -120,8 +105,9 @@ class NumpyMethods(NumpyWays):
             found = found.in_dims([1 if at in gone else it for at, it in enumerate(self.shape)])
         if initial is not None:
             found = getattr(found, COMBINED[operation])(initial)
-        typed: Expr = functions().astype(found, dtype)
-        return typed
+        from .functions.common import as_dtype
+
+        return as_dtype(found, dtype)
 
     def _reduced(self, operation: str, axes: Sequence[Any], axis: Axis) -> Expr:
         """A reduction over axes that are named by position, by name, or not at all."""
@@ -170,179 +156,99 @@ class NumpyMethods(NumpyWays):
         at = rules.axis_of(at, len(dims))
         return Expr("take", operands, [at], rules.taken(dims, named.dims, at), self.truth)
 
-    # What is a function as well.
+    # What is a function as well, of the same name.
 
-    def clip(self, min: Any = None, max: Any = None, out: None = None) -> Any:
+    def clip(self, min: Any = None, max: Any = None, out: None = None) -> Expr:
         """The values, none of them below the one and above the other.
 
         >>> run(tensor([1, 5, 9]).clip(2, 8)).values, run(tensor([1, 5, 9]).clip(max=6)).values
         ([2, 5, 8], [1, 5, 6])
         """
         written_nowhere(out)
-        found = self if min is None else self.cwise_max(min)
-        return found if max is None else found.cwise_min(max)
+        found: Any = self if min is None else self.cwise_max(min)
+        clipped: Expr = found if max is None else found.cwise_min(max)
+        return clipped
 
-    def dot(self, other: Any, out: None = None) -> Any:
-        """numpy's dot: the sums of products over the last axis and the other's last but one.
-
-        >>> run(tensor([1, 2]).dot([3, 4])).item()
-        11
-        """
+    def dot(self, other: Any, out: None = None) -> Expr:
+        """As the function `dot`."""
         written_nowhere(out)
-        return functions().dot(self, other)
+        return functions.dot(self, other)
 
-    def pad(self, widths: Any, mode: str = "constant", constant_values: Any = 0) -> Any:
-        """Values around, by numpy's widths: one number, (before, behind) for all axes, or a pair
-        for each.
-
-        >>> run(tensor([[1, 2], [3, 4]]).pad(1)).nested()
-        [[0, 0, 0, 0], [0, 1, 2, 0], [0, 3, 4, 0], [0, 0, 0, 0]]
-        """
-        return functions().pad(self, widths, mode, constant_values)
+    def pad(self, widths: Any, mode: str = "constant", constant_values: Any = 0) -> Expr:
+        """As the function `pad`."""
+        return functions.pad(self, widths, mode, constant_values)
 
     def astype(self, dtype: Any, **more: Any) -> Any:
-        """The values as a dtype: as int64 what they are, as bool 1 where they aren't 0.
+        """As the function `astype`: of other dtypes than int64 and bool it is an array of numpy."""
+        return functions.astype(self, dtype)
 
-        >>> run(tensor([0, 5]).astype(bool)).values
-        [0, 1]
-        """
-        return functions().astype(self, dtype)
+    def copy(self, order: str = "C") -> Expr:
+        """As the function `copy`."""
+        return functions.copy(self)
 
-    def copy(self, order: str = "C") -> Any:
-        """A tensor with values of its own; an expression stays what it is.
+    def round(self, decimals: int = 0, out: None = None) -> Expr:
+        """As the function `round`."""
+        return functions.round(self, decimals)
 
-        >>> tensor([1, 2]).copy().values
-        [1, 2]
-        """
-        return functions().copy(self)
-
-    def round(self, decimals: int = 0, out: None = None) -> Any:
-        """The values as they are: whole numbers are round.
-
-        >>> run(tensor([14, 16]).round()).values
-        [14, 16]
-        """
-        return functions().round(self, decimals)
-
-    def conj(self) -> Any:
-        """The values as they are.
-
-        >>> run(tensor([1, 2]).conj()).values
-        [1, 2]
-        """
-        return self
+    def conj(self) -> Expr:
+        """As the function `conj`: the values as they are."""
+        return functions.conj(self)
 
     conjugate = conj
 
-    def squeeze(self, axis: Any = None) -> Any:
-        """Without the axes of one place, or without these.
+    def squeeze(self, axis: Any = None) -> Expr:
+        """As the function `squeeze`."""
+        return functions.squeeze(self, axis)
 
-        >>> tensor([[[1], [2]]]).squeeze().dims
-        (2,)
-        """
-        return functions().squeeze(self, axis)
+    def swapaxes(self, axis1: int, axis2: int) -> Expr:
+        """As the function `swapaxes`."""
+        return functions.swapaxes(self, axis1, axis2)
 
-    def swapaxes(self, axis1: int, axis2: int) -> Any:
-        """Two axes, one in the other's place.
+    def repeat(self, repeats: Any, axis: Any = None) -> Expr:
+        """As the function `repeat`."""
+        return functions.repeat(self, repeats, axis)
 
-        >>> tensor([[[1, 2, 3]]]).swapaxes(0, 2).dims
-        (3, 1, 1)
-        """
-        return functions().swapaxes(self, axis1, axis2)
-
-    def repeat(self, repeats: Any, axis: Any = None) -> Any:
-        """Each value so often, along an axis or along one of all values.
-
-        >>> run(tensor([1, 2]).repeat(2)).values
-        [1, 1, 2, 2]
-        """
-        return functions().repeat(self, repeats, axis)
-
-    def take(self, indices: Any, axis: Any = None, out: None = None, mode: str = "raise") -> Any:
-        """What stands at these offsets of an axis, or of all values, which may count from behind.
-
-        >>> run(tensor([5, 6, 7, 8]).take([3, 0, 1])).values
-        [8, 5, 6]
-        """
+    def take(self, indices: Any, axis: Any = None, out: None = None, mode: str = "raise") -> Expr:
+        """As the function `take`."""
         written_nowhere(out)
-        return functions().take(self, indices, axis, None, mode)
+        return functions.take(self, indices, axis, None, mode)
 
-    def compress(self, condition: Any, axis: Any = None) -> Any:
-        """What stands where a list of truth values says so, along an axis or in all values.
+    def compress(self, condition: Any, axis: Any = None) -> Expr:
+        """As the function `compress`, which has the condition first."""
+        return functions.compress(condition, self, axis)
 
-        >>> run(tensor([5, 6, 7]).compress([True, False, True])).values
-        [5, 7]
-        """
-        return functions().compress(condition, self, axis)
+    def diagonal(self, offset: int = 0, axis1: int = 0, axis2: int = 1) -> Expr:
+        """As the function `diagonal`."""
+        return functions.diagonal(self, offset, axis1, axis2)
 
-    def diagonal(self, offset: int = 0, axis1: int = 0, axis2: int = 1) -> Any:
-        """The values along a diagonal of two axes, as the last axis.
+    def trace(self, offset: int = 0, axis1: int = 0, axis2: int = 1, dtype: Any = None) -> Expr:
+        """As the function `trace`."""
+        return functions.trace(self, offset, axis1, axis2, dtype)
 
-        >>> run(tensor([[1, 2], [3, 4]]).diagonal()).values
-        [1, 4]
-        """
-        return functions().diagonal(self, offset, axis1, axis2)
+    def argmax(self, axis: Any = None, out: None = None, keepdims: bool = False) -> Expr:
+        """As the function `argmax`."""
+        return functions.argmax(self, axis, out, keepdims)
 
-    def trace(self, offset: int = 0, axis1: int = 0, axis2: int = 1, dtype: Any = None) -> Any:
-        """The sum along a diagonal of two axes.
+    def argmin(self, axis: Any = None, out: None = None, keepdims: bool = False) -> Expr:
+        """As the function `argmin`."""
+        return functions.argmin(self, axis, out, keepdims)
 
-        >>> run(tensor([[1, 2], [3, 4]]).trace()).item()
-        5
-        """
-        return functions().trace(self, offset, axis1, axis2, dtype)
+    def argsort(self, axis: Any = -1, kind: Any = "stable") -> Tensor:
+        """As the function `argsort`."""
+        return functions.argsort(self, axis, kind)
 
-    def argmax(self, axis: Any = None, out: None = None, keepdims: bool = False) -> Any:
-        """The offset of the greatest value along an axis, or in all values; the first of several.
+    def searchsorted(self, v: Any, side: str = "left", sorter: Any = None) -> Tensor:
+        """As the function `searchsorted`."""
+        return functions.searchsorted(self, v, side, sorter)
 
-        >>> run(tensor([3, 9, 9]).argmax()).item()
-        1
-        """
-        return functions().argmax(self, axis, out, keepdims)
+    def ptp(self, axis: Any = None, keepdims: bool = False) -> Expr:
+        """As the function `ptp`."""
+        return functions.ptp(self, axis, keepdims)
 
-    def argmin(self, axis: Any = None, out: None = None, keepdims: bool = False) -> Any:
-        """The offset of the least value along an axis, or in all values; the first of several.
+    def cumsum(self, axis: Any = None, dtype: Any = None, out: None = None) -> Expr:
+        """As the function `cumsum`."""
+        return functions.cumsum(self, axis, dtype, out)
 
-        >>> run(tensor([3, 1, 1]).argmin()).item()
-        1
-        """
-        return functions().argmin(self, axis, out, keepdims)
-
-    def argsort(self, axis: Any = -1, kind: Optional[str] = None) -> Any:
-        """The offsets of the values along an axis by their order.
-
-        >>> run(tensor([30, 10, 20]).argsort()).values
-        [1, 2, 0]
-        """
-        return functions().argsort(self, axis)
-
-    def searchsorted(self, v: Any, side: str = "left") -> Any:
-        """The first offset at which each value can be put into this list, which rises.
-
-        >>> run(tensor([1, 3, 5]).searchsorted([3, 4])).values
-        [1, 2]
-        """
-        return functions().searchsorted(self, v, side)
-
-    def ptp(self, axis: Any = None, keepdims: bool = False) -> Any:
-        """The greatest value less the least.
-
-        >>> run(tensor([3, 9, 5]).ptp()).item()
-        6
-        """
-        return functions().ptp(self, axis, keepdims)
-
-    def cumsum(self, axis: Any = None, dtype: Any = None, out: None = None) -> Any:
-        """The sum of each value and all before it along an axis, or in all values.
-
-        >>> run(tensor([1, 2, 3]).cumsum()).values
-        [1, 3, 6]
-        """
-        return functions().cumsum(self, axis, dtype, out)
-
-    def cumprod(self, axis: Any = None, dtype: Any = None, out: None = None) -> Any:
-        """The product of each value and all before it along an axis, or in all values.
-
-        >>> run(tensor([1, 2, 3]).cumprod()).values
-        [1, 2, 6]
-        """
-        return functions().cumprod(self, axis, dtype, out)
+    def cumprod(self, axis: Any = None, dtype: Any = None, out: None = None) -> Expr:
+        """As the function `cumprod`."""
+        return functions.cumprod(self, axis, dtype, out)

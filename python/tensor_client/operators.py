@@ -1,23 +1,14 @@
-"""Python's operators on expressions, as numpy's arrays have them, and those that are refused."""
+"""Python's operators on expressions, as numpy's arrays have them."""
 
 from __future__ import annotations
 
-from typing import TYPE_CHECKING, Any, Callable, NoReturn, Optional, Sequence, Tuple
+from typing import TYPE_CHECKING, Any, Callable, Optional, Sequence, Tuple
 
 from .rules import Dims
-from .values import is_bool, is_several, whole
+from .values import as_bits, is_bool, is_several, whole
 
 if TYPE_CHECKING:
     from .expressions import Expr
-
-
-def none(name: str, instead: str = "") -> Callable[..., NoReturn]:
-    """An operator that the runtime has no operation for."""
-
-    def refuse(self: Any, other: Any = None, modulo: Any = None) -> NoReturn:
-        raise TypeError(f"the runtime has no {name}" + (f": {instead}" if instead else ""))
-
-    return refuse
 
 
 class Operators:
@@ -30,7 +21,6 @@ class Operators:
         truth: bool
         neg: Callable[[], Expr]
         abs: Callable[[], Expr]
-        square: Callable[[], Expr]
         not_: Callable[[], Expr]
         add: Callable[[Any], Expr]
         sub: Callable[[Any], Expr]
@@ -44,16 +34,9 @@ class Operators:
         and_: Callable[[Any], Expr]
         or_: Callable[[Any], Expr]
         cwise_max: Callable[[Any], Expr]
-        cwise_min: Callable[[Any], Expr]
-        slice: Callable[..., Expr]
-        stride: Callable[..., Expr]
         shuffle: Callable[..., Expr]
-        reverse: Callable[..., Expr]
         in_dims: Callable[[Sequence[int]], Expr]
-        chip: Callable[[int, int], Expr]
         reduced: Callable[[str, Sequence[int]], Expr]
-        contract: Callable[[Any, Sequence[Any]], Expr]
-        zeros_around: Callable[[Sequence[Sequence[int]]], Expr]
 
     def __neg__(self) -> Expr:
         return self.neg()
@@ -74,13 +57,13 @@ class Operators:
         return self.mul(other)
 
     def __radd__(self, other: Any) -> Expr:
-        return self._beside(other).add(self)
+        return self._beside(as_bits(other)).add(self)
 
     def __rsub__(self, other: Any) -> Expr:
-        return self._beside(other).sub(self)
+        return self._beside(as_bits(other)).sub(self)
 
     def __rmul__(self, other: Any) -> Expr:
-        return self._beside(other).mul(self)
+        return self._beside(as_bits(other)).mul(self)
 
     def __lt__(self, other: Any) -> Expr:
         return self.lt(other)
@@ -110,16 +93,17 @@ class Operators:
 
         return matmul(other, self)
 
-    def __pow__(self, exponent: int, modulo: None = None) -> Expr:
-        """Powers by a whole number from 0 up, by squares.
+    def __pow__(self, exponent: Any, modulo: None = None) -> Any:
+        """Powers by a whole number from 0 up, by squares; by several numbers they are numpy's, and
+        both are run.
 
         >>> run(tensor([2, 3]) ** 5).values
         [32, 243]
         """
         if modulo is not None:
             raise TypeError("the runtime has no powers of a modulus")
-        if hasattr(exponent, "shape") and exponent.shape != ():
-            raise TypeError("the runtime has no powers by values: the exponent is a number")
+        if is_several(exponent):
+            return self._by_numpy("power", self, exponent)
         number = whole(exponent)
         if number < 0:
             raise ValueError("whole numbers have no negative powers")
@@ -172,7 +156,7 @@ class Operators:
         """Whether both are known to be 0 and 1, where bit by bit and as a whole are the same."""
         from .tensors import an_expr
 
-        theirs = is_bool(other) or (not isinstance(other, int) and an_expr(other).truth)
+        theirs = is_bool(other) or (not isinstance(other, int) and an_expr(as_bits(other)).truth)
         return self.truth and theirs
 
     # Division, rounded down.
@@ -195,8 +179,21 @@ class Operators:
     def __rdivmod__(self, other: Any) -> Tuple[Expr, Expr]:
         return self._beside(other).__divmod__(self)
 
-    __truediv__ = __rtruediv__ = none("quotients that are fractions", "x // y is rounded down")
-    __rpow__ = none("powers by values")
+    # What is a fraction, or takes powers by values, is numpy's, of what is run for it.
+
+    def __truediv__(self, other: Any) -> Any:
+        return self._by_numpy("true_divide", self, other)
+
+    def __rtruediv__(self, other: Any) -> Any:
+        return self._by_numpy("true_divide", other, self)
+
+    def __rpow__(self, other: Any) -> Any:
+        return self._by_numpy("power", self._beside(other), self)
+
+    def _by_numpy(self, name: str, *operands: Any) -> Any:
+        from .functions.delegated import by_numpy
+
+        return by_numpy(name, *operands)
 
     # The operations behind some of these, which frames and the library alone have.
 

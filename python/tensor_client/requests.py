@@ -6,32 +6,20 @@ import json
 from functools import lru_cache
 from operator import itemgetter
 from typing import (
-    Any,
-    Callable,
-    Dict,
-    Iterable,
-    List,
-    NamedTuple,
-    Optional,
-    Set,
-    Tuple,
-    Union,
+    Any, Callable, Dict, Iterable, List, NamedTuple, Optional, Set, Tuple, Union,
 )
 
 from .expressions import Expr
 from .faults import BadVersion, Fault, TooLong, fault_made
 from .length import (
-    FIRST_NODES,
-    FIRST_VALUES,
-    MAX_TEXT,
-    MAX_VALUES,
-    most_nodes,
-    too_long_text,
-    too_many_nodes,
-    too_many_values,
+    FIRST_NODES, FIRST_VALUES, MAX_TEXT, MAX_VALUES, Unfit, most_nodes, too_long_text,
+    too_many_nodes, too_many_values,
 )
 from .memory import Held
-from .rewriting.bindings import ALONG_AN_AXIS, FEWEST, Bindings, bindings_of
+from .rewriting.bindings import (
+    ALONG_AN_AXIS, FEWEST, Bindings, bindings_of, bound_by_depth,
+)
+from .rewriting.chains import GROUPED, balanced
 from .rewriting.texts import as_in_texts
 from .rules import FIRST_ELEMENTS, MOST_ELEMENTS, Dims, places
 from .tensors import Placeholder, Tensor, an_expr
@@ -54,13 +42,6 @@ LAST_OF_TEXTS = 2
 DEEPEST, MOST_NESTED = 120, 126
 # So many bytes a node of an expression has in a text at least: a name, and a comma behind it.
 LEAST_NODE = 5
-SUMS = frozenset(("add", "sub"))
-# Operations whose chains may be grouped in any way, and what else stands in such a chain: modulo
-# 2**64 the values are the same.
-GROUPED = {it: frozenset((it,)) for it in "mul cwise_max cwise_min and or".split()}
-GROUPED.update({it: frozenset((it,)) for it in "bit_and bit_or bit_xor".split()})
-GROUPED.update(dict.fromkeys(SUMS, SUMS))
-
 
 # The text of a JSON value, without spaces.
 compact: Callable[[Any], str] = json.JSONEncoder(separators=(",", ":")).encode
@@ -111,40 +92,6 @@ def nested(text: str) -> int:
     return found
 
 
-def links(expr: Expr, bound: Dict[int, str]) -> Tuple[List[Expr], List[Expr]]:
-    """The operands of a chain of one operation, in their order: x, y and z of (x + y) + z; and
-    apart from them those that are taken away, as z of (x + y) - z. What is bound is no chain."""
-    found: Tuple[List[Expr], List[Expr]] = [], []
-    chained, left = GROUPED[expr.operation], [(expr, 0)]
-    while left:
-        it, taken = left.pop()
-        if it.operation in chained and len(it.operands) == 2 and id(it) not in bound:
-            x, y = it.operands
-            left += (y, taken ^ (it.operation == "sub")), (x, taken)
-        else:
-            found[taken].append(it)
-    return found
-
-
-def in_pairs(operation: str, level: List[Expr]) -> Expr:
-    """Operands of one operation as a tree of pairs, which nests by the logarithm of their
-    number."""
-    while len(level) > 1:
-        zipped = zip(level[::2], level[1::2])
-        pairs = [Expr(operation, it, dims=it[0].dims) for it in zipped]
-        level = pairs + level[len(level) // 2 * 2 :]
-    return level[0]
-
-
-def balanced(expr: Expr, bound: Dict[int, str]) -> Expr:
-    """A chain of one operation as trees of pairs: of sums and differences what is taken away is
-    summed, and taken away once."""
-    operation = "add" if expr.operation in SUMS else expr.operation
-    kept, taken = links(expr, bound)
-    found = in_pairs(operation, kept)
-    return Expr("sub", [found, in_pairs(operation, taken)], dims=expr.dims) if taken else found
-
-
 class Text:
     """An expression's text, as it is put together, with its bindings in front: its inputs get names
     by the order in which they stand, and its version is the least that has all its operations and
@@ -153,11 +100,7 @@ class Text:
     Where it looks for what stands again, it ends at the first such operation."""
 
     def __init__(
-        self,
-        expr: Expr,
-        bindings: Optional[Bindings] = None,
-        most: int = 0,
-        looks: bool = False,
+        self, expr: Expr, bindings: Optional[Bindings] = None, most: int = 0, looks: bool = False,
     ) -> None:
         parts, nodes, depth = bindings or ((), expr.nodes, expr.depth)
         self.names: Dict[int, Tuple[str, Tensor]] = {}
@@ -208,7 +151,7 @@ class Text:
             if it.dims is not self.dims:
                 self.see(it.dims)
             found = self.names[id(it)] = f',"x{len(self.names)}"', it
-        if self.as_they_lie and it.turned:
+        if self.as_they_lie and it.is_mirrored:
             self.nodes += 1
             axes = commas(reversed(range(len(it.dims or ()))))
             return f',["shuffle"{found[0]},[{axes}]]'
@@ -217,12 +160,15 @@ class Text:
     def lying(self, it: Tensor) -> Tuple[Dims, Held]:
         """An input's dims and values as they are handed over."""
         dims = it.dims or ()
-        return (dims[::-1], it.own) if self.as_they_lie and it.turned else (dims, it.held)
+        return (dims[::-1], it.own) if self.as_they_lie and it.is_mirrored else (dims, it.held)
 
     def begun(self, it: Expr, left: List[Union[Expr, str]]) -> str:
         """The text that an operation begins with; what stands behind that is put on the list."""
         if isinstance(it, Placeholder):
-            raise TypeError(f"{it!r} has no values: compile(..) takes them at each call")
+            raise TypeError(
+                f"{it!r} has no values: compile(..) takes them at each call, so in what it compiles "
+                "nothing runs: no bool, int or list of an expression, no sort, and no x[mask]"
+            )
         if it.dims is not self.dims:
             self.see(it.dims)
         if it.operation in VERSIONS:
@@ -233,6 +179,10 @@ class Text:
         left.append(arguments + "]")
         left.extend(reversed(it.operands))
         return opening(it.operation)
+
+    def fits(self, most: int) -> bool:
+        """Whether a request may have it, and so many nodes."""
+        return self.nodes <= most and not (self.balance and nested(self.text) > MOST_NESTED)
 
     def see(self, dims: Optional[Dims]) -> None:
         """Asks for the version that has these dims, which are other than the last ones."""
@@ -255,7 +205,7 @@ def text_of(expr: Expr, bindings: Optional[Bindings] = None, most: int = 0) -> T
     so many nodes are enough for that, or over their values column-major."""
     nodes = expr.nodes if bindings is None else bindings.nodes
     if nodes > MAX_TEXT // LEAST_NODE:
-        raise TooLong(too_many_nodes(expr, most or FIRST_NODES))
+        raise TooLong(too_many_nodes(expr, FIRST_NODES))
     return Text(expr, bindings, most)
 
 
@@ -268,21 +218,33 @@ def text_of_texts(expr: Expr, version: Optional[int], most: int = 0) -> Text:
     return text_of(as_in_texts(expr), None, most)
 
 
+def text_that_fits(expr: Expr, version: Optional[int], most: int = 0) -> Text:
+    """The same, if a request can have it."""
+    if expr.nodes <= FIRST_NODES:
+        found = text_of_texts(expr, version, most)
+        if found.fits(FIRST_NODES):
+            return found
+    raise Unfit(as_in_texts(expr), FIRST_NODES)
+
+
 def text_of_frame(expr: Expr, version: Optional[int], is_apart: bool) -> Text:
-    """The same of a frame, which has bindings where its version does; but none where it nests too
-    deep with them, and is short without."""
+    """The same of a frame, which has bindings where its version does: of what stands several times,
+    and where that nests too deep, of what is deep."""
     most = most_nodes(version)
     if most == FIRST_NODES:
-        return text_of_texts(expr, version, most)
-    found = Text(expr, None, most, looks=expr.nodes >= FEWEST)
-    if not found.stands_again:
-        return found
-    bindings = bindings_of(expr, is_apart)
-    found = text_of(expr, bindings, most)
-    is_deep = bindings.bound and found.balance and nested(found.text) > MOST_NESTED
-    if is_deep and 2 * expr.nodes <= most:
-        return text_of(expr, None, most)
-    return found
+        return text_that_fits(expr, version, most)
+    if expr.nodes <= most:
+        found = Text(expr, None, most, looks=expr.nodes >= FEWEST)
+        if not found.stands_again and found.fits(most):
+            return found
+    for bound in (bindings_of, bound_by_depth):
+        for is_alone in (is_apart, True):
+            bindings = bound(expr, is_alone)
+            if bindings.nodes <= most:
+                found = Text(expr, bindings, most)
+                if found.fits(most):
+                    return found
+    raise Unfit(expr, most)
 
 
 def whole_text(found: Text, settings: Settings, inputs: Iterable[str]) -> str:
@@ -307,16 +269,24 @@ def request(expr: Any, workers: int = 1, block: int = 4096, version: Optional[in
     >>> print(request(tensor(5)))
     {"version":1,"workers":1,"block":4096,"inputs":{"x0":{"dims":[],"data":[5]}},"expr":"x0"}
     """
-    asked = an_expr(expr)
-    found = text_of_texts(asked, version)
-    if version is None and found.version > LAST_OF_TEXTS:
+    return as_text(text_of_texts(an_expr(expr), version), Settings(workers, block, version))
+
+
+def fitting_request(expr: Expr, settings: Settings) -> str:
+    """The same, if a program answers it."""
+    return as_text(text_that_fits(expr, settings.version), settings)
+
+
+def as_text(found: Text, settings: Settings) -> str:
+    """The text of a request with its values in it."""
+    if settings.version is None and found.version > LAST_OF_TEXTS:
         why = f"operations on integers, or more than {FIRST_ELEMENTS:,} places"
         raise BadVersion(f"no text has version {found.version}, {why}: the library and frames do")
     inputs = (
         f'{name[1:]}:{{{dims_text(it.dims or ())},"data":[{commas(it.values)}]}}'
         for name, it in found.names.values()
     )
-    return whole_text(found, Settings(workers, block, version), inputs)
+    return whole_text(found, settings, inputs)
 
 
 class Framed(NamedTuple):

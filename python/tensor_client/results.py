@@ -23,11 +23,7 @@ class Result:
     gives them so. Where inputs stand in that order it is asked for over them as they lie."""
 
     def __init__(
-        self,
-        expr: Expr,
-        out: Any = None,
-        turned: Optional[bool] = None,
-        most: int = MOST_NODES,
+        self, expr: Expr, out: Any = None, turned: Optional[bool] = None, most: int = MOST_NODES,
     ) -> None:
         self.out: Any = None if out is None else checked_out(out)
         self.most = most

@@ -8,29 +8,31 @@ from typing import Any, Optional
 
 from .expressions import Expr
 from .explaining import explain
-from .faults import Fault, ProgramFailed, TooLarge
+from .faults import Fault, ProgramFailed
 from .finding import FRAMES, LINES, ONE, built, found, no_library, program_of
-from .length import FIRST_NODES, most_nodes, too_many_nodes
+from .length import most_nodes
 from .library import Library, library_named, library_of
 from .memory import FEW
 from .processes import Connection, Process, answered_once
-from .requests import Settings, answer, framed, header_answer, request
+from .requests import Settings, answer, fitting_request, framed, header_answer, request
 from .results import Result, written
+from .rewriting.parts import at_once_or_in_parts
 from .rules import product
 from .streams import Deadline, Stream, frame_asked, line_asked
-from .tensors import Tensor, an_expr
+from .tensors import Tensor, an_expr, tensor
 
 WAYS, SESSIONS = ("library", "frames", "process"), ("frames", "lines")
+# So long a service of lines may take to answer the first request, where no limit is given.
+FIRST_SECONDS = 10
+NO_PROGRAMS = (
+    "a wheel has the library alone, by which `run` and `compile` answer; a release's archive and its "
+    "Debian packages have the programs, and the repository's ./install puts them on PATH"
+)
 
 
 def run(
-    expr: Any,
-    workers: int = 1,
-    block: int = 4096,
-    version: Optional[int] = None,
-    program: Any = None,
-    timeout: Optional[float] = None,
-    way: Optional[str] = None,
+    expr: Any, workers: int = 1, block: int = 4096, version: Optional[int] = None,
+    program: Any = None, timeout: Optional[float] = None, way: Optional[str] = None,
     out: Any = None,
 ) -> Tensor:
     """The tensor of an expression's values, by so many workers, which take so many places at a
@@ -41,7 +43,7 @@ def run(
     by "frames" or, as "process", by a text. `program` is the path of what answers. Where no way is
     said it is the first that is found; the library has no limit of time. `out` is an array of
     numpy, of int64 and without gaps, into which the values are written; where there is a fault it
-    may have any values.
+    may have any values. An expression that is too long for one request runs in parts.
 
     >>> run(tensor([1, 2]) + 10).nested()
     [11, 12]
@@ -51,21 +53,21 @@ def run(
         library = library_of()
     elif way == "library":
         library = library_asked(program, timeout)
-    try:
+
+    def ask(it: Expr, place: Any) -> Tensor:
         if library is not None:
-            return library.run(asked, settings, out)
-        return answered(asked, settings, program, timeout, way, out)
+            return library.run(it, settings, place)
+        return answered(it, settings, program, timeout, way, place)
+
+    try:
+        return at_once_or_in_parts(asked, ask, out)
     except Fault as fault:
         explain(fault, asked, settings)
         raise
 
 
 def answered(
-    asked: Expr,
-    settings: Settings,
-    program: Any,
-    timeout: Optional[float],
-    way: Optional[str],
+    asked: Expr, settings: Settings, program: Any, timeout: Optional[float], way: Optional[str],
     out: Any,
 ) -> Tensor:
     """The tensor of an expression's values, by a process for this request."""
@@ -77,20 +79,9 @@ def answered(
     if way is None and program is None and found(ONE) is None:
         tried = "; ".join((no_library(), FRAMES.tried(), ONE.tried()))
         raise ProgramFailed(f"nothing is found that answers: {tried}")
-    text = request(asked, *settings)
+    text = fitting_request(asked, settings)
     line = answered_once(program_of(program, ONE), text, timeout)
-    return written(answer_of_text(line, asked), asked, out)
-
-
-def answer_of_text(line: str, asked: Expr) -> Tensor:
-    """The tensor of the line that answers an expression's text, where nothing is bound; a fault of
-    too many nodes says so."""
-    try:
-        return answer(line)
-    except TooLarge as fault:
-        if asked.nodes > FIRST_NODES:
-            fault.tell(too_many_nodes(asked, FIRST_NODES))
-        raise
+    return written(answer(line), asked, out)
 
 
 def library_asked(named: Any, timeout: Optional[float]) -> Library:
@@ -98,6 +89,14 @@ def library_asked(named: Any, timeout: Optional[float]) -> Library:
     if timeout is not None:
         raise ValueError("the library has no limit of time: a process has, way='process'")
     return library_named(named)
+
+
+def program_of_session(program: Any, way: str) -> str:
+    """The path of a session's program, or how to have one."""
+    try:
+        return program_of(program, FRAMES if way == "frames" else LINES)
+    except ProgramFailed as fault:
+        raise ProgramFailed(f"{fault}; {NO_PROGRAMS}") from None
 
 
 class Session:
@@ -118,13 +117,8 @@ class Session:
     """
 
     def __init__(
-        self,
-        workers: int = 1,
-        block: int = 4096,
-        program: Any = None,
-        timeout: Optional[float] = None,
-        way: Optional[str] = None,
-        address: Any = None,
+        self, workers: int = 1, block: int = 4096, program: Any = None,
+        timeout: Optional[float] = None, way: Optional[str] = None, address: Any = None,
     ) -> None:
         self.workers, self.block, self.timeout = workers, block, timeout
         if program is not None and address is not None:
@@ -137,10 +131,15 @@ class Session:
             raise ValueError(f"a session's way is one of {SESSIONS}, and not {way!r}")
         self.turn = threading.Lock()
         self.stream: Stream
-        if address is not None:
-            self.stream = Connection(address, Deadline(timeout))
-        else:
-            self.stream = Process(program_of(program, FRAMES if self.way == "frames" else LINES))
+        if address is None:
+            self.stream = Process(program_of_session(program, self.way))
+            return
+        self.stream = Connection(address, Deadline(timeout))
+        if self.way == "lines" and timeout is None:
+            # A service of frames would wait for the rest of the first one without an end.
+            with self.stream:
+                line_asked(self.stream, request(tensor(1)), Deadline(FIRST_SECONDS))
+            self.stream.answered = 0
 
     def __enter__(self) -> Session:
         return self
@@ -158,13 +157,8 @@ class Session:
             self.stream.close()
 
     def run(
-        self,
-        expr: Any,
-        workers: Optional[int] = None,
-        block: Optional[int] = None,
-        version: Optional[int] = None,
-        timeout: Optional[float] = None,
-        out: Any = None,
+        self, expr: Any, workers: Optional[int] = None, block: Optional[int] = None,
+        version: Optional[int] = None, timeout: Optional[float] = None, out: Any = None,
     ) -> Tensor:
         """The tensor of an expression's values, as `run` gives it.
 
@@ -174,13 +168,16 @@ class Session:
         """
         asked = an_expr(expr)
         settings = Settings(
-            self.workers if workers is None else workers,
-            self.block if block is None else block,
+            self.workers if workers is None else workers, self.block if block is None else block,
             version,
         )
+        seconds = self.timeout if timeout is None else timeout
+
+        def ask(it: Expr, place: Any) -> Tensor:
+            return self._answered(it, settings, seconds, place)
+
         try:
-            seconds = self.timeout if timeout is None else timeout
-            return self._answered(asked, settings, seconds, out)
+            return at_once_or_in_parts(asked, ask, out)
         except Fault as fault:
             explain(fault, asked, settings)
             raise
@@ -201,10 +198,10 @@ class Session:
     ) -> Tensor:
         """The tensor of an expression's values, or its fault."""
         if self.way == "lines":
-            text = request(expr, *settings)
+            text = fitting_request(expr, settings)
             with self.turn, self.stream:
                 line = line_asked(self.stream, text, Deadline(seconds))
-            return written(answer_of_text(line, expr), expr, out)
+            return written(answer(line), expr, out)
         # Few values are a list, which stands column-major.
         is_list = out is None and product(expr.dims or ()) <= FEW
         result = Result(expr, out, False if is_list else None, most_nodes(settings.version))

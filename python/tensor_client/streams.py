@@ -87,7 +87,8 @@ class Stream:
 
     def wait(self, file: int, event: int, deadline: Deadline) -> None:
         if not deadline.lets(file, event):
-            said = f"{self.name}: no answer in {deadline.seconds} seconds"
+            other = "" if self.answered else ": does it answer in this way?"
+            said = f"{self.name}: no answer in {deadline.seconds} seconds{other}"
             raise TimedOut(f"{said}; {self.so_far()}")
 
     def write(self, parts: List[Bytes], deadline: Deadline) -> None:
@@ -167,11 +168,16 @@ def frame_asked(
 ) -> Tuple[bytes, Held]:
     """The header and the values of the frame that answers a frame, by frames. The values are read
     into their place, where the header is the one that this is for."""
-    sizes = SIZES.pack(len(asked.header), asked.size)
-    stream.write([sizes + asked.header, *parts_of(asked.held, asked.size)], deadline)
+    # What answers lines says at once that the first frame is none: it ends in a line feed.
+    is_first = not stream.answered and len(asked.header) < MAX_TEXT
+    header = asked.header + b"\n" * is_first
+    sizes = SIZES.pack(len(header), asked.size)
+    stream.write([sizes + header, *parts_of(asked.held, asked.size)], deadline)
     found = b""
     while len(found) < SIZES.size:
         found += stream.read(deadline)
+    if found.startswith(b"error "):
+        raise ProgramFailed(f"{stream.name} answers no frame, but lines: way='lines' asks it")
     length, count = SIZES.unpack_from(found)
     if length > MAX_TEXT or count > MOST_ELEMENTS:
         raise ProgramFailed(f"{stream.name} answers no frame: {found[:40]!r}")

@@ -11,30 +11,13 @@ from . import rules
 from .expressions import Expr
 from .faults import BadTensor
 from .memory import (
-    LARGE,
-    Held,
-    bytes_of,
-    columns_of,
-    memory_of,
-    memory_of_array,
-    memory_of_range,
+    LARGE, Held, bytes_of, columns_of, memory_of, memory_of_array, memory_of_range,
 )
 from .rules import Dims
-from .showing import shown_as_call, shown_in_rows
+from .showing import shown, shown_as_list
 from .values import (
-    LISTS,
-    Unanswered,
-    are_bools,
-    checked,
-    checked_array,
-    is_bool,
-    listed,
-    nested,
-    numbers_of,
-    numpy,
-    unnested,
-    value_of,
-    whole,
+    LISTS, Unanswered, are_bools, checked, checked_array, is_bool, listed, nested, numbers_of,
+    numpy, unnested, value_of, whole,
 )
 
 # Placeholders are numbered as they are made.
@@ -51,20 +34,16 @@ class Tensor(Expr):
     [1, 3, 2, 4]
     """
 
-    __slots__ = ("own", "shared", "turned", "listed")
+    __slots__ = ("own", "shared", "turned", "listed", "lent")
 
     def __init__(
-        self,
-        values: Held,
-        dims: Sequence[int],
-        truth: bool = False,
-        shared: bool = False,
+        self, values: Held, dims: Sequence[int], truth: bool = False, shared: bool = False,
         turned: bool = False,
     ) -> None:
         # What Expr's own would do, in less time: an answer is made at each call.
         self.operation, self.operands, self.arguments = "tensor", (), ()
         self.dims, self.truth, self.depth, self.nodes = tuple(dims), truth, 1, 1
-        self.own, self.shared, self.turned = values, shared, turned
+        self.own, self.shared, self.turned, self.ran = values, shared, turned, 0
         self.listed: Optional[List[int]] = None
 
     @property
@@ -95,26 +74,24 @@ class Tensor(Expr):
         """
         return len(self.own) >= LARGE
 
+    @property
+    def is_mirrored(self) -> bool:
+        """Whether the values are handed over in numpy's common order. Few values of an array that
+        is lent are handed over as a copy, which costs less.
+
+        >>> tensor([[1, 2], [3, 4]]).is_mirrored
+        False
+        """
+        return self.turned and (self.is_large or not self.shared)
+
     def __repr__(self) -> str:
-        return shown_as_call(self)
+        return shown(self)
 
     def __str__(self) -> str:
-        return shown_in_rows(self)
+        return shown_as_list(self) if numpy is None else str(self.array())
 
-    def __format__(self, form: str) -> str:
-        return format(self.item(), form) if form else str(self)
-
-    def at(self, index: Sequence[int]) -> int:
-        """The value at an index list.
-
-        >>> tensor([[1, 2], [3, 4]]).at((1, 0))
-        3
-        """
-        place, step = 0, 1
-        pairs = [*zip(self.dims or (), index)]
-        for dim, offset in reversed(pairs) if self.turned else pairs:
-            place, step = place + offset * step, step * dim
-        return self.own[place]
+    def _answered(self) -> Tensor:
+        return self
 
     def __reduce__(self) -> Any:
         # A view of memory can't be pickled, and its bytes can.
@@ -122,7 +99,7 @@ class Tensor(Expr):
 
     @property
     def values(self) -> List[int]:
-        """The values as a list, column-major.
+        """The values as a list, column-major; truth values are 0 and 1.
 
         >>> tensor([[1, 2], [3, 4]]).values
         [1, 3, 2, 4]
@@ -137,10 +114,11 @@ class Tensor(Expr):
     def nested(self) -> Any:
         """The values as nested lists, x[i][j] at the index list (i, j); of no dims, the number.
 
-        >>> run(tensor([[1, 2], [3, 4]]) + 1).nested()
-        [[2, 3], [4, 5]]
+        >>> run(tensor([[1, 2], [3, 4]]) + 1).nested(), tensor([True]).nested()
+        ([[2, 3], [4, 5]], [True])
         """
-        return nested(self.values, self.dims or ())
+        values = self.values
+        return nested([it != 0 for it in values] if self.truth else values, self.dims or ())
 
     tolist = nested
 
@@ -149,7 +127,7 @@ class Tensor(Expr):
         if not self.dims:
             raise TypeError("a tensor of no axes isn't gone over: x.item() is its value")
         if len(self.dims) == 1:
-            return iter(self.values)
+            return iter(self.nested())
         rest, step = self.dims[1:], self.dims[0]
         return (Tensor(self.values[it::step], rest, self.truth) for it in range(step))
 
@@ -157,29 +135,19 @@ class Tensor(Expr):
         return value in self.values
 
     def item(self) -> int:
-        """The value of a tensor that has one, as int(x) is.
+        """The value of a tensor that has one.
 
-        >>> run(tensor([1, 2]).sum()).item()
-        3
+        >>> run(tensor([1, 2]).sum()).item(), tensor(True).item()
+        (3, True)
         """
         if len(self.own) != 1:
             raise ValueError(f"{len(self.own)} values and not one")
-        return self.own[0]
-
-    def __int__(self) -> int:
-        return self.item()
-
-    __index__ = __int__
-
-    def __bool__(self) -> bool:
-        if len(self.own) != 1:
-            raise TypeError("a tensor of other than one value is neither true nor false: all, any")
-        return self.own[0] != 0
+        return self.own[0] != 0 if self.truth else self.own[0]
 
     def array(self) -> Any:
         """The values as an array of numpy, x[i, j] at the index list (i, j): the tensor's own
         memory, so that what is written into the array is written into the tensor. Of truth values
-        it is a copy.
+        it is an array of bool, and a copy.
 
         >>> run(tensor([[1, 2], [3, 4]]) + 1).array()
         array([[2, 3],
@@ -188,7 +156,7 @@ class Tensor(Expr):
         if numpy is None:
             raise ImportError("numpy isn't installed: Tensor.nested() gives lists")
         if self.truth:
-            flat = numpy.array(self.own, dtype=numpy.int64)
+            flat = numpy.asarray(self.own, dtype=numpy.int64) != 0
         elif isinstance(self.own, list):
             # From here on the values stand in the array's memory.
             flat = numpy.array(self.own, dtype=numpy.int64)
@@ -202,7 +170,14 @@ class Tensor(Expr):
         return flat if flat.shape == dims else flat.reshape(dims, order="F")
 
     def __array__(self, dtype: Any = None, copy: Any = None) -> Any:
-        return self.array().astype(dtype or numpy.int64, copy=bool(copy))
+        found = self.array()
+        return found.astype(found.dtype if dtype is None else dtype, copy=bool(copy))
+
+    @property
+    def __array_interface__(self) -> Any:
+        # Who takes it keeps the tensor, and this the array.
+        self.lent = self.array()
+        return self.lent.__array_interface__
 
 
 class Placeholder(Expr):
@@ -236,10 +211,9 @@ def tensor(values: Any, dims: Optional[Sequence[int]] = None) -> Tensor:
     """A tensor of an array, of nested lists, or of a number; or, where dims are given, of a list
     of values that stands column-major.
 
-    An array of int64 without gaps isn't copied, whatever the order of its axes, but for one of few
-    values that isn't column-major: the tensor, and each expression with it, has the values that
-    stand in the array when it is run. Nor is what lies in a buffer, or is lent by another library
-    (`__array_interface__`, `__dlpack__`).
+    An array of int64 without gaps isn't copied, whatever the order of its axes: the tensor, and
+    each expression with it, has the values that stand in the array when it is run. Nor is what lies
+    in a buffer, or is lent by another library (`__array_interface__`, `__dlpack__`).
 
     >>> tensor([1, 4, 2, 5, 3, 6], dims=(2, 3)).nested()
     [[1, 2, 3], [4, 5, 6]]
@@ -313,11 +287,10 @@ def beside(value: Any, expr: Expr) -> Expr:
         return value
     if isinstance(value, LISTS) or getattr(value, "shape", None):
         return an_expr(value)
-    while expr.operands and expr.dims is not None and expr.operands[0].dims == expr.dims:
-        expr = expr.operands[0]
-    if expr.operands and expr.dims is not None:
-        return full(expr.dims, value_of(value))
-    return expr.constant(value)
+    leaf = expr.leaf if expr.operands else expr
+    if leaf is not None:
+        return leaf.constant(value)
+    return expr.constant(value) if expr.dims is None else full(expr.dims, value)
 
 
 def where(condition: Any, x: Any, y: Any) -> Expr:

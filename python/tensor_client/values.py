@@ -47,6 +47,12 @@ def whole(value: Any) -> int:
     return number
 
 
+def as_bits(value: Any) -> Any:
+    """Numbers of uint64 as those of int64 that have their bits; others as they are."""
+    is_unsigned = numpy is not None and getattr(value, "dtype", None) == numpy.uint64
+    return value.astype(numpy.int64) if is_unsigned else value
+
+
 def flag(value: Any) -> bool:
     """A truth value, which a number is not."""
     if is_bool(value):

@@ -3,7 +3,7 @@ an index names."""
 
 from __future__ import annotations
 
-from typing import TYPE_CHECKING, Any, Iterator, List, NoReturn
+from typing import TYPE_CHECKING, Any, Callable, Iterator, List, NoReturn, Tuple
 
 from . import rules
 from .faults import ShapeMismatch
@@ -14,12 +14,38 @@ from .values import listed, whole
 
 if TYPE_CHECKING:
     from .expressions import Expr
+    from .functions.placed import Places
+    from .tensors import Tensor
 
 
 class NumpyWays(Operators):
     """What an expression has as numpy's arrays have it. Expr has the request's own operations."""
 
     __slots__ = ()
+
+    if TYPE_CHECKING:
+        _answered: Callable[[], Tensor]
+    else:
+
+        def __getattr__(self, name: str) -> Any:
+            """What numpy's arrays have and expressions haven't, of the array of the values."""
+            if name.startswith("_"):
+                raise AttributeError(name)
+            from .functions.delegated import method_of
+
+            return method_of(self, name)
+
+    # What numpy asks, with an expression among what its functions are given.
+
+    def __array_ufunc__(self, function: Any, method: str, *inputs: Any, **more: Any) -> Any:
+        from .functions.protocols import of_ufunc
+
+        return of_ufunc(function, method, inputs, more)
+
+    def __array_function__(self, function: Any, types: Any, inputs: Any, more: Any) -> Any:
+        from .functions.protocols import of_function
+
+        return of_function(function, inputs, more)
 
     # Shape.
 
@@ -53,15 +79,17 @@ class NumpyWays(Operators):
         return rules.product(self.shape)
 
     @property
-    def T(self) -> Any:
+    def T(self) -> Expr:
         """The axes from the last to the first.
 
         >>> run(tensor([[1, 2, 3], [4, 5, 6]]).T).nested()
         [[1, 4], [2, 5], [3, 6]]
         """
-        return self.shuffle(list(range(self.ndim))[::-1]) if self.ndim > 1 else self
+        found: Any = self
+        turned: Expr = found.shuffle(list(range(self.ndim))[::-1]) if self.ndim > 1 else found
+        return turned
 
-    def transpose(self, *axes: Any) -> Any:
+    def transpose(self, *axes: Any) -> Expr:
         """The axes in this order, or from the last to the first.
 
         >>> tensor([[[1, 2, 3]]]).transpose(2, 0, 1).shape
@@ -74,18 +102,31 @@ class NumpyWays(Operators):
             raise TypeError("a tensor of no axes has no length")
         return self.shape[0]
 
-    # What asks for values has them asked for: a truth, a number, lists. An array isn't made, since
-    # numpy asks for one unseen and at any time, each time a request of its own.
+    # What asks for values runs the expression, anew each time: an array that it is made of may have
+    # been written meanwhile.
 
     def __bool__(self) -> bool:
         if self.size != 1:
             raise TypeError(f"dims {self.shape} are neither true nor false: all() or any() of them")
-        return bool(self._answered())
+        return bool(self.item())
 
     def __int__(self) -> int:
         return int(self.item())
 
-    __index__ = __int__
+    def __float__(self) -> float:
+        return float(self.item())
+
+    def __index__(self) -> int:
+        """The one number of no axes. Others are lists where numpy asks for an index."""
+        if self.shape or self.truth:
+            raise TypeError("an index is a whole number of no axes, and no truth value")
+        return self.item()
+
+    def __str__(self) -> str:
+        return str(self._answered())
+
+    def __format__(self, form: str) -> str:
+        return format(self.item(), form) if form else str(self)
 
     def item(self) -> int:
         """The value of an expression that has one; it is run for it.
@@ -106,23 +147,39 @@ class NumpyWays(Operators):
         """
         return self._answered().nested()
 
-    def _answered(self) -> Any:
-        """The tensor of the values."""
-        from .running import run
-
-        return run(self)
-
     def __iter__(self) -> Iterator[Any]:
-        raise TypeError("an expression isn't gone over: run(it) is, and unstack(it) has parts")
+        return iter(self._answered())
 
     def __contains__(self, value: Any) -> bool:
-        raise TypeError("an expression isn't searched: (x == value).any()")
-
-    def __setitem__(self, index: Any, value: Any) -> NoReturn:
-        raise TypeError("a tensor isn't written: where(condition, value, x) has other values")
+        return value in self._answered()
 
     def __array__(self, dtype: Any = None, copy: Any = None) -> Any:
-        raise TypeError("an expression has no values yet: run(it) has")
+        return self._answered().__array__(dtype, copy)
+
+    def __setitem__(self, index: Any, value: Any) -> NoReturn:
+        raise TypeError("a tensor isn't written: x.at[i].set(v) is one with other values")
+
+    @property
+    def at(self) -> Places:
+        """x.at[i].set(v) and x.at[i].add(v): a tensor with other values where x[i] is.
+
+        >>> run(tensor([[1, 2], [3, 4]]).at[:, 0].set(0)).nested()
+        [[0, 2], [0, 4]]
+        """
+        from .functions.placed import Places
+
+        return Places(self)  # type: ignore[arg-type]
+
+    # What others take values by, where they lie.
+
+    def __dlpack__(self, **more: Any) -> Any:
+        return self._answered().array().__dlpack__(**more)
+
+    def __dlpack_device__(self) -> Tuple[int, int]:
+        return 1, 0
+
+    def __buffer__(self, flags: int) -> memoryview:
+        return memoryview(self._answered().array())
 
     def reshape(self, *sizes: Any, order: str = "C") -> Expr:
         """The same values in other dims, one of which may be -1, what is left: by numpy's order,
@@ -140,8 +197,7 @@ class NumpyWays(Operators):
         if long == wanted:
             # Axes of one place come or go: both orders are the same.
             return self.in_dims(to)
-        found: Expr = self.T.in_dims(to[::-1]).T
-        return found
+        return self.T.in_dims(to[::-1]).T
 
     def ravel(self, order: str = "C") -> Expr:
         """The values along one axis.
@@ -165,7 +221,7 @@ class NumpyWays(Operators):
             raise ShapeMismatch(f"{self.size} places of dims {self.dims} in dims {tuple(sizes)}")
         return found
 
-    def __getitem__(self, index: Any) -> Any:
+    def __getitem__(self, index: Any) -> Expr:
         """The part that numpy's x[..] is: whole numbers, slices with steps of either sign, None,
         `..`, lists of offsets, and lists of truth values that are there.
 
@@ -198,4 +254,5 @@ class NumpyWays(Operators):
         if None in kept:
             left = iter(found.shape)
             found = found.in_dims([1 if it is None else next(left) for it in kept])
-        return found
+        chosen: Expr = found
+        return chosen

@@ -1,6 +1,10 @@
 """numpy's functions over expressions, each made of operations of the request. The examples of their
 docstrings take their names from the package."""
 
+import sys
+import typing
+
+from .. import methods
 from . import linalg as linalg
 from .chosen import *
 from .counted import *
@@ -14,3 +18,6 @@ from .rearranged import *
 from .reduced import *
 from .scans import *
 from .valuewise import *
+
+if not typing.TYPE_CHECKING:
+    methods.functions = sys.modules[__name__]

@@ -2,19 +2,20 @@
 
 from __future__ import annotations
 
-from typing import Any, List, Optional, Sequence, Tuple
+from typing import Any, List, Optional, Sequence, Tuple, overload
 
 from .. import tensors
 from ..expressions import Expr
 from ..faults import OutOfRange, ShapeMismatch
 from ..memory import Held
 from ..tensors import Tensor, an_expr, tensor
-from ..values import numpy
-from .common import all_pairs, flat, moved, part
+from ..values import numbers_of, numpy
+from .common import flat, moved, named_axes, part
+from .counted import nonzero
 from .joined import concatenate
 
 __all__ = [
-    "compress", "extract", "select", "take", "take_along_axis", "where",
+    "compress", "extract", "select", "sliding_window_view", "take", "where",
 ]
 
 
@@ -23,18 +24,26 @@ MOST_IN_PARTS = 30
 Run = Tuple[int, int, int]
 
 
-def where(condition: Any, x: Any = None, y: Any = None) -> Expr:
-    """x where the condition isn't 0, else y.
+@overload
+def where(condition: Any) -> Tuple[Tensor, ...]: ...
+
+
+@overload
+def where(condition: Any, x: Any, y: Any) -> Expr: ...
+
+
+def where(condition: Any, x: Any = None, y: Any = None) -> Any:
+    """x where the condition isn't 0, else y; of a condition alone, where it isn't 0, as nonzero.
 
     >>> run(where(tensor([1, 5]) < 4, 10, -1)).values
     [10, -1]
     """
-    if x is None or y is None:
-        raise TypeError("where(condition) alone has dims by its values: numpy.nonzero(run(it))")
+    if x is None and y is None:
+        return nonzero(condition)
     return tensors.where(condition, x, y)
 
 
-def select(condlist: Sequence[Any], choicelist: Sequence[Any], default: Any = 0) -> Any:
+def select(condlist: Sequence[Any], choicelist: Sequence[Any], default: Any = 0) -> Expr:
     """What stands beside the first condition that isn't 0, else the default.
 
     >>> x = tensor([1, 5, 9])
@@ -46,7 +55,8 @@ def select(condlist: Sequence[Any], choicelist: Sequence[Any], default: Any = 0)
     found = default
     for condition, choice in reversed([*zip(condlist, choicelist)]):
         found = where(an_expr(condition), choice, found)
-    return found
+    chosen: Expr = found
+    return chosen
 
 
 def offsets(named: Any, length: int) -> Expr:
@@ -54,10 +64,7 @@ def offsets(named: Any, length: int) -> Expr:
     those of an expression aren't known, and one that isn't there chooses nothing, 0."""
     expr = an_expr(named)
     if expr.truth:
-        raise TypeError(
-            "0 and 1 as offsets are x + 0; a choice by truth has dims by its values: "
-            "x[numpy.asarray(run(it), bool)]"
-        )
+        raise TypeError("truth values are no offsets: x[it] and compress(it, x) choose by them")
     if isinstance(expr, Tensor):
         ends = ends_of(expr.own)
         for it in ends:
@@ -152,57 +159,38 @@ def run_along(expr: Expr, first: int, step: int, count: int, axis: int) -> Expr:
     return found
 
 
-def in_a_line(x: Tensor) -> List[int]:
-    """The values by numpy's order, the last axis fastest.
-
-    >>> in_a_line(tensor([[1, 2], [3, 4]]))
-    [1, 2, 3, 4]
-    """
-    found = [x.nested()]
-    for _ in x.shape:
-        found = [it for row in found for it in row]
-    return found
-
-
-def take_along_axis(arr: Any, indices: Any, axis: Any) -> Any:
-    """What stands at the offsets that each line of an axis has of its own.
-
-    >>> run(take_along_axis([[5, 6], [7, 8]], [[1], [0]], 1)).nested()
-    [[6], [7]]
-    """
-    expr, along = flat(arr, axis)
-    length, named = expr.shape[along], an_expr(indices)
-    if named.ndim != expr.ndim:
-        raise ShapeMismatch(f"offsets of dims {named.shape} for dims {expr.shape}")
-    at = offsets(named, length)
-    last = expr.ndim - 1
-    with all_pairs("take_along_axis"):
-        chosen = moved(at, along, last)[..., None].eq(tensor(range(length)))
-        found = chosen.mul(moved(expr, along, last)[..., None, :]).sum(axis=-1)
-    return moved(found, last, along)
-
-
-def truths(condition: Any) -> List[bool]:
-    """The truth values of a list that is there."""
-    expr = an_expr(condition)
-    if not isinstance(expr, Tensor):
-        raise TypeError("dims by values that aren't known: run the condition first")
-    return [it != 0 for it in in_a_line(expr)]
-
-
-def compress(condition: Any, a: Any, axis: Any = None) -> Any:
-    """What stands where a list of truth values says so, along an axis or in all values.
+def compress(condition: Any, a: Any, axis: Any = None) -> Expr:
+    """What stands where a list isn't 0, along an axis or in all values.
 
     >>> run(compress([True, False, True], [5, 6, 7])).values
     [5, 7]
     """
-    return take(a, [at for at, it in enumerate(truths(condition)) if it], axis)
+    return take(a, nonzero(an_expr(condition).ravel())[0], axis)
 
 
-def extract(condition: Any, arr: Any) -> Any:
-    """The values where a condition that is there isn't 0.
+def extract(condition: Any, arr: Any) -> Expr:
+    """The values where a condition isn't 0.
 
     >>> run(extract([True, False, True], [5, 6, 7])).values
     [5, 7]
     """
     return compress(condition, arr)
+
+
+def sliding_window_view(x: Any, window_shape: Any, axis: Any = None) -> Expr:
+    """The parts of these lengths from each offset on, along axes of their own behind the others.
+
+    >>> run(sliding_window_view([1, 2, 3, 4], 3)).nested()
+    [[1, 2, 3], [2, 3, 4]]
+    """
+    expr, lengths = an_expr(x), numbers_of(window_shape)
+    axes = [*range(expr.ndim)] if axis is None else named_axes(axis, expr.ndim)
+    if len(axes) != len(lengths):
+        raise ShapeMismatch(f"windows of dims {lengths} along {len(axes)} axes")
+    for along, length in zip(axes, lengths):
+        begins = range(expr.shape[along] - length + 1)
+        if length < 0 or not begins:
+            raise ValueError(f"a window of {length} of {expr.shape[along]} places")
+        at = tensor(begins).in_dims([len(begins), 1]).add(range(length))
+        expr = moved(expr.taken(at, along), along + 1, expr.ndim)
+    return expr

@@ -2,12 +2,10 @@
 
 from __future__ import annotations
 
-from contextlib import contextmanager
-from typing import Any, Iterator, List, Sequence, Tuple
+from typing import Any, List, Sequence, Tuple
 
 from .. import rules
 from ..expressions import Expr
-from ..faults import TooLarge
 from ..memory import INT64
 from ..tensors import an_expr
 from ..values import numbers_of, numpy, whole
@@ -65,16 +63,6 @@ def part(expr: Expr, axis: int, begin: int, end: int) -> Expr:
         return expr
     offsets = [begin if it == axis else 0 for it in range(len(dims))]
     return expr.slice(offsets, beside_axis(dims, axis, [end - begin]))
-
-
-@contextmanager
-def all_pairs(what: str) -> Iterator[None]:
-    """Says what takes all pairs of places, where these are too many."""
-    try:
-        yield
-    except TooLarge as fault:
-        fault.tell(f"{what} takes all pairs of places: {fault.why}")
-        raise
 
 
 def as_dtype(x: Any, dtype: Any) -> Expr:

@@ -1,180 +1,202 @@
-"""Values counted, found and ordered, as numpy's functions of these names do it: by comparisons with
-all that they may be, whose sums are numbers. So they are for as many pairs as a tensor may have
-places, 268,435,456; where one side is longer it is taken in pieces."""
+"""Values counted, found and ordered, as numpy's functions of these names do it. What they are given
+is run; without numpy lists are sorted, and searched by halves."""
 
 from __future__ import annotations
 
-from typing import Any, Callable, List, Optional, Tuple
+from bisect import bisect_left, bisect_right
+from typing import Any, List, Tuple
 
-from .. import rules
-from ..expressions import Expr
-from ..tensors import Tensor, an_expr, tensor, where
-from ..values import GREATEST, whole
-from .common import all_pairs, flat, moved, part
+from ..faults import OutOfRange, ShapeMismatch
+from ..rules import fitted, spread
+from ..tensors import Tensor, an_expr, tensor
+from ..values import numpy, whole
+from .common import flat, moved
+from .delegated import by_numpy, over_lines, tensor_by_numpy, values_of
 
 __all__ = [
-    "argsort", "bincount", "digitize", "histogram", "in1d", "isin", "searchsorted", "sort",
+    "argsort", "bincount", "digitize", "histogram", "in1d", "isin", "nonzero", "searchsorted",
+    "sort", "take_along_axis", "unique",
 ]
 
 
-def summed(line: Expr, others: int, each: Callable[[Expr, int], Expr]) -> Expr:
-    """What is counted of all values of a list, each beside so many others: in pieces, where the
-    pairs are more than a tensor may have. `each` counts a piece, from an offset on."""
-    length = line.shape[0]
-    piece = rules.piece(length, others)
-    found: List[Expr] = [
-        each(part(line, 0, at, min(at + piece, length)), at)
-        for at in range(0, max(length, 1), piece)
-    ]
-    while len(found) > 1:
-        found = [it[0].add(it[1]) for it in zip(found[::2], found[1::2])] + found[
-            len(found) // 2 * 2 :
-        ]
-    return found[0]
+def sort(a: Any, axis: Any = -1, kind: Any = None) -> Tensor:
+    """The values along an axis in order.
 
-
-def weighed(pairs: Expr, weights: Optional[Expr], at: int) -> Expr:
-    """How many of the first axis are true in each column, or what their weights come to."""
-    if weights is None:
-        return pairs.sum(axis=0)
-    return part(weights, 0, at, at + pairs.shape[0]).contract(pairs, [(0, 0)])
-
-
-def bincount(x: Any, weights: Any = None, minlength: int = 0) -> Expr:
-    """How often each number from 0 up stands in a list, or what the weights beside it come to: up
-    to the greatest of them, so the list has to be there.
-
-    >>> run(bincount([0, 2, 2, 3])).values
-    [1, 0, 2, 1]
+    >>> sort([30, 10, 20]).values
+    [10, 20, 30]
     """
-    line = an_expr(x)
-    if not isinstance(line, Tensor):
-        raise TypeError(
-            "a bincount has dims by its values, which aren't known yet: run(x) first, or "
-            "(x[:, None] == range(n)).sum(axis=0) of the numbers below n"
-        )
-    if line.ndim != 1:
-        raise ValueError(f"a bincount of dims {line.shape}: .ravel() has one axis")
-    if line.values and min(line.values) < 0:
-        raise ValueError("a bincount of numbers below 0")
-    bins = max([whole(minlength), *(it + 1 for it in line.values)])
-    own = None if weights is None else an_expr(weights)
-    numbers = tensor(range(bins))
-    return summed(line, bins, lambda it, at: weighed(it[:, None].eq(numbers), own, at))
+    if numpy is not None:
+        return tensor_by_numpy("sort", an_expr(a), axis=axis, kind=kind)
+    return over_lines(sorted, a, axis)
 
 
-def histogram(a: Any, bins: Any, weights: Any = None) -> Tuple[Expr, Tensor]:
-    """How many values stand between each two edges, the last one's own among them; and the edges.
+def argsort(a: Any, axis: Any = -1, kind: Any = "stable") -> Tensor:
+    """The offsets of the values along an axis by their order, those of equal ones as they stand.
 
-    >>> counts, edges = histogram([1, 2, 3, 4, 5], [1, 3, 5])
-    >>> run(counts).values
-    [2, 3]
+    >>> argsort([30, 10, 20]).values
+    [1, 2, 0]
     """
-    edges = an_expr(bins)
-    if edges.ndim != 1 or not isinstance(edges, Tensor):
-        raise TypeError("a histogram of so many bins takes a division: give the edges, as a list")
-    numbers = list(edges.values)
-    if numbers != sorted(numbers):
-        raise ValueError("the edges of a histogram rise")
-    if len(numbers) < 2:
-        return tensor([]), edges
-    line, own = an_expr(a).ravel(), None if weights is None else an_expr(weights).ravel()
-    # What reaches an edge and not the next one lies between both. The last edge lies between them
-    # too, which is below the number behind it; and nothing reaches what is behind the greatest.
-    is_greatest = numbers[-1] == GREATEST
-    bounds = tensor(numbers[:-1] if is_greatest else [*numbers[:-1], numbers[-1] + 1])
-    size = bounds.size
-    reached = summed(line, size, lambda it, at: weighed(it[:, None].ge(bounds), own, at))
-    reached = reached.zeros_around([(0, 1)]) if is_greatest else reached
-    return reached.convolve([1, -1], 0), edges
+    if numpy is not None:
+        return tensor_by_numpy("argsort", an_expr(a), axis=axis, kind=kind)
+    return over_lines(lambda line: sorted(range(len(line)), key=line.__getitem__), a, axis)
 
 
-def digitize(x: Any, bins: Any, right: bool = False) -> Expr:
-    """Between which bounds each value stands: how many of them it has reached, or passed.
-
-    >>> run(digitize([1, 5, 9], [3, 6])).values
-    [0, 1, 2]
-    """
-    edges = an_expr(bins)
-    if edges.ndim != 1 or not isinstance(edges, Tensor):
-        raise TypeError("the bounds of digitize are a list that is there: run it first")
-    expr, numbers = an_expr(x), list(edges.values)
-    if numbers not in (sorted(numbers), sorted(numbers)[::-1]):
-        raise ValueError("bounds rise, or fall")
-    if numbers == sorted(numbers):
-        return counted(expr, edges, "gt" if right else "ge")
-    return counted(expr, edges, "le" if right else "lt")
-
-
-def searchsorted(a: Any, v: Any, side: str = "left") -> Expr:
+def searchsorted(a: Any, v: Any, side: str = "left", sorter: Any = None) -> Tensor:
     """The first offset at which each value can be put into a list that rises, or the last.
 
-    >>> run(searchsorted([1, 3, 3, 5], [3, 4])).values
+    >>> searchsorted([1, 3, 3, 5], [3, 4]).values
     [1, 3]
     """
     if side not in ("left", "right"):
         raise ValueError(f'a side is "left" or "right" and not {side!r}')
-    return counted(an_expr(v), an_expr(a), "gt" if side == "left" else "ge")
+    if numpy is not None:
+        return tensor_by_numpy("searchsorted", an_expr(a), an_expr(v), side=side, sorter=sorter)
+    line = values_of(a)
+    return placed(line if sorter is None else [line[it] for it in values_of(sorter)], v, side)
 
 
-def counted(expr: Expr, others: Expr, comparison: str) -> Expr:
-    """How many of a list each value compares with."""
-    line = expr.in_dims([expr.size]) if expr.ndim != 1 else expr
-    across = line.in_dims([1, line.size])
+def placed(line: List[int], v: Any, side: str) -> Tensor:
+    """Where each value can be put into a list that rises: without numpy.
 
-    def each(piece: Expr, at: int) -> Expr:
-        pairs: Expr = getattr(across, comparison)(piece.in_dims([piece.size, 1]))
-        return pairs.sum(axis=0)
-
-    found = summed(others, line.size, each)
-    return found.in_dims(expr.shape) if expr.ndim != 1 else found
+    >>> placed([1, 3, 5], 3, "right").item()
+    2
+    """
+    named, bisect = an_expr(v)._answered(), bisect_left if side == "left" else bisect_right
+    return Tensor([bisect(line, it) for it in named.values], named.shape)
 
 
-def isin(element: Any, test_elements: Any, invert: bool = False) -> Expr:
-    """1 where a value is one of others, else 0.
+def digitize(x: Any, bins: Any, right: bool = False) -> Tensor:
+    """Between which bounds each value stands: how many of them it has reached, or passed.
 
-    >>> run(isin([1, 2, 3], [3, 1])).values
+    >>> digitize([1, 5, 9], [3, 6]).values
+    [0, 1, 2]
+    """
+    if numpy is not None:
+        return tensor_by_numpy("digitize", an_expr(x), an_expr(bins), right)
+    line, side = values_of(bins), "left" if right else "right"
+    if line == sorted(line):
+        return placed(line, x, side)
+    if line[::-1] != sorted(line):
+        raise ValueError("bounds rise, or fall")
+    return (len(line) - placed(line[::-1], x, side))._answered()
+
+
+def bincount(x: Any, weights: Any = None, minlength: int = 0) -> Tensor:
+    """How often each number from 0 up stands in a list, or what the weights beside it come to.
+
+    >>> bincount([0, 2, 2, 3]).values, bincount([0, 1, 1], weights=[5, 6, 7]).values
+    ([1, 0, 2, 1], [5, 13])
+    """
+    line = an_expr(x)._answered()
+    if line.ndim != 1:
+        raise ValueError(f"a bincount of dims {line.shape}: .ravel() has one axis")
+    if numpy is not None and weights is None:
+        return tensor_by_numpy("bincount", line, minlength=whole(minlength))
+    numbers = line.values
+    if min(numbers, default=0) < 0:
+        raise ValueError("a bincount of numbers below 0")
+    own = [1] * len(numbers) if weights is None else values_of(weights)
+    if len(own) != len(numbers):
+        raise ShapeMismatch(f"{len(own)} weights for {len(numbers)} numbers")
+    return added(numbers, own, max([whole(minlength), *(it + 1 for it in numbers)]))
+
+
+def added(places: List[int], values: List[int], size: int) -> Tensor:
+    """What the values come to at each of so many places, 0 where there is none.
+
+    >>> added([0, 2, 2], [5, 6, 7], 3).values
+    [5, 0, 13]
+    """
+    found = [0] * size
+    for at, it in zip(places, values):
+        found[at] += it
+    return Tensor([(it + 2**63) % 2**64 - 2**63 for it in found], [size])
+
+
+def histogram(a: Any, bins: Any = 10, range: Any = None, weights: Any = None) -> Tuple[Any, Any]:
+    """How many values stand between each two edges, the last one's own among them; and the edges.
+
+    >>> counts, edges = histogram([1, 2, 3, 4, 5], [1, 3, 5])
+    >>> counts.values
+    [2, 3]
+    """
+    own = None if weights is None else an_expr(weights)
+    if numpy is not None:
+        edges = an_expr(bins) if isinstance(bins, (list, tuple)) else bins
+        found: Tuple[Any, Any] = by_numpy("histogram", an_expr(a), edges, range, weights=own)
+        return found
+    line = values_of(bins)
+    if line != sorted(line) or not an_expr(bins).shape:
+        raise ValueError("the edges of a histogram rise; without numpy they are given, as a list")
+    values = values_of(a)
+    sums = [1] * len(values) if own is None else values_of(own)
+    # The last edge lies in the last bin, and what lies in none is left out.
+    bounds = line[:-1] + [it + 1 for it in line[-1:]]
+    places = placed(bounds, Tensor(values, [len(values)]), "right").values
+    counts = added(places, sums, len(line) + 1)[1:-1]
+    return counts._answered(), tensor(line)
+
+
+def isin(element: Any, test_elements: Any, invert: bool = False) -> Tensor:
+    """True where a value is one of others.
+
+    >>> isin([1, 2, 3], [3, 1]).values
     [1, 0, 1]
     """
-    found = counted(an_expr(element), an_expr(test_elements).ravel(), "eq")
-    return found.eq(0) if invert else found.ne(0)
+    if numpy is not None:
+        return tensor_by_numpy("isin", an_expr(element), an_expr(test_elements), invert=invert)
+    named, others = an_expr(element)._answered(), {*values_of(test_elements)}
+    return Tensor([(it in others) != invert for it in named.values], named.shape, truth=True)
 
 
 in1d = isin
 
 
-# In order: each value's place is how many values stand before it.
+def nonzero(a: Any) -> Tuple[Tensor, ...]:
+    """The offsets along each axis where values aren't 0.
 
-
-def argsort(a: Any, axis: Any = -1, kind: Any = None) -> Expr:
-    """The offsets of the values along an axis by their order, those of equal ones as they stand.
-
-    >>> run(argsort([30, 10, 20])).values
-    [1, 2, 0]
+    >>> [it.values for it in nonzero([[0, 5], [7, 0]])]
+    [[0, 1], [1, 0]]
     """
-    expr, along = flat(a, axis)
-    length = expr.shape[along]
-    return in_order(expr, tensor(range(length)), along)
+    expr = an_expr(a)
+    if numpy is not None:
+        return tuple(by_numpy("nonzero", expr))
+    places = [at for at, it in enumerate(values_of(expr)) if it]
+    found: List[Tensor] = []
+    for dim in reversed(expr.shape):
+        found.insert(0, Tensor([it % dim for it in places], [len(places)]))
+        places = [it // dim for it in places]
+    return tuple(found)
 
 
-def sort(a: Any, axis: Any = -1, kind: Any = None) -> Expr:
-    """The values along an axis in order: by all pairs of two, which are up to 268,435,456.
+def unique(ar: Any, **more: Any) -> Any:
+    """The values, each once, in order; and what else numpy's function of this name gives.
 
-    >>> run(sort([30, 10, 20])).values
-    [10, 20, 30]
+    >>> unique([3, 1, 3]).values
+    [1, 3]
     """
-    expr, along = flat(a, axis)
-    return in_order(expr, None, along)
+    if numpy is not None or more:
+        return by_numpy("unique", an_expr(ar), **more)
+    return tensor(sorted({*values_of(ar)}))
 
 
-def in_order(expr: Expr, values: Optional[Expr], axis: int) -> Expr:
-    last = expr.ndim - 1
-    line = moved(expr, axis, last)
-    numbers = tensor(range(line.shape[last]))
-    own, others = line[..., :, None], line[..., None, :]
-    with all_pairs("order along an axis"):
-        is_earlier = numbers.lt(numbers[:, None])
-        place = (others < own).or_((others == own).and_(is_earlier)).sum(axis=-1)
-    is_here = place[..., None, :].eq(numbers[:, None])
-    found = where(is_here, line[..., None, :] if values is None else values, 0).sum(axis=-1)
-    return moved(found, last, axis)
+def take_along_axis(arr: Any, indices: Any, axis: Any) -> Tensor:
+    """What stands at the offsets that each line of an axis has of its own.
+
+    >>> take_along_axis([[5, 6], [7, 8]], [[1], [0]], 1).nested()
+    [[6], [7]]
+    """
+    expr, along = flat(arr, axis)
+    named = an_expr(indices)
+    if named.ndim != expr.ndim:
+        raise ShapeMismatch(f"offsets of dims {named.shape} for dims {expr.shape}")
+    if numpy is not None:
+        return tensor_by_numpy("take_along_axis", expr, named, along)
+    first, at = moved(expr, along, 0), moved(named, along, 0)
+    rest, (length, *_), (count, *_) = fitted(first.shape[1:], at.shape[1:]), first.shape, at.shape
+    values = spread(first, (length, *rest))._answered().values
+    offsets = spread(at, (count, *rest))._answered().values
+    if any(not -length <= it < length for it in offsets):
+        raise OutOfRange(f"an offset past {length} places")
+    found = [values[at // count * length + it % length] for at, it in enumerate(offsets)]
+    return moved(Tensor(found, (count, *rest), expr.truth), 0, along)._answered()

@@ -13,7 +13,9 @@ __all__ = [
     "einsum",
 ]
 
-LETTERS = frozenset("abcdefghijklmnopqrstuvwxyzABCDEFGHIJKLMNOPQRSTUVWXYZ")
+# The axes that `...` stands for are digits, the last axis the last one.
+DIGITS = "01234567"
+LETTERS = frozenset("abcdefghijklmnopqrstuvwxyzABCDEFGHIJKLMNOPQRSTUVWXYZ" + DIGITS)
 # An operand, and a letter for each of its axes.
 Named = Tuple[str, Expr]
 
@@ -29,15 +31,18 @@ def einsum(labels: str, *operands: Any) -> Expr:
     if not isinstance(labels, str):
         raise TypeError("einsum asks for its letters first, as in einsum('ij,jk->ik', x, y)")
     told, exprs = labels.replace(" ", ""), [an_expr(it) for it in operands]
-    inputs = told.split("->")[0].split(",")
+    named, arrow, result = told.partition("->")
+    inputs = named.split(",")
     if len(inputs) != len(exprs) or not exprs:
         raise ValueError(f"einsum of {labels!r} with {len(exprs)} operands")
+    inputs = [with_digits(*it) for it in zip(inputs, exprs)]
     letters = "".join(inputs)
-    result = "".join(sorted(it for it in {*letters} if letters.count(it) == 1))
-    if "->" in told:
-        result = told.split("->")[1]
-    if len({*result}) != len(result) or not {*result} <= {*letters}:
-        raise ValueError(f"the result of {labels!r} has each letter once, of the operands'")
+    digits = "".join(sorted({*letters} & {*DIGITS}))
+    if not arrow:
+        result = "..." + "".join(sorted(it for it in {*letters} - {*digits} if letters.count(it) == 1))
+    result = result.replace("...", digits)
+    if len({*result}) != len(result) or not {*digits} <= {*result} <= {*letters}:
+        raise ValueError(f"the result of {labels!r} has each letter once, of the operands', and `...`")
     left = [on_diagonals(*it, labels) for it in zip(inputs, exprs)]
     found = summed(left.pop(0), {*result}.union(*(it[0] for it in left)))
     while left:
@@ -45,6 +50,16 @@ def einsum(labels: str, *operands: Any) -> Expr:
         wanted = {*result}.union(*(it[0] for it in left))
         found = multiplied(found, summed(other, wanted | {*found[0]}), wanted)
     return in_letters(found, result)
+
+
+def with_digits(words: str, expr: Expr) -> str:
+    """The letters of an operand, with digits in the place of `...`.
+
+    >>> with_digits("...j", tensor([[[5]]]))
+    '67j'
+    """
+    count = expr.ndim - len(words.replace("...", "", 1))
+    return words.replace("...", DIGITS[len(DIGITS) - count :]) if count >= 0 else words
 
 
 def on_diagonals(words: str, expr: Expr, labels: str) -> Named:

@@ -2,17 +2,18 @@
 
 from __future__ import annotations
 
-from typing import Any, Iterator, List, Tuple
+from typing import Any, Iterator, Tuple
 
 from .. import rules
 from ..expressions import Expr
 from ..faults import OutOfRange
 from ..indexing import Slice, is_list, parts_of
-from ..tensors import Tensor, an_expr
-from .chosen import at_offsets, in_a_line, offsets, take
+from ..tensors import an_expr
+from .chosen import at_offsets, offsets, take
+from .counted import nonzero
 
 
-def at_lists(expr: Expr, index: Tuple[Any, ...]) -> Any:
+def at_lists(expr: Expr, index: Tuple[Any, ...]) -> Expr:
     """The part that an index with lists in it names. As numpy has it, numbers beside lists are
     lists too, all are of one length or repeated to one, and each place of them is an offset along
     their axes; what they choose stands first where they don't stand beside one another."""
@@ -41,13 +42,13 @@ def offsets_for(expr: Expr, index: Tuple[Any, ...]) -> Iterator[Any]:
     """An index, in which lists of truth values are lists of the offsets where they are true."""
     axis = 0
     for at, it in enumerate(index):
-        if is_list(it) and not isinstance(it, Expr):
+        if is_list(it):
             it = an_expr(it)
             if it.truth:
                 dims = expr.shape[axis : axis + it.ndim]
-                if it.shape != dims:
+                if it.shape != dims or not dims:
                     raise OutOfRange(f"truth values of dims {it.shape} for dims {dims}")
-                yield from true_places(it)
+                yield from nonzero(it)
                 axis += it.ndim
                 continue
         yield it
@@ -60,17 +61,6 @@ def offsets_for(expr: Expr, index: Tuple[Any, ...]) -> Iterator[Any]:
 
 def axes_of(index: Any) -> int:
     """How many axes an index names."""
-    if is_list(index) and not isinstance(index, Expr):
-        named = an_expr(index)
-        return named.ndim if named.truth else 1
-    return 1
+    named = an_expr(index) if is_list(index) else None
+    return named.ndim if named is not None and named.truth else 1
 
-
-def true_places(truths: Any) -> List[Tensor]:
-    """The offsets along each axis where values are true, as numpy's nonzero gives them."""
-    places = [at for at, it in enumerate(in_a_line(truths)) if it]
-    found: List[Tensor] = []
-    for dim in reversed(truths.shape):
-        found.insert(0, Tensor([it % dim for it in places], [len(places)]))
-        places = [it // dim for it in places]
-    return found

@@ -5,8 +5,9 @@ from __future__ import annotations
 from typing import TYPE_CHECKING, Any
 
 from ..expressions import Expr
+from ..values import numpy
 from . import matrices
-from .advice import no_name
+from .delegated import function_of
 from .products import cross, matmul, matrix_power, multi_dot, outer, tensordot, vecdot
 from .rearranged import matrix_transpose
 
@@ -37,5 +38,5 @@ def trace(x: Any, *, offset: int = 0, dtype: Any = None) -> Expr:
 if not TYPE_CHECKING:
 
     def __getattr__(name: str) -> Any:
-        """Says what to write in the place of a name that isn't here."""
-        raise AttributeError(no_name("linalg", name, __all__))
+        """What numpy.linalg has, and isn't here."""
+        return function_of(getattr(numpy, "linalg", None), name, "linalg", __all__)

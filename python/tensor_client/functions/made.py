@@ -116,7 +116,9 @@ def full_like(x: Any, fill_value: Any, dtype: Any = None, shape: Any = None) -> 
     >>> run(full_like([1, 2], 7)).values
     [7, 7]
     """
-    return full(an_expr(x).shape if shape is None else shape, fill_value, dtype)
+    expr = an_expr(x)
+    kind = bool if dtype is None and expr.truth else dtype
+    return full(expr.shape if shape is None else shape, fill_value, kind)
 
 
 def zeros_like(x: Any, dtype: Any = None, shape: Any = None) -> Expr:
@@ -178,7 +180,7 @@ def meshgrid(*axes: Any, indexing: str = "xy", sparse: bool = False) -> List[Any
     return [broadcast_to(it, dims) for it in exprs]
 
 
-def fromfunction(function: Callable[..., Any], shape: Any, dtype: Any = None) -> Any:
+def fromfunction(function: Callable[..., Any], shape: Any, dtype: Any = None) -> Expr:
     """What a function gives of the indices along each axis.
 
     >>> run(fromfunction(lambda i, j: i * 10 + j, (2, 2))).nested()

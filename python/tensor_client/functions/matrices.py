@@ -59,7 +59,7 @@ def tril(m: Any, k: int = 0) -> Expr:
     [[1, 0], [3, 4]]
     """
     expr = an_expr(m)
-    return expr.mul(tri(expr.shape[-2:][0], expr.shape[-1], k))
+    return expr.mul(tri(expr.shape[-2:][0], expr.shape[-1], k, bool))
 
 
 def triu(m: Any, k: int = 0) -> Expr:

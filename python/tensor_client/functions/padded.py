@@ -63,6 +63,8 @@ def constants_around(expr: Expr, widths: Sequence[Pair], values: Sequence[Pair])
         value = numbers.pop() if numbers else 0
         if not value:
             return expr.zeros_around(widths)
+        if expr.truth:
+            return expr.not_().zeros_around(widths).not_()
         # Zeros stand for the value where it is taken away before and added behind.
         return expr.sub(value).zeros_around(widths).add(value)
     expr.zeros_around(widths)  # Widths that can't be are a fault here.

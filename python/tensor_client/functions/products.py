@@ -2,14 +2,13 @@
 
 from __future__ import annotations
 
-from typing import Any, Sequence
+from typing import Any, List, Sequence
 
 from ..expressions import Expr
 from ..faults import ShapeMismatch
 from ..rules import alike
 from ..tensors import an_expr
 from ..values import is_several, numbers_of, whole
-from .common import all_pairs
 from .matrices import eye
 from .rearranged import broadcast_to, roll
 
@@ -74,9 +73,7 @@ def matmul(x: Any, y: Any) -> Expr:
         return matmul(left[None, :], right).in_dims([*right.shape[:-2], right.shape[-1]])
     if left.shape[-1] != right.shape[-2]:
         raise ShapeMismatch(f"dims {left.shape} @ dims {right.shape}")
-    with all_pairs("a product of stacks of matrices"):
-        every: Expr = left[..., None].mul(right[..., None, :, :])
-    return every.sum(axis=-2)
+    return left[..., None].mul(right[..., None, :, :]).sum(axis=-2)
 
 
 def vecdot(x1: Any, x2: Any, axis: int = -1) -> Expr:
@@ -152,7 +149,7 @@ def cross(a: Any, b: Any, axis: int = -1) -> Expr:
     return forth.sub(roll(left, -2, axis).mul(roll(right, -1, axis)))
 
 
-def matrix_power(a: Any, n: int) -> Any:
+def matrix_power(a: Any, n: int) -> Expr:
     """A matrix, or each of a stack, times itself so often, by its squares. A text has the matrix so
     often: there large powers are run by squares, as the program of powers does.
 
@@ -166,16 +163,17 @@ def matrix_power(a: Any, n: int) -> Any:
         raise ValueError("whole numbers have no inverse")
     if times == 0:
         return broadcast_to(eye(expr.shape[-1]), expr.shape)
-    found, square = None, expr
-    while times:
+    found: List[Expr] = []
+    while True:
         if times % 2:
-            found = square if found is None else matmul(found, square)
+            found = [matmul(found[0], expr) if found else expr]
         times //= 2
-        square = matmul(square, square) if times else square
-    return found
+        if not times:
+            return found[0]
+        expr = matmul(expr, expr)
 
 
-def multi_dot(arrays: Sequence[Any]) -> Any:
+def multi_dot(arrays: Sequence[Any]) -> Expr:
     """The product of several matrices, from the first on.
 
     >>> run(multi_dot([[1, 2], [[1, 0], [0, 1]], [3, 4]])).item()

@@ -57,7 +57,7 @@ def resize(a: Any, new_shape: Any) -> Expr:
 # Axes.
 
 
-def transpose(x: Any, axes: Any = None) -> Any:
+def transpose(x: Any, axes: Any = None) -> Expr:
     """The axes in this order, or from the last to the first.
 
     >>> run(transpose([[1, 2], [3, 4]])).nested()

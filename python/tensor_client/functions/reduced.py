@@ -2,7 +2,7 @@
 
 from __future__ import annotations
 
-from typing import Any, Callable
+from typing import Any, Protocol
 
 from .. import rules
 from ..expressions import Expr
@@ -19,14 +19,24 @@ __all__ = [
 ]
 
 
-def combining(name: str) -> Callable[..., Expr]:
+class Combining(Protocol):
+    """A reduction over these axes, or over all."""
+
+    def __call__(
+        self, x: Any, axis: Any = None, keepdims: bool = False, dtype: Any = None, out: None = None,
+        initial: Any = None, where: Any = None,
+    ) -> Expr: ...
+
+
+def combining(name: str) -> Combining:
     def function(x: Any, axis: Any = None, **more: Any) -> Expr:
         found: Expr = getattr(an_expr(x), name)(axis=axis, **more)
         return found
 
     function.__name__ = function.__qualname__ = name
     function.__doc__ = getattr(Expr, name).__doc__
-    return function
+    made: Combining = function  # type: ignore[assignment]
+    return made
 
 
 # As numpy's functions of these names; inside this module the builtins aren't needed.
@@ -125,6 +135,11 @@ def diff(a: Any, n: int = 1, axis: int = -1, prepend: Any = None, append: Any = 
             expr = expr.concat(beside, along) if at else beside.concat(expr, along)
     if times >= expr.shape[along]:
         return part(expr, along, 0, 0) if times else expr
+    if expr.truth:
+        for _ in range(times):
+            length = expr.shape[along]
+            expr = part(expr, along, 1, length).ne(part(expr, along, 0, length - 1))
+        return expr
     # One product with what the differences come to: 1 -1, 1 -2 1, and so on.
     weights = [1]
     for _ in range(times):

@@ -1,17 +1,15 @@
-"""What values come to up to each place of an axis, as numpy's cumsum and cumprod have it, and
-accumulate of its functions of two values."""
+"""What values come to up to each place of an axis, as numpy's cumsum and cumprod have it; and as
+texts do, which have no operation for it."""
 
 from __future__ import annotations
 
-from functools import partial
-from typing import Any, Callable, Dict, NamedTuple
+from typing import Any, NamedTuple
 
 from .. import rules
 from ..expressions import Expr
 from ..methods import written_nowhere
 from ..tensors import an_expr, where
-from ..values import GREATEST, LEAST
-from .common import all_pairs, as_dtype, flat, moved, part
+from .common import as_dtype, flat, moved, part
 from .matrices import tri
 
 __all__ = [
@@ -67,8 +65,7 @@ def axis_asked(x: Any, axis: Any) -> Any:
     return axis
 
 
-# What the request has no operation for: the greatest value up to each place, and the least; and in
-# texts sums and products.
+# What texts have no operations for.
 
 # Up to so many pairs of places of a line go in one step, and else in rows of so many places: each
 # value takes as many products of a sum, and of others is repeated as often.
@@ -99,28 +96,16 @@ class Scan(NamedTuple):
 
 
 SUMS, PRODUCTS = Scan("add", "sum", 0), Scan("mul", "prod", 1)
-MAXIMA, MINIMA = Scan("cwise_max", "max", LEAST), Scan("cwise_min", "min", GREATEST)
 
 
 def scanned(scan: Scan, a: Any, axis: Any) -> Expr:
     """What values come to up to each place of an axis.
 
-    >>> run(scanned(MAXIMA, [3, 1, 4, 1, 5], 0)).values
-    [3, 3, 4, 4, 5]
+    >>> run(scanned(SUMS, [3, 1, 4, 1, 5], 0)).values
+    [3, 4, 8, 9, 14]
     """
     expr, at = flat(a, axis)
-    with all_pairs("going over an axis"):
-        found = over_first(scan, moved(expr, at, 0))
-    return moved(found, 0, at)
-
-
-# By the names of numpy's functions of two values.
-ACCUMULATED: Dict[str, Callable[..., Expr]] = {
-    "add": cumsum,
-    "multiply": cumprod,
-    "maximum": partial(scanned, MAXIMA),
-    "minimum": partial(scanned, MINIMA),
-}
+    return moved(over_first(scan, moved(expr, at, 0)), 0, at)
 
 
 def over_first(scan: Scan, x: Expr) -> Expr:

@@ -2,12 +2,18 @@
 
 from __future__ import annotations
 
-from typing import Any, Callable, NoReturn
+import builtins
+import itertools
+from typing import Any, Callable, Dict, NoReturn, Protocol, Tuple
 
+from ..expressions import WRAPPING, Expr
+from ..memory import INT64
+from ..methods import written_nowhere
 from ..tensors import an_expr
-from ..values import whole
+from ..values import as_bits, numpy, whole
 from .common import as_dtype
-from .scans import ACCUMULATED
+from .delegated import by_numpy, over_lines
+from .scans import cumprod, cumsum
 
 __all__ = [
     "abs", "absolute", "add", "around", "astype", "bitwise_and", "bitwise_invert",
@@ -22,13 +28,11 @@ __all__ = [
 
 # The reductions that combine as a function of two values does.
 REDUCED = {
-    "add": "sum",
-    "multiply": "prod",
-    "maximum": "max",
-    "minimum": "min",
-    "logical_and": "all",
+    "add": "sum", "multiply": "prod", "maximum": "max", "minimum": "min", "logical_and": "all",
     "logical_or": "any",
 }
+ACCUMULATED = {"add": cumsum, "multiply": cumprod}
+LISTED: Dict[str, Callable[[int, int], int]] = {"maximum": builtins.max, "minimum": builtins.min}
 
 
 def told(function: Callable[..., Any], name: str, what: str, example: str, wanted: str) -> Any:
@@ -38,44 +42,66 @@ def told(function: Callable[..., Any], name: str, what: str, example: str, wante
     return function
 
 
-def of_one(name: str, method: str, *text: str) -> Callable[[Any], Any]:
+class OfTwo(Protocol):
+    """A function of each two values, with what it has itself."""
+
+    def __call__(self, x1: Any, x2: Any, out: None = None) -> Expr: ...
+
+    def outer(self, A: Any, B: Any) -> Expr: ...
+
+    def reduce(self, array: Any, axis: Any = 0, **more: Any) -> Expr: ...
+
+    def accumulate(self, array: Any, axis: int = 0) -> Expr: ...
+
+    def reduceat(self, array: Any, indices: Any, axis: int = 0) -> Expr: ...
+
+
+def of_one(name: str, method: str, *text: str) -> Callable[..., Expr]:
     """A function of each value, by a method of expressions."""
 
-    def function(x: Any) -> Any:
+    def function(x: Any, out: None = None) -> Any:
+        written_nowhere(out)
         return getattr(an_expr(x), method)()
 
-    found: Callable[[Any], Any] = told(function, name, *text)
+    found: Callable[..., Expr] = told(function, name, *text)
     return found
 
 
-def of_two(name: str, method: str, *text: str) -> Any:
+def of_two(name: str, method: str, *text: str) -> OfTwo:
     """A function of each two values, by a method of expressions. As numpy's have it has functions
-    of its own: `outer`, of each value with each, `reduce`, which combines all along an axis, and
-    `accumulate`, up to each place of it."""
+    of its own: `outer`, of each value with each, `reduce`, which combines all along an axis,
+    `accumulate`, up to each place of it, and `reduceat`, of its parts."""
 
-    def function(x1: Any, x2: Any) -> Any:
-        return getattr(an_expr(x1), method)(x2)
+    def function(x1: Any, x2: Any, out: None = None) -> Any:
+        written_nowhere(out)
+        return getattr(an_expr(as_bits(x1) if method in WRAPPING else x1), method)(x2)
 
     def outer(A: Any, B: Any) -> Any:
         left, right = an_expr(A), an_expr(B)
         return function(left.in_dims([*left.shape] + [1] * right.ndim), right)
 
     def reduce(array: Any, axis: Any = 0, **more: Any) -> Any:
-        if name not in REDUCED:
-            raise TypeError(f"the runtime has no reduction by {name}")
-        return getattr(an_expr(array), REDUCED[name])(axis=axis, **more)
+        if name in REDUCED:
+            return getattr(an_expr(array), REDUCED[name])(axis=axis, **more)
+        return by_numpy(f"{name}.reduce", an_expr(array), axis, **more)
 
     def accumulate(array: Any, axis: int = 0) -> Any:
-        if name not in ACCUMULATED:
-            raise TypeError(f"the runtime has no reduction by {name}")
-        return ACCUMULATED[name](array, axis)
+        if name in ACCUMULATED:
+            return ACCUMULATED[name](array, axis)
+        if numpy is None and name in LISTED:
+            return over_lines(lambda line: [*itertools.accumulate(line, LISTED[name])], array, axis)
+        return by_numpy(f"{name}.accumulate", an_expr(array), axis)
+
+    def reduceat(array: Any, indices: Any, axis: int = 0) -> Any:
+        return by_numpy(f"{name}.reduceat", an_expr(array), indices, axis)
 
     def refused(*_: Any, **more: Any) -> NoReturn:
-        raise TypeError("a tensor isn't written: where, bincount and products combine at offsets")
+        raise TypeError("a tensor isn't written: x.at[i].add(v) is one with other values")
 
-    found = told(function, name, *text)
-    found.outer, found.reduce, found.accumulate = outer, reduce, accumulate
-    found.at = found.reduceat = refused
+    made = told(function, name, *text)
+    made.outer, made.reduce, made.accumulate = outer, reduce, accumulate
+    made.reduceat, made.at = reduceat, refused
+    found: OfTwo = made
     return found
 
 
@@ -91,17 +117,13 @@ add = of_two("add", "add", "The sums: x + y.", "[1, 2], 3", "[4, 5]")
 subtract = of_two("subtract", "sub", "The differences: x - y.", "[1, 2], 3", "[-2, -1]")
 multiply = of_two("multiply", "mul", "The products: x * y.", "[1, 2], 3", "[3, 6]")
 maximum = of_two(
-    "maximum",
-    "cwise_max",
-    "The greater of each two values; the method x.maximum() is the greatest of all.",
-    "[1, 5], 3",
+    "maximum", "cwise_max",
+    "The greater of each two values; the method x.maximum() is the greatest of all.", "[1, 5], 3",
     "[3, 5]",
 )
 minimum = of_two(
-    "minimum",
-    "cwise_min",
-    "The lesser of each two values; the method x.minimum() is the least of all.",
-    "[1, 5], [3, 4]",
+    "minimum", "cwise_min",
+    "The lesser of each two values; the method x.minimum() is the least of all.", "[1, 5], [3, 4]",
     "[1, 4]",
 )
 less = of_two("less", "lt", "1 where x < y, else 0.", "[1, 2], 2", "[1, 0]")
@@ -137,7 +159,7 @@ floor_divide = of_two(
 remainder = of_two(
     "remainder", "remainder", "What those leave, of the sign of y: x % y.", "[7, -7], 2", "[1, 1]"
 )
-power = of_two("power", "__pow__", "Powers by a whole number from 0 up.", "[2, 3], 5", "[32, 243]")
+power = of_two("power", "__pow__", "The powers: x**y.", "[2, 3], 5", "[32, 243]")
 
 # By numpy's other names.
 abs, pow, bitwise_not, bitwise_invert = absolute, power, invert, invert
@@ -145,7 +167,7 @@ fmax, fmin, mod = maximum, minimum, remainder
 bitwise_left_shift, bitwise_right_shift = left_shift, right_shift
 
 
-def divmod(x1: Any, x2: Any) -> Any:
+def divmod(x1: Any, x2: Any) -> Tuple[Expr, Expr]:
     """The quotients, rounded down, and what they leave.
 
     >>> [run(it).values for it in divmod([7, -7], 2)]
@@ -154,7 +176,7 @@ def divmod(x1: Any, x2: Any) -> Any:
     return floor_divide(x1, x2), remainder(x1, x2)
 
 
-def logical_xor(x1: Any, x2: Any) -> Any:
+def logical_xor(x1: Any, x2: Any) -> Expr:
     """1 where one of two values is 0 and the other isn't, else 0.
 
     >>> run(logical_xor([0, 5], 7)).values
@@ -163,7 +185,7 @@ def logical_xor(x1: Any, x2: Any) -> Any:
     return as_dtype(x1, bool).ne(as_dtype(x2, bool))
 
 
-def positive(x: Any) -> Any:
+def positive(x: Any) -> Expr:
     """The values as they are.
 
     >>> run(positive([1, -2])).values
@@ -176,7 +198,7 @@ def positive(x: Any) -> Any:
 conj = conjugate = real = positive
 
 
-def round(x: Any, decimals: int = 0) -> Any:
+def round(x: Any, decimals: int = 0) -> Expr:
     """The values as they are: whole numbers are round, to 0 places and to more.
 
     >>> run(round([14, 16])).values
@@ -190,7 +212,7 @@ def round(x: Any, decimals: int = 0) -> Any:
 around = round
 
 
-def sign(x: Any) -> Any:
+def sign(x: Any) -> Expr:
     """-1, 0 or 1, as a value is below 0, 0, or above.
 
     >>> run(sign([-5, 0, 7])).values
@@ -199,7 +221,7 @@ def sign(x: Any) -> Any:
     return an_expr(x).clip(-1, 1)
 
 
-def signbit(x: Any) -> Any:
+def signbit(x: Any) -> Expr:
     """1 where a value is below 0, else 0.
 
     >>> run(signbit([-5, 0])).values
@@ -208,7 +230,7 @@ def signbit(x: Any) -> Any:
     return an_expr(x).lt(0)
 
 
-def clip(x: Any, a_min: Any = None, a_max: Any = None, min: Any = None, max: Any = None) -> Any:
+def clip(x: Any, a_min: Any = None, a_max: Any = None, min: Any = None, max: Any = None) -> Expr:
     """The values, none of them below the one and above the other.
 
     >>> run(clip([1, 5, 9], 2, 8)).values
@@ -219,9 +241,12 @@ def clip(x: Any, a_min: Any = None, a_max: Any = None, min: Any = None, max: Any
 
 
 def astype(x: Any, dtype: Any) -> Any:
-    """The values as a dtype: as int64 what they are, as bool 1 where they aren't 0.
+    """The values as a dtype: as int64 what they are, as bool 1 where they aren't 0. As another one
+    they are an array of numpy, and the expression is run.
 
     >>> run(astype([0, 5], bool)).values
     [0, 1]
     """
+    if numpy is not None and dtype is not None and numpy.dtype(dtype) not in (INT64, bool):
+        return an_expr(x)._answered().array().astype(dtype)
     return as_dtype(x, dtype)

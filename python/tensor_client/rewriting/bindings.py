@@ -20,8 +20,9 @@ ONCE = frozenset("broadcast pad concat".split())
 # An expression of fewer nodes has nothing to bind: a sum, twice, below an operation, has five. One of
 # so many nodes is short.
 FEWEST, SHORT = 5, 500
-# So many parts are bound at most, since each let stands in the one before, and JSON nests 127 deep.
-MOST_BOUND = 100
+# So many parts are bound at most, since each let stands in the one before, and a text nests 127 deep.
+# Where an expression nests deeper a part is bound of each so many operations in one another.
+MOST_BOUND, DEEP = 100, 60
 
 
 class Bindings(NamedTuple):
@@ -56,6 +57,29 @@ def bindings_of(expr: Expr, is_apart: bool = False) -> Bindings:
     heavy = heavy_of(parts, counts)
     found = measured(parts, standing_again(parts, set() if is_apart else heavy, False))
     return found if found.nodes <= SHORT else measured(parts, standing_again(parts, heavy, True))
+
+
+def bound_by_depth(expr: Expr, is_alone: bool = False) -> Bindings:
+    """Parts of an expression so that no more operations than 60 stand in one another; and unless
+    these are wanted alone, what stands several times.
+
+    >>> x = tensor(1)
+    >>> for _ in range(100):
+    ...     x = -x
+    >>> bound_by_depth(x).bound
+    [<neg, dims (), 60 nodes>]
+    """
+    parts = in_order(expr)
+    depths: Dict[int, int] = {}
+    again = set() if is_alone else {id(it) for it in bindings_of(expr).bound}
+    found: List[Expr] = []
+    for it in reversed(parts):
+        depth = 1 + max([depths[id(operand)] for operand in it.operands], default=0)
+        if it is not expr and (depth == DEEP or id(it) in again):
+            found.append(it)
+            depth = 1
+        depths[id(it)] = depth
+    return measured(parts, found)
 
 
 def none_of(expr: Expr) -> Bindings:

@@ -29,7 +29,7 @@ def lie_mirrored(expr: Expr) -> bool:
     found = False
     for it in in_order(expr):
         if isinstance(it, Tensor):
-            if it.turned:
+            if it.is_mirrored:
                 found = True
             elif len(it.dims or ()) > 1 and it.is_large:
                 return False
@@ -73,7 +73,7 @@ def reversed_axes(expr: Expr) -> Expr:
 
 def as_it_lies(it: Tensor) -> Expr:
     """An input with its axes in reverse order."""
-    if it.turned:
+    if it.is_mirrored:
         return Tensor(it.own, (it.dims or ())[::-1], it.truth, it.shared)
     return reversed_axes(it)
 

@@ -1,0 +1,135 @@
+"""numpy's own functions and methods, over what has run: what this package has no function for, and
+what puts values in order. They take tensors and expressions as arrays of their values."""
+
+from __future__ import annotations
+
+import difflib
+import functools
+import operator
+from typing import Any, Callable, Iterable, List
+
+from ..expressions import Expr
+from ..memory import INT64
+from ..tensors import Tensor, an_expr, tensor
+from ..values import numpy
+from .common import flat, moved
+
+Lines = Callable[[List[int]], List[int]]
+WRITTEN = "a tensor isn't written: x.at[i].set(v) and where(condition, v, x) have other values"
+# What numpy's arrays and functions write into arrays that are there.
+WRITING = frozenset(
+    "at fill put place putmask put_along_axis copyto fill_diagonal itemset setflags setfield".split()
+)
+# What methods do in place, and functions of these names don't.
+IN_PLACE = frozenset("sort partition resize".split())
+# What a tensor has, and an expression that hasn't run.
+TENSOR_HAS = "array", "nested", "values"
+
+
+def as_arrays(value: Any) -> Any:
+    """The same with arrays in the place of tensors and expressions, which are run."""
+    if isinstance(value, Expr):
+        return value._answered().array()
+    if isinstance(value, dict):
+        return {name: as_arrays(it) for name, it in value.items()}
+    if type(value) in (list, tuple):
+        return type(value)(map(as_arrays, value))
+    return value
+
+
+def as_tensors(found: Any) -> Any:
+    """The same with tensors in the place of arrays of int64 and of truth values."""
+    if type(found) in (list, tuple):
+        return type(found)(map(as_tensors, found))
+    is_array = type(found) is numpy.ndarray or isinstance(found, numpy.generic)
+    return tensor(found) if is_array and found.dtype in (INT64, bool) else found
+
+
+class Delegated:
+    """A function or a method of numpy's over arrays, with the functions that it has itself, as the
+    `reduce` of gcd. It gives tensors where numpy gives arrays of int64 or of truth values."""
+
+    def __init__(self, function: Any) -> None:
+        functools.update_wrapper(self, function)
+        self.function = function
+
+    def __call__(self, *inputs: Any, **more: Any) -> Any:
+        return as_tensors(self.function(*as_arrays(inputs), **as_arrays(more)))
+
+    def __getattr__(self, name: str) -> Any:
+        if name == "at":
+            raise AttributeError(no_name(self.function.__name__, name, []))
+        return Delegated(getattr(self.function, name))
+
+
+def by_numpy(name: str, *inputs: Any, **more: Any) -> Any:
+    """What numpy's function of this name gives."""
+    if numpy is None:
+        raise TypeError(f"numpy isn't installed, whose function {name} is")
+    return Delegated(operator.attrgetter(name)(numpy))(*inputs, **more)
+
+
+def tensor_by_numpy(name: str, *inputs: Any, **more: Any) -> Tensor:
+    """The tensor that numpy's function of this name gives."""
+    found: Tensor = by_numpy(name, *inputs, **more)
+    return found
+
+
+def function_of(module: Any, name: str, owner: str, names: Any) -> Any:
+    """What a module of numpy's has by a name that this package's hasn't."""
+    found = None if name.startswith("_") or name in WRITING else getattr(module, name, None)
+    if found is None:
+        raise AttributeError(no_name(owner, name, names))
+    is_function = callable(found) and not isinstance(found, type)
+    return Delegated(found) if is_function else found
+
+
+def method_of(expr: Expr, name: str) -> Any:
+    """What numpy's arrays have by a name that expressions haven't. A method runs the expression when
+    it is called."""
+    if name in TENSOR_HAS and not isinstance(expr, Tensor):
+        return getattr(expr._answered(), name)
+    of_arrays = None if numpy is None else getattr(numpy.ndarray, name, None)
+    if of_arrays is None or name in WRITING | IN_PLACE:
+        raise AttributeError(no_name(type(expr).__name__, name, dir(type(expr))))
+    if callable(of_arrays):
+        return functools.partial(Delegated(of_arrays), expr)
+    return getattr(as_arrays(expr), name)
+
+
+def no_name(owner: str, name: str, names: Iterable[str]) -> str:
+    """What is said where a name is asked for that isn't here.
+
+    >>> print(no_name("Tensor", "sort", []))
+    Tensor has no 'sort': sort(x) is a function, and x stays what it is
+    """
+    said = f"{owner} has no {name!r}"
+    if name.startswith("_"):
+        return said
+    if name in WRITING:
+        return f"{said}: {WRITTEN}"
+    if name in IN_PLACE:
+        return f"{said}: {name}(x) is a function, and x stays what it is"
+    like = difflib.get_close_matches(name, [it for it in names if not it.startswith("_")], 1)
+    if like:
+        return f"{said}, but {like[0]!r}"
+    return said + (": numpy has more, and isn't installed" if numpy is None else ", nor has numpy")
+
+
+def over_lines(function: Lines, a: Any, axis: Any) -> Tensor:
+    """What a function of lists gives of each line along an axis: without numpy.
+
+    >>> over_lines(sorted, [[3, 1], [1, 2]], 0).nested()
+    [[1, 1], [3, 2]]
+    """
+    expr, along = flat(a, axis)
+    first = moved(expr, along, 0)._answered()
+    values, length = first.values, first.shape[0]
+    starts = range(0, len(values), max(length, 1))
+    found = [it for at in starts for it in function(values[at : at + length])]
+    return moved(Tensor(found, first.shape), 0, along)._answered()
+
+
+def values_of(x: Any) -> List[int]:
+    """The values of what is run for them, in numpy's order."""
+    return an_expr(x).ravel()._answered().values
