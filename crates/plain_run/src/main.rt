@@ -1,5 +1,5 @@
 //! Answers one request of standard input by the plain evaluation of its expression, on one thread:
-//! a line of its tensor with status 0, or of its fault with status 1. So tests/refusals refuses the
+//! a line of its tensor with status 0, or of its fault with status 1. So tests/test_refusals.py refuses the
 //! memory of what is below plans and pools.
 #![tactic(auto)]
 
