@@ -113,17 +113,17 @@ int64_t tensor_evaluate_arrays(const uint8_t *header, size_t header_length,
    tensor_evaluate_arrays, tensor_evaluate_part and tensor_run. It computes none of them, and does not
    read the values of the arrays. Faults are returned as by tensor_evaluate_arrays.
 
-   Counted are:
+   These values are counted:
    - all values of each reduction, contraction, convolution, cumsum, cumprod, argmax, argmin and take
      below the outermost operation;
-   - all values of each operand of one of these, including the outermost one, unless the operand is a
+   - all values of each operand of such an operation, also of an outermost one, unless the operand is a
      list already: an input, one of these operations, or a reshape of such a list. An operand of a
      contraction may also be any movement of a list. The operand of an outermost reduction along the
      first axes of an operation on values is counted, though a part computes only its own share;
    - all values of each tensor that a `let` names, and what lies below its outermost operation.
 
-   Not counted are up to 32,768 values that a movement repeats, what a contraction packs, and what a
-   part of an outermost cumsum or cumprod reads before its own places.
+   These values are not counted: up to 32,768 values that a movement repeats, what a contraction packs,
+   and what a part of an outermost cumsum or cumprod reads before its own places.
 
    Parts pay if this count is small beside the number of values of a part, or beside the number of
    products of a contraction or convolution. So they pay for operations on values and movements of
@@ -147,9 +147,10 @@ int64_t tensor_prepare(const uint8_t *header, size_t header_length, uint64_t cou
    text. The arrays come in the order of the names. `plan_length` is what tensor_prepare returned. If
    there are more or fewer arrays than tensors, or an array has another length than its tensor, it
    returns -7. If an allocation fails, it returns -15. A plan has no other fault, because its header had
-   none. If the numbers are not a plan, it returns TENSOR_NO_PLAN or -7. It writes nothing in these cases
-   but for -15. Whatever the numbers are, it reads and writes nothing but the lists of this call. If
-   they are the plan of another header, it evaluates that header. */
+   none. If the numbers are not a plan, it returns TENSOR_NO_PLAN, -7 or -15. In all these cases it writes
+   nothing, with one exception: after -15 for a plan `out` may hold anything. Whatever the numbers are,
+   it reads and writes nothing but the lists of this call. If they are the plan of another header, it
+   evaluates that header. */
 int64_t tensor_run(const uint64_t *plan, size_t plan_length,
                    const struct tensor_array *arrays, size_t count,
                    uint64_t first, int64_t *out, size_t out_length);

@@ -2,10 +2,14 @@
 
 import os
 import shutil
+import signal
 
 import pytest
 
 from hostile import COMPILERS, PROGRAMS, Refusals
+
+# How many seconds a test may take, and how much of a comparison is shown.
+MOST_SECONDS, MOST_SHOWN = 600, 2_000
 
 
 def pytest_addoption(parser):
@@ -13,6 +17,29 @@ def pytest_addoption(parser):
     group.addoption("--all", action="store_true", help="fail where a test is skipped")
     group.addoption("--count", type=int, help="how many cases to draw of each kind")
     group.addoption("--seed", type=int, default=1, help="the seed of drawn cases")
+    group.addoption("--places", action="store_true", help="test_fuzz.py asks bench/places too")
+
+
+def pytest_assertrepr_compare(op, left, right):
+    """Shows long sides of a comparison where they begin to differ: to compare them further takes minutes."""
+    sides = repr(left), repr(right)
+    if max(map(len, sides)) <= MOST_SHOWN:
+        return None
+    at = len(os.path.commonprefix(sides))
+    return [f"not {op} from character {at:,}", *(it[max(0, at - 80) : at + 200] for it in sides)]
+
+
+@pytest.fixture(autouse=True)
+def in_time():
+    """A test that never ends fails."""
+
+    def end(_signal, _frame):
+        pytest.fail(f"no end in {MOST_SECONDS} s")
+
+    signal.signal(signal.SIGALRM, end)
+    signal.alarm(MOST_SECONDS)
+    yield
+    signal.alarm(0)
 
 
 @pytest.hookimpl(trylast=True)
@@ -40,14 +67,13 @@ def programs():
 @pytest.fixture(scope="session")
 def compiler():
     """A C compiler."""
-    found = next(filter(shutil.which, COMPILERS), None)
-    return found or pytest.skip("no C compiler (Debian's gcc)")
+    return next(filter(shutil.which, COMPILERS), None) or pytest.skip("no C compiler (Debian's gcc)")
 
 
 @pytest.fixture(scope="session")
-def refusals(compiler):
-    """The library of tests/refusals.c, which counts and refuses memory and threads."""
-    return Refusals(compiler)
+def refusals(compiler, tmp_path_factory):
+    """The library of support/refusals.c, which counts and refuses memory and threads."""
+    return Refusals(compiler, tmp_path_factory.mktemp("refusals"))
 
 
 @pytest.fixture(scope="session")

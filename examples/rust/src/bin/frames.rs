@@ -1,4 +1,4 @@
-//! Answers each frame of a file, a line each, as tests/library asks for it. A frame is two numbers
+//! Answers each frame of a file, a line each, as tests/test_library.py asks for it. A frame is two numbers
 //! of 64 bits, h and v, then h bytes of header, then v values.
 
 use std::{env, fs};

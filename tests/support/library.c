@@ -1,4 +1,4 @@
-/* Calls the library on frames for tests/library, which builds it of this file and libtensor.a:
+/* Calls the library on frames for tests/test_library.py, which builds it of this file and libtensor.a:
      library FILE                 prints the answer of each frame of the file, a line each
      library FILE THREADS PASSES  answers each of them by a part a thread, on so many threads; and
                                   each whole and by a part on each thread, in so many passes, and

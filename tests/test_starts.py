@@ -1,20 +1,21 @@
-#!/usr/bin/env python3
-"""tests/starts: counts the threads that the program starts for a request.
+"""Counts the threads that the program starts for a request.
 
-That a plan uses its workers and its block no clause says, and no answer shows: one leaf a step, or
-one worker, would give the same line. A step starts as many workers as are worth their start, of
-those that the request has, but no more than it has leaves; and none where that is one. How many
-these are is reckoned here once more, from what each step costs; so it also tells which steps are run:
-where an operand is worked out as it is read, no pool is opened for it. The starts are counted by
-tests/refusals.c, which refuses none of them here. It prints what it ran, and fails where another
-number of threads was started, or another line printed.
+That a plan uses its workers and its block no clause says, and no line shows: one leaf a step, or one
+worker, would print the same. A step starts as many of the request's workers as are worth their start,
+but no more than it has leaves, and none where that is one. How many these are is computed here once
+more, from what each step costs. So this also tells which steps are run: where an operand is computed
+as it is read, no pool is opened for it. support/refusals.c counts the starts. A new request is a row
+of REQUESTS: its inputs, its expression, its line, and its steps by workers and block.
 """
 
 import math
-import sys
 from typing import NamedTuple
 
-from hostile import by_refusals, need_program, request, status_of, words
+import pytest
+
+from hostile import line_of, request
+
+pytestmark = pytest.mark.usefixtures("programs")
 
 # In nanoseconds: a pool, a worker's start, a leaf; and of a thousand values that are written,
 # joined, negated, squared, read along a view, added up, multiplied and added up, packed, slid over.
@@ -26,23 +27,23 @@ MOST_PLACES = 1_048_576
 
 
 class Step(NamedTuple):
-    """How long the values of a step are worked out, how many they are, about how many leaves are
-    reckoned with, and how many there are."""
+    """How long a step takes to compute its values, how many they are, about how many leaves the program
+    estimates, and how many there are."""
 
     cost: int
     values: int
-    reckoned: int
+    estimated: int
     leaves: int
 
     def best(self, workers):
-        """The number of workers, of so many, that take the least time; the least such number."""
+        """The least number of these workers that take the least time."""
         work = self.cost + self.values * WRITTEN // 1_000
-        shared, alone = work + self.reckoned * LEAF, self.values * JOINED // 1_000 + POOL
+        shared, alone = work + self.estimated * LEAF, self.values * JOINED // 1_000 + POOL
         times = [work] + [shared // n + alone + START * n for n in range(2, workers + 1)]
         return times.index(min(times)) + 1
 
     def started(self, workers):
-        """How many workers are started of so many."""
+        """How many of these workers are started."""
         count = min(self.best(workers), self.leaves)
         return count if count > 1 else 0
 
@@ -53,12 +54,12 @@ def cut(places, block):
 
 
 def ranges(places, each, block):
-    """A step of so many values, of which a thousand take so long."""
+    """A step that computes each place by itself; a thousand of them take `each` ns."""
     return Step(places * each // 1_000, places, places // block, cut(places, block))
 
 
 def shards(values, places, costs, block):
-    """A step of few values, combined of so many places, by what a thousand of each part take."""
+    """A step that combines places to few values; each part of a thousand places costs an item of `costs`."""
     inner = places // values
     count = cut(inner, max(block, cut(inner, MOST_SHARDS)))
     leaves = 1 if places <= block else values * count
@@ -67,20 +68,20 @@ def shards(values, places, costs, block):
 
 
 def runs(values, places, costs, block, leaves):
-    """A step of many values, combined of so many places, in so many leaves."""
+    """A step that combines places to many values, in `leaves` leaves."""
     cost = sum(places * each // 1_000 for each in costs)
     return Step(cost, values, values // block, leaves)
 
 
 def columns(sizes, places, leaves):
-    """A contraction of so many rows, columns and products, of operands of so many places."""
+    """A contraction of `sizes` rows, columns and products; its operands have `places` places."""
     rows, across, width = sizes
     cost = (rows * across * width * MULTIPLIED + places * PACKED) // 1_000
     return Step(cost, rows * across, 0, leaves)
 
 
 def over(places, operation, times=1):
-    """An operation over an operation, so many times, over so many places."""
+    """An operation over itself, `times` times, over `places` places."""
     return f'["{operation}",' * times + f'["broadcast","a",[{places}]]' + "]" * times
 
 
@@ -90,8 +91,7 @@ def summed(expr):
 
 def tensor(value, *dims):
     """The line of a tensor of equal values."""
-    data, sizes = ",".join([str(value)] * math.prod(dims)), ",".join(map(str, dims))
-    return f'{{"data":[{data}],"dims":[{sizes}]}}\n'
+    return line_of([value] * math.prod(dims), dims)
 
 
 ONE = '"a":{"dims":[1],"data":[1]}'
@@ -111,8 +111,8 @@ DEAREST = WIDTH * (TIMES * SQUARE + WALK) + (WIDTH - 1) * SQUARE
 
 
 def crossing(count, each, block):
-    """The fewest places, of which a thousand take so long and are added up, that are worth so many
-    of 64 workers."""
+    """The fewest places to add up, of which a thousand take `each` ns, that are worth `count` of 64
+    workers."""
     below = 0
     for bit in reversed(range(MOST_PLACES.bit_length())):
         more = below + 2**bit
@@ -138,7 +138,7 @@ def crossings():
 
 MANY = 1_000_000
 DEAR, DEAR_EACH = 8, 8 * SQUARE + WALK
-WORKED_OUT = over(MANY, "square", DEAR)
+COMPUTED = over(MANY, "square", DEAR)
 
 
 def each_block(made, *settings):
@@ -157,7 +157,7 @@ def dear_product(block):
     return [shards(1, MANY, (), block)._replace(cost=cost)]
 
 
-# The same places, cheap and dear, and a plan whose steps cost so.
+# Places of two sums, of which one is cheap and one is dear.
 SAME = 262_144
 
 
@@ -165,9 +165,9 @@ def same(each, block):
     return shards(1, SAME, (each + WALK, ADDED_UP), block)
 
 
-# A square of 1,000,000 values, each of 40 products: they are added up as each leaf has them, where
-# all are or those of a column. What a convolution gives is worked out by all workers before it is
-# added up, and so is a square whose rows are added up or of which something else is made first.
+# A square of 1,000,000 values, each of 40 products. Each leaf adds up its own values where all are added
+# up, or each column. All workers compute the values before they are added up where the rows are added
+# up or something else is made first; and so the values of a convolution.
 SIDE, DEEP = 1_000, 40
 PLACES = SIDE * SIDE
 ONES = ",".join(["1"] * SIDE)
@@ -183,7 +183,7 @@ def square(leaves):
 # By workers and block: one leaf, five of 224 columns, and 32 of 32.
 SQUARES = {(64, PLACES): square(1), (64, PLACES // 4): square(5), (2, 4_096): square(32)}
 
-# 64 by 64 values, each of 8,192 products, of operands of so many operations.
+# 64 by 64 values, each of 8,192 products; an operation of the operands is repeated.
 LONG = 8_192
 PAIR = (
     f'"a":{{"dims":[64,2],"data":[{",".join(["1"] * 128)}]}},'
@@ -241,15 +241,15 @@ REQUESTS = {
         tensor(-1, RUN),
         each_block(lambda block: [ranges(RUN, NEG + WALK, block)], (64, 1), (4, 1)),
     ),
-    "a sum of worked-out values": (
+    "a sum of computed values": (
         ONE,
-        summed(WORKED_OUT),
+        summed(COMPUTED),
         tensor(MANY),
         each_block(dear_sum, (64, MANY), (64, MANY // 2), (64, 65_536), (2, 4_096), (1, 4_096)),
     ),
-    "an inner product of worked-out values": (
+    "an inner product of computed values": (
         ONE,
-        f'["contract",{WORKED_OUT},{WORKED_OUT},[[0,0]]]',
+        f'["contract",{COMPUTED},{COMPUTED},[[0,0]]]',
         tensor(MANY),
         each_block(dear_product, (64, MANY), (64, MANY // 2), (64, 65_536), (2, 4_096)),
     ),
@@ -268,7 +268,7 @@ REQUESTS = {
     "both and more, each by its own cost": (
         ONE,
         f'["add",{summed(over(SAME, "neg"))},'
-        f'["add",{summed(over(SAME, "square", 6))},{summed(WORKED_OUT)}]]',
+        f'["add",{summed(over(SAME, "square", 6))},{summed(COMPUTED)}]]',
         tensor(MANY),
         each_block(
             lambda block: [same(NEG, block), same(6 * SQUARE, block), *dear_sum(block)],
@@ -300,7 +300,7 @@ REQUESTS = {
         tensor(PLACES * DEEP),
         {(2, 4_096): [square(32), shards(1, PLACES, (NEG, ADDED_UP), 4_096)]},
     ),
-    # What is slid over is soon worked out, by one thread.
+    # What is slid over is soon computed, by one thread.
     "a sum of a convolution": (
         ONE,
         summed(f'["convolve",["broadcast","a",[{MANY}]],"a",[0]]'),
@@ -313,7 +313,7 @@ REQUESTS = {
             ]
         },
     ),
-    "a sum of a contraction of what is soon worked out": (
+    "a sum of a contraction of what is soon computed": (
         PAIR,
         of_operands(4),
         tensor(64 * 64 * LONG),
@@ -346,7 +346,7 @@ REQUESTS = {
         tensor(1_000, 100),
         {(64, RUN): [added(100, RUN, 1)], (4, 1_000): [added(100, 1_000, 15)]},
     ),
-    # The operand is worked out before.
+    # The operand is computed before.
     "runs of one": (
         ONE,
         f'["sum",["reshape",{RUNS},[1,{RUN}]],[0]]',
@@ -367,34 +367,17 @@ REQUESTS = {
 }
 
 
-def started(refusals):
-    """How many runs started another number of threads, or printed another line."""
-    failed, together = [], 0
-    for name, (inputs, expr, line, settings) in REQUESTS.items():
-        said = []
-        for (workers, block), steps in settings.items():
-            version = 2 if workers > 64 or '"convolve"' in expr else 1
-            text = request(inputs, expr, version, workers, block)
-            got, complaint, status = refusals.run(text)
-            together += 1
-            said.append(f"{refusals.starts} by {workers} workers and blocks of {block}")
-            if (got, complaint, status) != (line, "", status_of(line)):
-                failed.append(f"{name}: {workers} workers, blocks of {block}: {got!r:.100}")
-            wanted = [it.started(workers) for it in steps]
-            if refusals.starts != sum(wanted):
-                failed.append(f"{name}: {said[-1]}, and not {wanted}")
-        print(f"tests/starts: {name}: {', '.join(said)}", flush=True)
-    for it in failed:
-        print(f"tests/starts: {it}")
-    print(f"tests/starts: {together} runs, {len(failed)} failed")
-    return len(failed)
+RUNS_OF_REQUESTS = {
+    f"{name}, {workers} workers and blocks of {block}": (*asked, workers, block, steps)
+    for name, (*asked, settings) in REQUESTS.items()
+    for (workers, block), steps in settings.items()
+}
 
 
-def main():
-    words(__doc__)
-    need_program()
-    return 1 if by_refusals(started) else 0
-
-
-if __name__ == "__main__":
-    sys.exit(main())
+@pytest.mark.parametrize("name", RUNS_OF_REQUESTS)
+def test_starts(refusals, name):
+    inputs, expr, line, workers, block, steps = RUNS_OF_REQUESTS[name]
+    version = 2 if workers > 64 or '"convolve"' in expr else 1
+    assert refusals.run(request(inputs, expr, version, workers, block)) == (line, "", 0)
+    wanted = [it.started(workers) for it in steps]
+    assert refusals.starts == sum(wanted), wanted

@@ -1,4 +1,4 @@
-/* Refuses a program's requests for memory and its starts of threads, as tests/refusals asks, and
+/* Refuses a program's requests for memory and its starts of threads, as the tests ask, and
    interrupts its calls on the standard streams.
 
    It is loaded by LD_PRELOAD and answers in place of the C library. What it counts begins with the

@@ -119,11 +119,3 @@ def answered(line):
         return line.rstrip("\n").encode(), []
     answer = json.loads(line)
     return json.dumps({"dims": answer["dims"]}, separators=(",", ":")).encode(), answer["data"]
-
-
-def reader_goes(client, asked):
-    """The reader goes away behind the first answer; the second can't be written."""
-    first = client.ask(asked)
-    client.child.stdout.close()
-    client.child.stdin.write(asked)
-    return (first, *client.end())
