@@ -16,7 +16,7 @@ TOP = os.path.normpath(os.path.join(os.path.dirname(os.path.realpath(__file__)),
 sys.path.insert(0, os.path.join(TOP, "tests"))
 sys.dont_write_bytecode = True
 # The reference goes down an expression by calls of itself.
-sys.setrecursionlimit(20_000)
+sys.setrecursionlimit(max(20_000, sys.getrecursionlimit()))
 
 from fuzzing import reference, sharing
 from fuzzing.operations import size

@@ -1,6 +1,7 @@
 """What pytest does for all tests: options, what is skipped, and the programs that are tried."""
 
 import os
+import re
 import shutil
 import signal
 
@@ -9,7 +10,10 @@ import pytest
 from hostile import COMPILERS, PROGRAMS, Refusals
 
 # How many seconds a test may take, and how much of a comparison is shown.
-MOST_SECONDS, MOST_SHOWN = 600, 2_000
+MOST_SECONDS, MOST_SHOWN = 1_800, 2_000
+
+# Tests that take long, by their names.
+LONG = re.compile(r"valgrind|test_c$|memory|few_threads|test_sizes|test_packages|test_loop|test_parts|types")
 
 
 def pytest_addoption(parser):
@@ -27,6 +31,11 @@ def pytest_assertrepr_compare(op, left, right):
         return None
     at = len(os.path.commonprefix(sides))
     return [f"not {op} from character {at:,}", *(it[max(0, at - 80) : at + 200] for it in sides)]
+
+
+def pytest_collection_modifyitems(items):
+    """Long tests begin first, so that no lane has one left at the end."""
+    items.sort(key=lambda it: not LONG.search(it.nodeid))
 
 
 @pytest.fixture(autouse=True)

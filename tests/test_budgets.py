@@ -41,7 +41,7 @@ OTHER_COMMENT = re.compile(r" *//(?!/)")
 # than `///`.
 with open(os.path.join(SUPPORT, "exceptions.json"), encoding="ascii") as known:
     EXCEPTIONS = json.load(known)
-LEFT_OUT = {"out", ".git", "__pycache__", ".mypy_cache", ".hypothesis", "target"}
+LEFT_OUT = {"out", "release", ".git", "__pycache__", ".mypy_cache", ".hypothesis", "target"}
 # By the end of a name, how the first line of a file begins that says what it is.
 HEADS = {
     ".rt": "//",

@@ -107,6 +107,7 @@ TOOLS = {
         has_modules("dask", "distributed", "numpy"),
     ),
     "numpy (Debian's python3-numpy)": (r"\bnumpy\b|\.array\(", has_modules("numpy")),
+    "command rt of the kit": (r"\btools/meaning\b", shutil.which("rt")),
 }
 
 
@@ -260,6 +261,7 @@ def test_a_page_quotes_each_caller():
     assert callers == {named for page in CALLING for _, named, _ in quotes(page)}
 
 
+@pytest.mark.usefixtures("kit")
 @pytest.mark.parametrize("tool, page", PRINTED.items(), ids=PRINTED)
 def test_printed(tool, page):
     """A page has what its tool prints; with --write the tool writes it there."""

@@ -311,7 +311,7 @@ def test_a_constant_is_tried_by_a_check_of_the_whole_crate(repository):
 
 def test_the_gate_tries_all_named_edits_and_draws_the_same_others_again(repository):
     script = repository.room / "tools" / "edits"
-    budget = "BUDGET = 600"
+    budget = "BUDGET = 300"
     assert budget in script.read_text()
     script.write_text(script.read_text().replace(budget, "BUDGET = 3"))
     for number, text in enumerate(NAMES):

@@ -235,8 +235,9 @@ def test_c_example(compiled):
 
 
 @pytest.mark.timed
-def test_c_on_threads(caller, path):
-    """The answers on several threads at once, after which there is no more memory."""
+def test_c_on_threads(caller, room, frames):
+    """The answers to each third frame on several threads at once, after which there is no more memory."""
+    path = written_to(room / "third", frames[::3])
     more = re.search(r"(-?\d+) KiB more", output(caller, path, THREADS, PASSES))
     assert int(more[1]) <= MOST_KIB_MORE
 

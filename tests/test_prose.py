@@ -13,6 +13,7 @@ TOP = os.path.dirname(os.path.dirname(os.path.abspath(__file__)))
 # Pages in which all rules hold. The phrases hold in these alone until the others are rewritten.
 PATTERNS = [
     "README.md",
+    "docs/BELIEVED.md",
     "docs/REQUEST.md",
     "docs/FRAMES.md",
     "docs/MANY.md",

@@ -113,9 +113,10 @@ class Service:
         if by_tcp:
             self.address = "127.0.0.1", free_port()
             listen = f"TCP-LISTEN:{self.address[1]},bind=127.0.0.1,reuseaddr,nodelay"
+        command = " ".join(["./program", *options])
         with open(self.log, "wb") as log:
             self.child = subprocess.Popen(
-                ["socat", f"{listen},fork,accept-timeout={IDLE}", f"EXEC:{' '.join(['./program', *options])},nofork"],
+                ["socat", f"{listen},fork,accept-timeout={IDLE}", f"EXEC:{command},nofork"],
                 cwd=room,
                 stdin=subprocess.DEVNULL,
                 stderr=log,

@@ -198,11 +198,11 @@ class Starts(NamedTuple):
         return self.lines * (self.worth - self.threads + 1)
 
 
-# A line of few places costs least for each start that is refused; 256,000 are refused in all.
+# A line of few places costs least for each start that is refused; 52,000 are refused in all.
 STARTS = [
-    Starts(threads=3, runs=90, lines=50, worth=8, places=365_000),
-    Starts(threads=1, runs=10, lines=50, worth=8, places=365_000),
-    *[Starts(threads=1, runs=50, lines=500, worth=3, places=52_700)] * 3,
+    Starts(threads=3, runs=20, lines=50, worth=8, places=365_000),
+    Starts(threads=1, runs=4, lines=50, worth=8, places=365_000),
+    Starts(threads=1, runs=30, lines=500, worth=3, places=52_700),
 ]
 
 

@@ -74,10 +74,8 @@ class Library:
     def run(self, expr: Expr, settings: Settings, out: Any = None) -> Tensor:
         """The tensor of an expression's values, or its fault."""
         few = LARGE if out is not None or expr.dims is None else product(expr.dims)
-        is_long = expr.depth > DEEPEST or expr.nodes > FIRST_NODES
-        # One request may not have what is long, which is to be known before parts of it are run.
-        asked = framed(expr, settings) if few < LARGE or is_long else None
-        if few < LARGE and asked is not None and asked.size < LARGE:
+        asked = framed(expr, settings) if few < LARGE else None
+        if asked is not None and asked.size < LARGE:
             found = self.answered_at_once(asked, few)
             if found is not None:
                 found.truth = expr.truth
@@ -87,11 +85,14 @@ class Library:
             return self.reduced(expr, memory, settings)
         result = Result(expr, out, most=most_nodes(settings.version))
         wanted = result.asked(expr)
-        if settings.workers > 1:
-            wanted = self.with_parts(wanted, settings)
-        if asked is None or wanted is not expr:
-            asked = framed(wanted, settings)
-        return self.written(asked, wanted, settings, result)
+        is_framed = asked is not None and wanted is expr
+        if not is_framed and (expr.depth > DEEPEST or expr.nodes > FIRST_NODES):
+            # One request may not have what is long, which is to be known before parts of it are run.
+            asked, is_framed = framed(wanted, settings), True
+        with_parts = self.with_parts(wanted, settings) if settings.workers > 1 else wanted
+        if asked is None or not is_framed or with_parts is not wanted:
+            asked = framed(with_parts, settings)
+        return self.written(asked, with_parts, settings, result)
 
     def written(self, asked: Framed, expr: Expr, settings: Settings, result: Result) -> Tensor:
         """The tensor of an expression that is asked for by this frame, where it is wanted."""

@@ -16,7 +16,7 @@ from copies import ANSWERED, BUILT, CPU, OTHER, REFUSED, Copy, appended, kit_in,
 SOURCE = "crates/tensor_shape/src/lib.rt"
 # Only the program of ./explain stands on it.
 EXPLAINED = "crates/fault_reasons/src/lib.rt"
-BEGINS = re.compile(r"run: proving and building (\d+) of (\d+) .*: about \d+ min on .*; \./try answers")
+BEGINS = re.compile(r"run: proving and building (\d+) of (\d+) .*: \d+ to \d+ min on .*; \./try answers")
 
 
 @pytest.fixture(scope="module")
@@ -122,7 +122,8 @@ def with_all(room):
     copy.env["TENSOR_RUN_KEPT"] = "no"
     script(copy.at(".ci/tests"), "#!/bin/sh\necho tested\n")
     script(copy.at(".ci/packages"), "#!/bin/sh\n")
-    script(copy.at("build/library"), "#!/bin/sh\n")
+    for it in "build/library", "tools/edits", "tools/release":
+        script(copy.at(it), "#!/bin/sh\n")
     (_, said, status), asked = copy.build("./install", os.path.join(room, "prefix_of_all"))
     assert status == ANSWERED and set(copy.programs.values()) < crates_of(asked), said
     assert len(BEGINS.findall(said)) == 1

@@ -52,6 +52,9 @@ class Root:
 
     def __init__(self, folder):
         self.folder, self.way = str(folder), None
+        os.makedirs(self.at("dev"))
+        with open(self.at("dev/null"), "w", encoding="ascii"):
+            pass  # What a command writes there goes to a file.
         for name in ("sh", "cat"):
             path = shutil.which(name)
             self.put(os.path.realpath(path), f"bin/{name}")
